@@ -1,0 +1,96 @@
+-- The laws at binary64, with the values implicit: what the crates above cite. Assumes nothing.
+use mathlib.Core.Path.{_≡_, refl, sym, ap, _∙_, subst}
+use mathlib.Core.Logic.{_⊎_, inl, inr}
+use Prim.Native.Nat.{ℕ, suc, _+_, _-_, _*_, _/_, _^_, _≤_, _<_, min, max}
+use native.Mathlib.Omega.{arith}
+use mathlib.Core.Bool.{Bool, true, false, not, cond}
+use lib.Dec.{T, T-not}
+use lib.Ieee.{Float, binary64, fits, lt, le, eq, add, sub, mul, div, toUnsigned}
+use Rattle.numbers.proofs.Keys as Keys
+use Rattle.numbers.proofs.Keys.{FiniteIn, NumberIn, finite-real}
+use Rattle.numbers.proofs.Bounds as Bounds
+use Rattle.numbers.proofs.Ranges as Ranges
+use Rattle.numbers.proofs.RoundDown as RoundDown
+
+-- the key of a double, that of zero, and that of one less that of zero
+abbrev pub k : Float → ℕ
+k x = Keys.key binary64 x
+
+abbrev pub o : ℕ
+o = Keys.mid binary64
+
+abbrev pub u : ℕ
+u = Keys.unit binary64
+
+abbrev pub Finite : Float → Type 0
+Finite x = FiniteIn binary64 x
+
+abbrev pub Number : Float → Type 0
+Number x = NumberIn binary64 x
+
+abbrev pub Upto : ℕ → Float → Type 0
+Upto n x = Bounds.Within binary64 n x
+
+-- a number, never minus zero, of at most n either way
+pub record Small (n : ℕ) (x : Float) : Type 0 where
+  pub num : Number x
+  pub bound : Upto n x
+
+pub finite : {x : Float} → Number x → Finite x
+finite n = Keys.fin-of n
+
+-- ---- tests
+pub lt-yes : {x y : Float} → Finite x → Finite y → T (lt x y) → k x < k y
+lt-yes {x} {y} X Y h = Keys.lt→key binary64 x y (X .fit) (Y .fit) h
+
+pub lt-no : {x y : Float} → Finite x → Finite y → T (not (lt x y)) → k y ≤ k x
+lt-no {x} {y} X Y h = Keys.nlt→key binary64 x y (X .fit) (Y .fit) (finite-real x (X .isFinite)) (finite-real y (Y .isFinite)) h
+
+pub le-yes : {x y : Float} → Finite x → Finite y → T (le x y) → k x ≤ k y
+le-yes {x} {y} X Y h = Keys.le→key binary64 x y (X .fit) (Y .fit) h
+
+pub le-no : {x y : Float} → Finite x → Finite y → T (not (le x y)) → k y < k x
+le-no {x} {y} X Y h = Keys.nle→key binary64 x y (X .fit) (Y .fit) (finite-real x (X .isFinite)) (finite-real y (Y .isFinite)) h
+
+pub same : {x y : Float} → Number x → Number y → k x ≡ k y → x ≡ y
+same {x} {y} X Y h = Keys.key-inj binary64 x y X Y h
+
+-- ---- sums
+pub add-upto : {a b : ℕ} {x y : Float} → Finite x → Finite y → Upto a x → Upto b y → a + b ≤ 2 ^ 53 → Finite (add binary64 x y) × Upto (a + b) (add binary64 x y)
+add-upto {a} {b} {x} {y} X Y v w h = Bounds.add-within binary64 a b x y X Y v w h
+
+pub sub-upto : {a b : ℕ} {x y : Float} → Finite x → Finite y → Upto a x → Upto b y → a + b ≤ 2 ^ 53 → Finite (sub binary64 x y) × Upto (a + b) (sub binary64 x y)
+sub-upto {a} {b} {x} {y} X Y v w h = Bounds.sub-within binary64 a b x y X Y v w h
+
+pub add-number : {x y : Float} → Number x → Finite y → Finite (add binary64 x y) → Number (add binary64 x y)
+add-number {x} {y} X Y h = Bounds.add-num binary64 x y X Y h
+
+pub sub-number : {x y : Float} → Number x → Finite y → Finite (sub binary64 x y) → Number (sub binary64 x y)
+sub-number {x} {y} X Y h = Bounds.sub-num binary64 x y X Y h
+
+pub add-mono : {x y x' y' : Float} → Finite x → Finite y → Finite x' → Finite y' → k x + k y ≤ k x' + k y' → k (add binary64 x y) ≤ k (add binary64 x' y')
+add-mono {x} {y} {x'} {y'} X Y X' Y' h = Bounds.add-mono binary64 x y x' y' X Y X' Y' h
+
+pub sub-mono : {x y x' y' : Float} → Finite x → Finite y → Finite x' → Finite y' → k x + k y' ≤ k x' + k y → k (sub binary64 x y) ≤ k (sub binary64 x' y')
+sub-mono {x} {y} {x'} {y'} X Y X' Y' h = Bounds.sub-mono binary64 x y x' y' X Y X' Y' h
+
+pub sub-pos : {x y : Float} → Finite x → Finite y → k y < k x → o < k (sub binary64 x y)
+sub-pos {x} {y} X Y h = Bounds.sub-pos binary64 x y X Y h
+
+pub sub-nonneg : {x y : Float} → Finite x → Finite y → k y ≤ k x → o ≤ k (sub binary64 x y)
+sub-nonneg {x} {y} X Y h = Bounds.sub-nonneg binary64 x y X Y h
+
+-- ---- quotients and shares
+pub div-mono : {x x' y : Float} → Finite x → Finite x' → Finite y → o < k y → k x ≤ k x' → k (div binary64 x y) ≤ k (div binary64 x' y)
+div-mono {x} {x'} {y} X X' Y p h = Bounds.div-mono binary64 x x' y X X' Y p h
+
+pub record Share (t : Float) : Type 0 where
+  pub num : Number t
+  pub from : o ≤ k t
+  pub upto : k t ≤ o + u
+
+pub div-share : {x y : Float} → Number x → Finite y → o < k y → o ≤ k x → k x ≤ k y → Share (div binary64 x y)
+div-share {x} {y} X Y p h l = let r = Bounds.div-share binary64 x y X Y p h l in record { num = r .0; from = r .1; upto = r .2 }
+
+pub share-upto : {n : ℕ} {t y : Float} → Share t → Finite y → Upto n y → n ≤ 2 ^ 53 → Finite (mul binary64 t y) × Upto n (mul binary64 t y)
+share-upto {n} {t} {y} S Y w h = Bounds.share-within binary64 n t y (S .num) Y (S .from) (S .upto) h w

@@ -1,0 +1,10 @@
+pub mod Keys
+pub mod Rounding
+pub mod Operations
+pub mod Bounds
+pub mod RoundDown
+pub mod Ranges
+pub mod Patterns
+pub mod Grid
+pub mod Literals
+pub mod Doubles
