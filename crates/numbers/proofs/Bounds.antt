@@ -1,21 +1,19 @@
 -- What the crates above cite: bounds, monotony, signs, and rounding down, all of keys. Assumes nothing.
-use mathlib.Core.Path.{_≡_, refl, sym, ap, _∙_, subst}
+use mathlib.Core.Path.{_≡_, sym, ap, _∙_}
 use mathlib.Core.Logic.{_⊎_, inl, inr}
-use Prim.Native.Nat.{ℕ, zero, suc, _+_, _-_, _*_, _/_, _%_, _^_, _≤_, _<_, zero-le, min}
-use native.Mathlib.Nat.{le-trans, le-of-eq, le-of-lt, le-refl, le-antisymm, lt-of-lt-of-le, lt-of-le-of-lt, not-le-of-lt, zero-mul, zero-div, one-mul, mul-one, mul-comm, mul-assoc, mul-right-comm, mul-le-mul-right, eq-of-mul-eq-mul-right, mul-pos, add-mul, add-zero, mul-div-cancel}
+use Prim.Native.Nat.{ℕ, _+_, _-_, _*_, _^_, _≤_, _<_, zero-le}
+use native.Mathlib.Nat.{le-trans, le-of-lt, lt-of-le-of-lt, one-mul, mul-one, mul-comm, mul-right-comm, mul-le-mul-right, eq-of-mul-eq-mul-right}
 use native.Mathlib.Omega.{arith}
-use mathlib.Core.Bool.{Bool, true, false, not, _&&_, cond}
-use lib.IntN.{ℤ, pos, negsuc}
-use lib.Dec.{T, ltb, leb, eqb, ltb→lt, lt→ltb, leb→le, le→leb, nltb→le, lit≤, lit<}
-use lib.Pow.{pow-add, pow-pos, pow-mono, pow-lt}
-use lib.Ieee.{Float, nan, inf, fin, Format, binary32, binary64, prec, emax, low, up, down, round, fits, lt, le, add, sub, mul, div, toUnsigned}
-use lib.Ieee.Fits.{round-fits, down-pos, add-fits, sub-fits, mul-fits, div-fits}
+use mathlib.Core.Bool.{Bool, false}
+use lib.Dec.{T, lit<}
+use lib.Pow.{pow-pos}
+use lib.Ieee.{Float, nan, inf, fin, Format, binary32, binary64, prec, up, down, round, fits, add, sub, mul, div}
+use lib.Ieee.Fits.{round-fits, down-pos, add-fits, sub-fits, mul-fits}
 use lib.Ieee.Exact.{HasValue}
 use lib.Ieee.Back.{round-whole}
-use lib.Ieee.Nearest.{div-same}
 use lib.Ieee.Scale.{finite}
-use Rattle.numbers.proofs.Keys.{mid, unit, mag, negative, shift, key, plain, FiniteIn, NumberIn, fin-of, unit-pos, mid-pos, mag-exact, mag-lt, mag-le, real, finite-real, lt→key, le→key, key→lt, key→le, key-inj, nlt→key}
-use Rattle.numbers.proofs.Rounding.{rounded, rounded-pos, rounded-mono-same, rounded-mono, rounded-key, rounded-fits, rounded-real, rounded-plain, near, near-le, near-mono, round-minus, plus-plain, key-pos, key-neg, order, finite-of-key, key-finite, near-pos, near-zero}
+use Rattle.numbers.proofs.Keys.{mid, unit, mag, shift, key, FiniteIn, NumberIn, fin-of, unit-pos, mid-pos, mag-exact, real}
+use Rattle.numbers.proofs.Rounding.{rounded, rounded-pos, rounded-mono-same, rounded-mono, rounded-plain, near, near-mono, round-minus, plus-plain, key-pos, key-neg, order, finite-of-key, near-pos}
 use Rattle.numbers.proofs.Operations.{add-is, sub-is, div-is, add-key, sub-key, div-key, add-real, sub-real, share, mul-real}
 
 -- ---- whole numbers

@@ -1,11 +1,9 @@
 -- The laws at binary64, with the values implicit: what the crates above cite. Assumes nothing.
-use mathlib.Core.Path.{_≡_, refl, sym, ap, _∙_, subst}
-use mathlib.Core.Logic.{_⊎_, inl, inr}
-use Prim.Native.Nat.{ℕ, suc, _+_, _-_, _*_, _/_, _^_, _≤_, _<_, min, max}
-use native.Mathlib.Omega.{arith}
-use mathlib.Core.Bool.{Bool, true, false, not, cond}
-use lib.Dec.{T, T-not}
-use lib.Ieee.{Float, binary64, fits, lt, le, eq, add, sub, mul, div, toUnsigned}
+use mathlib.Core.Path.{_≡_}
+use Prim.Native.Nat.{ℕ, _+_, _-_, _^_, _≤_, _<_}
+use mathlib.Core.Bool.{not}
+use lib.Dec.{T}
+use lib.Ieee.{Float, binary64, lt, le, add, sub, mul, div}
 use Rattle.numbers.proofs.Keys as Keys
 use Rattle.numbers.proofs.Keys.{FiniteIn, NumberIn, finite-real}
 use Rattle.numbers.proofs.Bounds as Bounds

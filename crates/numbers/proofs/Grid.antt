@@ -1,15 +1,14 @@
 -- Values that are whole multiples of 2 ^ j units: their sums, differences and whole multiples are exact, and a quotient of two whole numbers rounds down as the whole numbers do.
 -- Assumes nothing.
-use mathlib.Core.Path.{_≡_, refl, sym, ap, _∙_, subst}
+use mathlib.Core.Path.{_≡_, sym, ap, _∙_, subst}
 use mathlib.Core.Logic.{_⊎_, inl, inr}
-use Prim.Native.Nat.{ℕ, zero, suc, _+_, _-_, _*_, _/_, _%_, _^_, _≤_, _<_, zero-le}
-use native.Mathlib.Nat.{le-trans, le-of-eq, le-of-lt, le-refl, lt-of-lt-of-le, lt-of-le-of-lt, mul-one, one-mul, mul-comm, mul-assoc, mul-right-comm, mul-mul-mul-comm, mul-le-mul-right, mul-le-mul-left, mul-lt-mul-of-pos-right, mul-pos, add-mul, sub-add-cancel, div-mul-le-self, lt-div-mul-add, div-eq-of-lt-le, eq-zero-or-pos}
+use Prim.Native.Nat.{ℕ, _+_, _-_, _*_, _/_, _^_, _≤_, _<_}
+use native.Mathlib.Nat.{le-trans, le-of-eq, le-of-lt, lt-of-lt-of-le, lt-of-le-of-lt, mul-one, one-mul, mul-comm, mul-assoc, mul-right-comm, mul-le-mul-right, mul-le-mul-left, mul-lt-mul-of-pos-right, mul-pos, add-mul, sub-add-cancel, div-mul-le-self, lt-div-mul-add, div-eq-of-lt-le}
 use native.Mathlib.Omega.{arith}
-use mathlib.Core.Bool.{Bool, true, false}
-use lib.Dec.{T}
+use mathlib.Core.Bool.{Bool, false}
 use lib.Pow.{pow-add, pow-pos}
 use lib.Ieee.{Float, Format, prec, low, add, sub, mul, div}
-use Rattle.numbers.proofs.Keys.{mid, unit, mag, negative, shift, key, FiniteIn, NumberIn, fin-of, unit-pos, mid-pos}
+use Rattle.numbers.proofs.Keys.{mid, unit, mag, negative, shift, key, FiniteIn, NumberIn, fin-of, unit-pos}
 use Rattle.numbers.proofs.Rounding.{rounded, near, near-exact, near-mono, order, key-pos}
 use Rattle.numbers.proofs.Operations.{add-key, sub-key, mul-key, div-is, near-same}
 use Rattle.numbers.proofs.Bounds.{near-whole}

@@ -1,3 +1,4 @@
+pub mod Truth
 pub mod Keys
 pub mod Rounding
 pub mod Operations

@@ -1,11 +1,11 @@
 -- Closed facts on the numbers that the code writes out, by computing. Assumes nothing.
 use mathlib.Core.Path.{_≡_, refl}
-use Prim.Native.Nat.{ℕ, _+_, _-_, _*_, _^_, _≤_, _<_}
-use mathlib.Core.Bool.{Bool, true, false}
-use lib.Dec.{T, lit≤, lit<}
-use lib.IntN.{pos, negsuc}
-use lib.Ieee.{Float, fin, binary64, ofBits, fits, lt}
-use Rattle.numbers.proofs.Keys.{mid, unit, mag, key, NumberIn, lt→key}
+use Prim.Native.Nat.{_-_, _*_, _^_, _≤_, _<_}
+use mathlib.Core.Bool.{false}
+use lib.Dec.{lit≤, lit<}
+use lib.IntN.{negsuc}
+use lib.Ieee.{Float, fin, binary64, ofBits, fits}
+use Rattle.numbers.proofs.Keys.{mid, unit, mag, key, NumberIn}
 
 -- 0.001, the least resolution
 abbrev pub milli : Float

@@ -1,17 +1,17 @@
 -- The four operations on finite values as rounded signed fractions of keys. Assumes nothing.
 use mathlib.Core.Path.{_≡_, refl, sym, ap, _∙_, subst}
 use mathlib.Core.Logic.{_⊎_, inl, inr}
-use Prim.Native.Nat.{ℕ, zero, suc, _+_, _-_, _*_, _/_, _%_, _^_, _≤_, _<_, zero-le}
-use native.Mathlib.Nat.{le-trans, le-of-eq, le-of-lt, le-refl, le-antisymm, lt-of-lt-of-le, lt-of-le-of-lt, not-le-of-lt, zero-mul, one-mul, mul-one, mul-comm, mul-assoc, mul-right-comm, mul-left-comm, mul-mul-mul-comm, mul-le-mul-right, mul-le-mul-left, mul-lt-mul-of-pos-right, le-of-mul-le-mul-right, lt-of-mul-lt-mul-right, eq-of-mul-eq-mul-right, mul-pos, add-mul, sub-add-cancel, add-comm, eq-zero-or-pos}
+use Prim.Native.Nat.{ℕ, zero, suc, _+_, _-_, _*_, _≤_, _<_}
+use native.Mathlib.Nat.{le-trans, le-of-eq, le-of-lt, le-antisymm, mul-comm, mul-assoc, mul-right-comm, mul-left-comm, mul-mul-mul-comm, mul-le-mul-right, mul-le-mul-left, mul-lt-mul-of-pos-right, le-of-mul-le-mul-right, lt-of-mul-lt-mul-right, eq-of-mul-eq-mul-right, mul-pos, add-mul, sub-add-cancel, eq-zero-or-pos}
 use native.Mathlib.Omega.{arith}
 use mathlib.Core.Bool.{Bool, true, false, not, _&&_, Bool·beq, cond}
-use lib.IntN.{ℤ, pos, negsuc}
-use lib.Dec.{T, ltb, leb, eqb, ltb→lt, lt→ltb, leb→le, le→leb, eqb→eq, nltb→le}
+use lib.IntN.{ℤ}
+use lib.Dec.{T, ltb, eqb, ltb→lt, lt→ltb, eqb→eq, nltb→le}
 use lib.Ieee.{Float, nan, inf, fin, Format, up, down, round, fits, neg, sum, add, sub, mul, div, unlike}
-use lib.Ieee.Fits.{round-fits, up-pos, down-pos, neg-fits, mul-fits}
-use lib.Ieee.Scale.{round-same, finite}
+use lib.Ieee.Fits.{up-pos, down-pos, neg-fits}
+use lib.Ieee.Scale.{round-same}
 use Rattle.numbers.proofs.Keys.{mid, unit, mag, negative, shift, key, plain, FiniteIn, NumberIn, fin-of, unit-pos, mid-pos, mag-exact, mag-lt, mag-pos, real, cross-l, cross-r, both}
-use Rattle.numbers.proofs.Rounding.{rounded, rounded-neg, rounded-pos, rounded-at-neg, rounded-at-pos, rounded-same, rounded-mono-same, rounded-mono, rounded-key, rounded-num, rounded-fits, rounded-real, rounded-plain, round-key, round-real, near, near-le, near-mono, near-mag, near-zero, key-pos, key-neg, order, finite-of-key, key-finite}
+use Rattle.numbers.proofs.Rounding.{rounded, rounded-at-neg, rounded-at-pos, rounded-same, round-key, round-real, near, near-le, near-mono, near-mag, near-zero, key-pos}
 
 -- ---- equal fractions
 pub near-same : (f : Format) (a b c d : ℕ) → 0 < b → 0 < d → a * d ≡ c * b → near f a b ≡ near f c d

@@ -1,14 +1,14 @@
 -- Which bit patterns are finite. Assumes nothing.
 use mathlib.Core.Path.{_≡_, refl, sym, ap, _∙_, subst}
-use Prim.Native.Nat.{ℕ, zero, suc, _+_, _-_, _*_, _/_, _%_, _^_, _≤_, _<_}
-use native.Mathlib.Nat.{div-lt-iff-lt-mul, mul-comm, mod-lt, le-of-suc-le-suc}
+use Prim.Native.Nat.{ℕ, zero, suc, _+_, _-_, _/_, _%_, _≤_, _<_}
+use native.Mathlib.Nat.{mod-lt}
 use native.Mathlib.Omega.{arith}
 use mathlib.Core.Bool.{Bool, true, false, not, cond}
-use lib.Dec.{T, ltb, leb, eqb, ltb→lt, lt→ltb, eqb→eq, eqb-refl, not-T, T-not, lit<, lit≤}
-use lib.Ieee.{Float, nan, inf, fin, Format, binary32, binary64, prec, low, odd, ofFields, ofBits, fits, eq, ones, hid, top, isNan, nanBits}
+use lib.Dec.{T, ltb, leb, eqb, ltb→lt, lt→ltb, eqb→eq, eqb-refl, lit<}
+use lib.Ieee.{Float, nan, inf, fin, Format, binary32, binary64, prec, low, odd, ofFields, ofBits, eq, ones, hid, isNan, nanBits}
 use lib.Ieee.Bits.{ofBits-fits, nanBits-is}
 use lib.Ieee.Scale.{finite}
-use mathlib.Core.Logic.{_⊎_, inl, inr}
+use mathlib.Core.Logic.{inl, inr}
 use Rattle.numbers.specs.Numbers.{posZero, plusZero}
 use Rattle.numbers.proofs.Keys.{FiniteIn, NumberIn, key, same-bool, finite-real, eq→key, key→eq}
 use Rattle.numbers.proofs.Operations.{num-or-zero, minus-zero-key}

@@ -1,19 +1,19 @@
 -- Bounds that are numbers, exact results, products, whole numbers, the smaller and the larger of two. Assumes nothing.
 use mathlib.Core.Path.{_≡_, refl, sym, ap, _∙_, subst}
 use mathlib.Core.Logic.{_⊎_, inl, inr}
-use Prim.Native.Nat.{ℕ, zero, suc, _+_, _-_, _*_, _/_, _%_, _^_, _≤_, _<_, zero-le, min, max}
-use native.Mathlib.Nat.{le-trans, le-of-eq, le-of-lt, le-refl, le-antisymm, lt-of-lt-of-le, lt-of-le-of-lt, not-le-of-lt, zero-mul, mul-zero, one-mul, mul-one, mul-comm, mul-assoc, mul-right-comm, mul-mul-mul-comm, mul-le-mul, mul-le-mul-right, mul-le-mul-left, mul-pos, add-mul, le-of-suc-le-suc}
+use Prim.Native.Nat.{ℕ, suc, _+_, _-_, _*_, _^_, _≤_, _<_, min, max}
+use native.Mathlib.Nat.{le-trans, le-of-eq, le-refl, le-antisymm, mul-one, mul-assoc, mul-mul-mul-comm, mul-le-mul, mul-le-mul-right, mul-le-mul-left, mul-pos, le-of-suc-le-suc}
 use native.Mathlib.Omega.{arith}
-use mathlib.Core.Bool.{Bool, true, false, not, _&&_, cond}
-use lib.IntN.{ℤ, pos, negsuc}
-use lib.Dec.{T, ltb, leb, ltb→lt, lt→ltb, leb→le, nltb→le}
+use mathlib.Core.Bool.{Bool, true, false, not, cond}
+use lib.IntN.{pos}
+use lib.Dec.{T, ltb→lt}
 use lib.Ieee.{Float, nan, inf, fin, Format, prec, emax, round, fits, lt, le, add, sub, mul, div, ofInt, unlike, toUnsigned}
-use lib.Ieee.Fits.{round-fits, add-fits, mul-fits, ofInt-fits}
+use lib.Ieee.Fits.{round-fits, mul-fits}
 use lib.Ieee.Exact.{HasValue}
 use lib.Ieee.Back.{round-whole}
 use lib.Ieee.Scale.{finite}
-use Rattle.numbers.proofs.Keys.{mid, unit, mag, negative, shift, key, plain, FiniteIn, NumberIn, fin-of, unit-pos, mid-pos, mag-le, mag-lt, mag-pos, real, finite-real, lt→key, le→key, key→lt, key→le, key-inj, nlt→key}
-use Rattle.numbers.proofs.Rounding.{rounded, rounded-pos, rounded-mono-same, rounded-mono, rounded-key, rounded-num, rounded-fits, rounded-real, rounded-plain, near, near-exact, near-le, near-mono, key-pos, key-neg, order, finite-of-key, key-finite}
+use Rattle.numbers.proofs.Keys.{mid, unit, mag, negative, shift, key, FiniteIn, NumberIn, fin-of, unit-pos, mid-pos, mag-le, mag-pos, finite-real, lt→key, le→key, key-inj, nlt→key}
+use Rattle.numbers.proofs.Rounding.{rounded, rounded-mono-same, rounded-key, rounded-num, near, near-exact, near-mono, key-pos, key-neg, order}
 use Rattle.numbers.proofs.Operations.{add-is, sub-is, rounded-shift, mul-key, mul-real}
 use Rattle.numbers.proofs.Bounds.{Within, value-key, near-whole, within-finite}
 

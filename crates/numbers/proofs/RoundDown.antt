@@ -1,20 +1,18 @@
 -- Rounding down, as Rust's saturating `as` has it, by keys; and the bucket of an x. Assumes nothing.
 use mathlib.Core.Path.{_≡_, refl, sym, ap, _∙_, subst}
-use mathlib.Core.Logic.{_⊎_, inl, inr}
-use Prim.Native.Nat.{ℕ, zero, suc, _+_, _-_, _*_, _/_, _%_, _^_, _≤_, _<_, zero-le, min, max}
-use native.Mathlib.Nat.{le-trans, le-of-eq, le-of-lt, le-refl, zero-div, mul-le-mul-right, mul-div-cancel, mul-comm, div-lt-iff-lt-mul, le-div-iff-mul-le, one-mul, lt-of-not-le}
+use Prim.Native.Nat.{ℕ, suc, _+_, _-_, _*_, _/_, _^_, _≤_, _<_, min}
+use native.Mathlib.Nat.{zero-div, mul-le-mul-right, mul-div-cancel, mul-comm, div-lt-iff-lt-mul, le-div-iff-mul-le, lt-of-not-le}
 use native.Mathlib.Omega.{arith}
-use mathlib.Core.Bool.{Bool, true, false, not, _&&_, cond}
-use lib.IntN.{ℤ, pos, negsuc}
+use mathlib.Core.Bool.{true, false, not}
+use lib.IntN.{ℤ, pos}
 use lib.Dec.{T, T-not}
 use lib.Pow.{pow-add, pow-pos, pow-mono}
-use lib.Ieee.{Float, nan, inf, fin, Format, binary64, prec, emax, low, up, down, fits, le, lt, sub, div, toUnsigned}
-use lib.Ieee.Fits.{down-pos, div-fits}
+use lib.Ieee.{Float, nan, inf, fin, Format, binary64, emax, low, up, down, fits, le, lt, toUnsigned}
+use lib.Ieee.Fits.{down-pos}
 use lib.Ieee.Nearest as Nearest
 use lib.Ieee.Exact.{HasValue}
-use Rattle.numbers.proofs.Keys.{mid, unit, mag, negative, shift, key, FiniteIn, NumberIn, unit-pos, mid-pos, mag-exact, mag-lt, real, le→key, lt→key, key→le, key→lt}
-use Rattle.numbers.proofs.Operations.{div-real}
-use Rattle.numbers.proofs.Bounds.{Within, sub-within, sub-mono, div-mono, value-key}
+use Rattle.numbers.proofs.Keys.{mid, unit, mag, key, unit-pos, mid-pos, mag-exact, real, le→key, key→le, key→lt}
+use Rattle.numbers.proofs.Bounds.{value-key}
 
 floor-fin : (f : Format) (m : ℕ) (e : ℤ) → T (fits f (fin false m e)) → m * up e / down e ≡ (key f (fin false m e) - mid f) / unit f
 unfolding key

@@ -1,6 +1,6 @@
 -- Document 01, "Strips": what a strip is, its heights at an x, its move, and how strips lie in a lent room. Definitions only. Assumes nothing.
 use Prim.Native.Nat.{ℕ, _+_, _*_, _/_}
-use mathlib.Core.Bool.{Bool, cond}
+use mathlib.Core.Bool.{cond}
 use mathlib.Core.List.{List, [], _∷_}
 use lib.ListN.{getD, length, set, take, drop}
 use lib.Dec.{leb}

@@ -1,13 +1,13 @@
 -- `numbers::from_bits` meets its contract: a finite pattern is no NaN's, and each arm is the one that `cond` picks. Assumes nothing.
-use mathlib.Core.Path.{_≡_, sym, _∙_, subst}
+use mathlib.Core.Path.{_≡_, sym, _∙_}
 use mathlib.Core.Bool.{true, false}
 use borrow.Author.Needs.{needs}
-use lib.Dec.{T}
 use lib.Ieee.{ofBits, binary64, eq}
 use lib.Ieee.Scale.{finite}
 use Prim.Native.Nat.{ℕ}
 use Rattle.numbers.specs.Numbers.{doubleOf, plusZero, posZero}
 use Rattle.numbers.specs.declared.Double.the-variants.{Finite, NotFinite}
+use Rattle.numbers.proofs.Truth.{holds}
 use Rattle.numbers.proofs.Patterns.{finite-readable}
 use Rattle.numbers.proofs.from_bits.Statement.{statement}
 use Rattle.numbers.proofs.from_bits.Tie as tie
@@ -29,7 +29,7 @@ finite-bits-requires : tie.Need-finite-bits-requires
 finite-bits-requires c κs = search needs
 
 float-from-bits-x : tie.Need-float-from-bits-x
-float-from-bits-x c = finite-readable (c .before .before .args .n) (subst T (sym (sym (c .before .finite-bits .ensures) ∙ c .if1 .taken)) tt)
+float-from-bits-x c = finite-readable (c .before .before .args .n) (holds (sym (c .before .finite-bits .ensures) ∙ c .if1 .taken))
 
 returns : tie.Need-returns
 unfolding ofBits

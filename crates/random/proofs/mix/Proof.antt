@@ -1,5 +1,4 @@
 -- `random::mix` meets its contract: one rewrite for each product. Assumes nothing.
-use mathlib.Core.Path.{_≡_, refl}
 use Rattle.random.specs.SplitMix64.{mixed}
 use borrow.Author.Needs.{needs}
 use Rattle.random.proofs.mix.Statement.{statement}

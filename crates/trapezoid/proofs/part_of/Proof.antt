@@ -1,34 +1,25 @@
 -- `trapezoid::part_of` meets its contract. Assumes nothing.
 use Prim.Native.Nat.{ℕ, _+_, _-_, _*_, _/_, _≤_, _<_}
 use native.Mathlib.Omega.{arith}
-use mathlib.Core.Path.{_≡_, refl}
-use mathlib.Core.Bool.{Bool, true, false}
+use mathlib.Core.Path.{_≡_}
 use mathlib.Core.List.{List, []}
 use lib.ListN.{length, take, drop}
-use lib.Dec.{T, leb, leb→le, le→leb}
 use lib.Ieee.{Float}
 use Rattle.trapezoid.specs.Strip.{capacity, partOf}
+use borrow.Author.Tests.{le-leb, lt-leb}
 use borrow.Author.Needs.{needs}
 use Rattle.trapezoid.proofs.part_of.Statement.{statement}
 use Rattle.trapezoid.proofs.part_of.Tie as tie
 
-no : (b : Bool) → (T b → ⊥) → b ≡ false
-no true h = absurd (h tt)
-no false h = refl
-
-yes : (b : Bool) → T b → b ≡ true
-yes true h = refl
-yes false h = absurd h
-
 short : (room : List Float) (from count : ℕ) → length room / 6 < from + count → [] ≡ partOf room from count
 unfolding partOf capacity
-short room from count h = rw (no (leb (from + count) (length room / 6)) (λ t. absurd (omega (arith, leb→le (from + count) (length room / 6) t))))
+short room from count h = rw (lt-leb (from + count) (length room / 6) h)
 
 enough : (room : List Float) (from count : ℕ) → from + count ≤ length room / 6 → take (6 * from + 6 * count - 6 * from) (drop (6 * from) room) ≡ partOf room from count
 unfolding partOf capacity
 enough room from count h =
     let e : 6 * from + 6 * count - 6 * from ≡ 6 * count = omega arith in
-    rw (e, yes (leb (from + count) (length room / 6)) (le→leb (from + count) (length room / 6) h))
+    rw (e, le-leb (from + count) (length room / 6) h)
 
 sub-result : tie.Need-sub-result
 sub-result c = search needs
