@@ -27,10 +27,7 @@ value-key f (fin t m e) s n p v =
     (eq-of-mul-eq-mul-right (down e) (down-pos e) (mag f (fin t m e)) (n * unit f) (mag-exact f t m e p ∙ ap (λ (k : ℕ). k * unit f) (sym (mul-one (m * up e)) ∙ v .1) ∙ mul-right-comm n (down e) (unit f)))
 
 pub near-whole : (f : Format) (n : ℕ) → n ≤ 2 ^ prec f → near f n 1 ≡ n * unit f
-near-whole f n h = z (mid f) (near f n 1) (n * unit f) (sym (Rattle.numbers.proofs.Rounding.round-key f false n 1) ∙ value-key f (round f false n 1) false n (round-fits f false n 1) (round-whole f false n h))
-  where
-    z : (m a b : ℕ) → m + a ≡ m + b → a ≡ b
-    z m a b h = omega arith
+near-whole f n h = omega (arith, sym (Rattle.numbers.proofs.Rounding.round-key f false n 1) ∙ value-key f (round f false n 1) false n (round-fits f false n 1) (round-whole f false n h))
 
 -- ---- x lies between -n and n
 pub record Within (f : Format) (n : ℕ) (x : Float) : Type 0 where

@@ -3,12 +3,13 @@ use mathlib.Core.Path.{_≡_}
 use Prim.Native.Nat.{ℕ, _+_, _-_, _^_, _≤_, _<_}
 use mathlib.Core.Bool.{not}
 use lib.Dec.{T}
+use mathlib.Core.Logic.{_⊎_, inl, inr}
+use native.Mathlib.Omega.{arith}
+use Rattle.numbers.proofs.Truth.{holds, fails, either}
 use lib.Ieee.{Float, binary64, lt, le, add, sub, mul, div}
 use Rattle.numbers.proofs.Keys as Keys
 use Rattle.numbers.proofs.Keys.{FiniteIn, NumberIn, finite-real}
 use Rattle.numbers.proofs.Bounds as Bounds
-use Rattle.numbers.proofs.Ranges as Ranges
-use Rattle.numbers.proofs.RoundDown as RoundDown
 
 -- the key of a double, that of zero, and that of one less that of zero
 abbrev pub k : Float → ℕ
@@ -52,6 +53,29 @@ le-no {x} {y} X Y h = Keys.nle→key binary64 x y (X .fit) (Y .fit) (finite-real
 
 pub same : {x y : Float} → Number x → Number y → k x ≡ k y → x ≡ y
 same {x} {y} X Y h = Keys.key-inj binary64 x y X Y h
+
+-- ---- the total order of numbers
+pub lt-irrefl : {x : Float} → Number x → T (lt x x) → ⊥
+lt-irrefl X h = absurd (omega (arith, lt-yes (finite X) (finite X) h))
+
+pub lt-trans : {x y z : Float} → Number x → Number y → Number z → T (lt x y) → T (lt y z) → T (lt x z)
+lt-trans {x} {y} {z} X Y Z h l = Keys.key→lt binary64 x z (X .fit) (Z .fit) (finite-real x (X .isFinite)) (finite-real z (Z .isFinite)) (omega (arith, lt-yes (finite X) (finite Y) h, lt-yes (finite Y) (finite Z) l))
+
+pub lt-total : {x y : Float} → Number x → Number y → T (lt x y) ⊎ ((x ≡ y) ⊎ T (lt y x))
+lt-total {x} {y} X Y = elim (either (lt x y)) [
+  | inl e ↦ inl (holds e)
+  | inr e ↦ elim (either (lt y x)) [
+    | inl f ↦ inr (inr (holds f))
+    | inr f ↦ inr (inl (same X Y (omega (arith, lt-no (finite X) (finite Y) (fails e), lt-no (finite Y) (finite X) (fails f)))))
+  ]
+]
+
+-- `le` is `lt` or the same number
+pub le-splits : {x y : Float} → Number x → Number y → T (le x y) → T (lt x y) ⊎ (x ≡ y)
+le-splits {x} {y} X Y h = elim (either (lt x y)) [
+  | inl e ↦ inl (holds e)
+  | inr e ↦ inr (same X Y (omega (arith, lt-no (finite X) (finite Y) (fails e), le-yes (finite X) (finite Y) h)))
+]
 
 -- ---- sums
 pub add-upto : {a b : ℕ} {x y : Float} → Finite x → Finite y → Upto a x → Upto b y → a + b ≤ 2 ^ 53 → Finite (add binary64 x y) × Upto (a + b) (add binary64 x y)

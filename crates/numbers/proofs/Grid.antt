@@ -30,43 +30,19 @@ rounded-grid f j a b p n h A B e = go (order a b)
     small : (a b c : ℕ) → a < c → a - b < c
     small a b c h = omega arith
 
-    z1 : (p n d a b : ℕ) → p + b ≡ n + a → d + b ≡ a → p ≡ n + d
-    z1 p n d a b e g = omega arith
-
-    z2 : (m k d a b : ℕ) → k ≡ m + d → d + b ≡ a → k + b ≡ m + a
-    z2 m k d a b e g = omega arith
-
-    z3 : (p n d a b : ℕ) → p + b ≡ n + a → d + a ≡ b → n ≡ p + d
-    z3 p n d a b e g = omega arith
-
-    z4 : (m k d a b : ℕ) → k ≡ m - d → d < m → d + a ≡ b → k + b ≡ m + a
-    z4 m k d a b e l g = omega arith
-
-    above : (a b : ℕ) → a < b → 0 < b - a
-    above a b h = omega arith
-
     go : (a < b) ⊎ (b ≤ a) → key f (rounded f p n (unit f)) + b * 2 ^ j ≡ mid f + a * 2 ^ j
-    go (inr k) = z2 (mid f) (key f (rounded f p n (unit f))) ((a - b) * 2 ^ j) (a * 2 ^ j) (b * 2 ^ j) (rounded-grid-pos f p n (a - b) j (small a b (2 ^ prec f) A) (below-mid f (a - b) j h (small a b (2 ^ prec f) A)) (z1 p n ((a - b) * 2 ^ j) (a * 2 ^ j) (b * 2 ^ j) e (split a b k))) (split a b k)
-    go (inl k) = z4 (mid f) (key f (rounded f p n (unit f))) ((b - a) * 2 ^ j) (a * 2 ^ j) (b * 2 ^ j) (rounded-grid-neg f p n (b - a) j (small b a (2 ^ prec f) B) (below-mid f (b - a) j h (small b a (2 ^ prec f) B)) (mul-pos (above a b k) (pow-pos j)) (z3 p n ((b - a) * 2 ^ j) (a * 2 ^ j) (b * 2 ^ j) e (split b a (le-of-lt k)))) (below-mid f (b - a) j h (small b a (2 ^ prec f) B)) (split b a (le-of-lt k))
+    go (inr k) = omega (arith, rounded-grid-pos f p n (a - b) j (small a b (2 ^ prec f) A) (below-mid f (a - b) j h (small a b (2 ^ prec f) A)) (omega (arith, split a b k)), split a b k)
+    go (inl k) = omega (arith, rounded-grid-neg f p n (b - a) j (small b a (2 ^ prec f) B) (below-mid f (b - a) j h (small b a (2 ^ prec f) B)) (mul-pos (omega arith) (pow-pos j)) (omega (arith, split b a (le-of-lt k))), below-mid f (b - a) j h (small b a (2 ^ prec f) B), split b a (le-of-lt k))
 
 pub add-grid : (f : Format) (j a b c d : ℕ) (x y : Float) → FiniteIn f x → FiniteIn f y → Grid f j a b x → Grid f j c d y → 2 ^ prec f * 2 ^ j ≤ mid f → a + c < 2 ^ prec f → b + d < 2 ^ prec f → Grid f j (a + c) (b + d) (add f x y)
-add-grid f j a b c d x y p q X Y h A B = record { at = ap (λ (k : ℕ). k + (b + d) * 2 ^ j) (add-key f x y p q) ∙ rounded-grid f j (a + c) (b + d) (key f x + key f y) (mid f + mid f) h A B (ap (λ (k : ℕ). key f x + key f y + k) (add-mul b d (2 ^ j)) ∙ z (mid f) (key f x) (key f y) (a * 2 ^ j) (b * 2 ^ j) (c * 2 ^ j) (d * 2 ^ j) (X .at) (Y .at) ∙ ap (λ (k : ℕ). mid f + mid f + k) (sym (add-mul a c (2 ^ j)))) }
-  where
-    z : (m x y a b c d : ℕ) → x + b ≡ m + a → y + d ≡ m + c → x + y + (b + d) ≡ m + m + (a + c)
-    z m x y a b c d h k = omega arith
+add-grid f j a b c d x y p q X Y h A B = record { at = ap (λ (k : ℕ). k + (b + d) * 2 ^ j) (add-key f x y p q) ∙ rounded-grid f j (a + c) (b + d) (key f x + key f y) (mid f + mid f) h A B (ap (λ (k : ℕ). key f x + key f y + k) (add-mul b d (2 ^ j)) ∙ omega (arith, X .at, Y .at) ∙ ap (λ (k : ℕ). mid f + mid f + k) (sym (add-mul a c (2 ^ j)))) }
 
 pub sub-grid : (f : Format) (j a b c d : ℕ) (x y : Float) → FiniteIn f x → FiniteIn f y → Grid f j a b x → Grid f j c d y → 2 ^ prec f * 2 ^ j ≤ mid f → a + d < 2 ^ prec f → b + c < 2 ^ prec f → Grid f j (a + d) (b + c) (sub f x y)
-sub-grid f j a b c d x y p q X Y h A B = record { at = ap (λ (k : ℕ). k + (b + c) * 2 ^ j) (sub-key f x y p q) ∙ rounded-grid f j (a + d) (b + c) (key f x) (key f y) h A B (ap (λ (k : ℕ). key f x + k) (add-mul b c (2 ^ j)) ∙ z (mid f) (key f x) (key f y) (a * 2 ^ j) (b * 2 ^ j) (c * 2 ^ j) (d * 2 ^ j) (X .at) (Y .at) ∙ ap (λ (k : ℕ). key f y + k) (sym (add-mul a d (2 ^ j)))) }
-  where
-    z : (m x y a b c d : ℕ) → x + b ≡ m + a → y + d ≡ m + c → x + (b + c) ≡ y + (a + d)
-    z m x y a b c d h k = omega arith
+sub-grid f j a b c d x y p q X Y h A B = record { at = ap (λ (k : ℕ). k + (b + c) * 2 ^ j) (sub-key f x y p q) ∙ rounded-grid f j (a + d) (b + c) (key f x) (key f y) h A B (ap (λ (k : ℕ). key f x + k) (add-mul b c (2 ^ j)) ∙ omega (arith, X .at, Y .at) ∙ ap (λ (k : ℕ). key f y + k) (sym (add-mul a d (2 ^ j)))) }
 
 -- two on the grid compare as their counts do
 pub grid-le : (f : Format) (j a b c d : ℕ) (x y : Float) → Grid f j a b x → Grid f j c d y → a + d ≤ c + b → key f x ≤ key f y
-grid-le f j a b c d x y X Y h = z (mid f) (key f x) (key f y) (a * 2 ^ j) (b * 2 ^ j) (c * 2 ^ j) (d * 2 ^ j) (X .at) (Y .at) (subst (λ (k : ℕ). k ≤ c * 2 ^ j + b * 2 ^ j) (add-mul a d (2 ^ j)) (subst (λ (k : ℕ). (a + d) * 2 ^ j ≤ k) (add-mul c b (2 ^ j)) (mul-le-mul-right (2 ^ j) h)))
-  where
-    z : (m x y a b c d : ℕ) → x + b ≡ m + a → y + d ≡ m + c → a + d ≤ c + b → x ≤ y
-    z m x y a b c d e g h = omega arith
+grid-le f j a b c d x y X Y h = omega (arith, X .at, Y .at, subst (λ (k : ℕ). k ≤ c * 2 ^ j + b * 2 ^ j) (add-mul a d (2 ^ j)) (subst (λ (k : ℕ). (a + d) * 2 ^ j ≤ k) (add-mul c b (2 ^ j)) (mul-le-mul-right (2 ^ j) h)))
 
 -- a whole number times a number on the grid
 pub mul-grid : (f : Format) (j n c : ℕ) (x y : Float) → NumberIn f x → NumberIn f y → key f x ≡ mid f + n * unit f → key f y ≡ mid f + c * 2 ^ j → 2 ^ prec f * 2 ^ j ≤ mid f → n * c < 2 ^ prec f → key f (mul f x y) ≡ mid f + n * c * 2 ^ j
@@ -142,36 +118,27 @@ floor-exact f n r t R h l k = div-eq-of-lt-le (unit f) lower upper
         z : (n r p a m : ℕ) → r ≤ p → n < m + r → a * r ≡ (m + r) * p → 0 < a → n * p ≤ (a - 1) * r
         z n r p a m h g e A =
             let b : (a - 1) * r + 1 * r ≡ a * r = sym (add-mul (a - 1) 1 r) ∙ ap (λ (k : ℕ). k * r) (sub-add-cancel A) in
-            let c : (n + 1) * p ≤ (m + r) * p = mul-le-mul-right p (v n (m + r) g) in
+            let c : (n + 1) * p ≤ (m + r) * p = mul-le-mul-right p (omega arith) in
             let d : (n + 1) * p ≡ n * p + 1 * p = add-mul n 1 p in
             omega arith
-          where
-            v : (n m : ℕ) → n < m → n + 1 ≤ m
-            v n m h = omega arith
 
     upper : near f n r < (n / r + 1) * unit f
     upper =
         lt-of-le-of-lt (near-mono f n r ((n / r + 1) * 2 ^ t - 1) (2 ^ t) R (pow-pos t) under)
-        (subst (λ (z : ℕ). z < (n / r + 1) * unit f) (sym at) (subst (λ (z : ℕ). ((n / r + 1) * 2 ^ t - 1) * 2 ^ (low f - t) < z) (mul-assoc (n / r + 1) (2 ^ t) (2 ^ (low f - t)) ∙ ap (λ (z : ℕ). (n / r + 1) * z) (mul-comm (2 ^ t) (2 ^ (low f - t)) ∙ sym G)) (mul-lt-mul-of-pos-right (y ((n / r + 1) * 2 ^ t) (mul-pos (x (n / r)) (pow-pos t))) (pow-pos (low f - t)))))
+        (subst (λ (z : ℕ). z < (n / r + 1) * unit f) (sym at) (subst (λ (z : ℕ). ((n / r + 1) * 2 ^ t - 1) * 2 ^ (low f - t) < z) (mul-assoc (n / r + 1) (2 ^ t) (2 ^ (low f - t)) ∙ ap (λ (z : ℕ). (n / r + 1) * z) (mul-comm (2 ^ t) (2 ^ (low f - t)) ∙ sym G)) (mul-lt-mul-of-pos-right (y ((n / r + 1) * 2 ^ t) (mul-pos (omega arith) (pow-pos t))) (pow-pos (low f - t)))))
       where
         y : (a : ℕ) → 0 < a → a - 1 < a
         y a h = omega arith
 
-        x : (q : ℕ) → 0 < q + 1
-        x q = omega arith
-
 pub div-floor-grid : (f : Format) (j n r t : ℕ) (x y : Float) → NumberIn f x → NumberIn f y → key f x ≡ mid f + n * 2 ^ j → key f y ≡ mid f + r * 2 ^ j → 0 < r → r ≤ 2 ^ t → t ≤ low f → (n / r + 1) * 2 ^ t ≤ 2 ^ prec f → (key f (div f x y) - mid f) / unit f ≡ n / r
 div-floor-grid f j n r t x y p q e g R h l k =
-    ap (λ (a : ℕ). (a - mid f) / unit f) (ap (key f) (div-is f x y p (fin-of q) (gt (mid f) (key f y) (r * 2 ^ j) g (mul-pos R (pow-pos j)))) ∙ key-pos f (key f x) (mid f) (key f y - mid f) (ge (mid f) (key f x) (n * 2 ^ j) e))
+    ap (λ (a : ℕ). (a - mid f) / unit f) (ap (key f) (div-is f x y p (fin-of q) (omega (arith, mul-pos R (pow-pos j)))) ∙ key-pos f (key f x) (mid f) (key f y - mid f) (ge (mid f) (key f x) (n * 2 ^ j) e))
     ∙ ap (λ (a : ℕ). a / unit f) (back (mid f) (near f (key f x - mid f) (key f y - mid f)) ∙ ap (λ (a : ℕ). near f a (key f y - mid f)) (off (mid f) (key f x) (n * 2 ^ j) e) ∙ ap (λ (a : ℕ). near f (n * 2 ^ j) a) (off (mid f) (key f y) (r * 2 ^ j) g)
     ∙ near-same f (n * 2 ^ j) (r * 2 ^ j) n r (mul-pos R (pow-pos j)) R (mul-right-comm n (2 ^ j) r ∙ mul-assoc n r (2 ^ j)))
     ∙ floor-exact f n r t R h l k
   where
     ge : (m k a : ℕ) → k ≡ m + a → m ≤ k
     ge m k a h = omega arith
-
-    gt : (m k a : ℕ) → k ≡ m + a → 0 < a → m < k
-    gt m k a h g = omega arith
 
     off : (m k a : ℕ) → k ≡ m + a → k - m ≡ a
     off m k a h = omega arith

@@ -3,7 +3,7 @@
 use mathlib.Core.Path.{_≡_, refl, sym, ap, _∙_, subst}
 use mathlib.Core.Logic.{_⊎_, inl, inr}
 use Prim.Native.Nat.{ℕ, zero, suc, _+_, _-_, _*_, _/_, _%_, _^_, _≤_, _<_, zero-le}
-use native.Mathlib.Nat.{le-of-eq, le-of-lt, le-refl, lt-of-not-le, not-le-of-lt, lt-irrefl, eq-or-lt-of-le, zero-mul, zero-div, mul-comm, mul-assoc, mul-right-comm, mul-lt-mul-of-pos-right, lt-of-mul-lt-mul-right, eq-of-mul-eq-mul-right, mul-pos, mul-div-cancel, div-lt-iff-lt-mul, sub-add-cancel}
+use native.Mathlib.Nat.{le-of-eq, le-of-lt, le-refl, lt-of-not-le, not-le-of-lt, eq-or-lt-of-le, zero-mul, zero-div, mul-comm, mul-assoc, mul-right-comm, mul-lt-mul-of-pos-right, lt-of-mul-lt-mul-right, eq-of-mul-eq-mul-right, mul-pos, mul-div-cancel, div-lt-iff-lt-mul, sub-add-cancel}
 use native.Mathlib.Omega.{arith}
 use mathlib.Core.Bool.{Bool, true, false, not, _&&_, _||_, Bool·beq, cond}
 use lib.IntN.{ℤ, pos, negsuc}
@@ -371,31 +371,3 @@ key-inj f (fin true m e) (fin true n d) p q h = by-bits f (fin true m e) (fin tr
 key-inj f (fin false m e) (fin false n d) p q h = by-bits f (fin false m e) (fin false n d) (p .fit) (q .fit) (same-bits f false m e n d (omega arith))
 key-inj f (fin true m e) (fin false n d) p q h = absurd (omega (arith, mag-pos f true m e (p .fit) (ltb→lt 0 m (p .plus)), mid-pos f))
 key-inj f (fin false m e) (fin true n d) p q h = absurd (omega (arith, mag-pos f true n d (q .fit) (ltb→lt 0 n (q .plus)), mid-pos f))
-
--- ---- the total order of numbers
-pub lt-irrefl-num : (f : Format) (x : Float) → NumberIn f x → T (lt x x) → ⊥
-lt-irrefl-num f x n h = lt-irrefl (key f x) (lt→key f x x (n .fit) (n .fit) h)
-
-pub lt-trans-num : (f : Format) (x y z : Float) → NumberIn f x → NumberIn f y → NumberIn f z → T (lt x y) → T (lt y z) → T (lt x z)
-lt-trans-num f x y z p q r h k =
-    let a : key f x < key f y = lt→key f x y (p .fit) (q .fit) h in
-    let b : key f y < key f z = lt→key f y z (q .fit) (r .fit) k in
-    key→lt f x z (p .fit) (r .fit) (finite-real x (p .isFinite)) (finite-real z (r .isFinite)) (omega arith)
-
-pub lt-total : (f : Format) (x y : Float) → NumberIn f x → NumberIn f y → T (lt x y) ⊎ ((x ≡ y) ⊎ T (lt y x))
-lt-total f x y p q = go (ltb (key f x) (key f y)) (ltb (key f y) (key f x)) (ltb→lt (key f x) (key f y)) (nltb→le (key f x) (key f y)) (ltb→lt (key f y) (key f x)) (nltb→le (key f y) (key f x))
-  where
-    go : (a b : Bool) → (T a → key f x < key f y) → (T (not a) → key f y ≤ key f x) → (T b → key f y < key f x) → (T (not b) → key f x ≤ key f y) → T (lt x y) ⊎ ((x ≡ y) ⊎ T (lt y x))
-    go true b k l u v = inl (key→lt f x y (p .fit) (q .fit) (finite-real x (p .isFinite)) (finite-real y (q .isFinite)) (k tt))
-    go false true k l u v = inr (inr (key→lt f y x (q .fit) (p .fit) (finite-real y (q .isFinite)) (finite-real x (p .isFinite)) (u tt)))
-    go false false k l u v = inr (inl (key-inj f x y p q (native.Mathlib.Nat.le-antisymm (v tt) (l tt))))
-
--- `le` is `lt` or the same number
-pub le-splits : (f : Format) (x y : Float) → NumberIn f x → NumberIn f y → T (le x y) → T (lt x y) ⊎ (x ≡ y)
-le-splits f x y p q h = elim (eq-or-lt-of-le (le→key f x y (p .fit) (q .fit) h)) [ inl e ↦ inr (key-inj f x y p q e) | inr l ↦ inl (key→lt f x y (p .fit) (q .fit) (finite-real x (p .isFinite)) (finite-real y (q .isFinite)) l) ]
-
-pub le-refl-num : (f : Format) (x : Float) → NumberIn f x → T (le x x)
-le-refl-num f x p = key→le f x x (p .fit) (p .fit) (finite-real x (p .isFinite)) (finite-real x (p .isFinite)) (le-refl (key f x))
-
-pub le-antisymm-num : (f : Format) (x y : Float) → NumberIn f x → NumberIn f y → T (le x y) → T (le y x) → x ≡ y
-le-antisymm-num f x y p q h k = key-inj f x y p q (native.Mathlib.Nat.le-antisymm (le→key f x y (p .fit) (q .fit) h) (le→key f y x (q .fit) (p .fit) k))

@@ -11,7 +11,7 @@ use lib.Ieee.{Float, nan, inf, fin, Format, up, down, round, fits, neg, sum, add
 use lib.Ieee.Fits.{up-pos, down-pos, neg-fits}
 use lib.Ieee.Scale.{round-same}
 use Rattle.numbers.proofs.Keys.{mid, unit, mag, negative, shift, key, plain, FiniteIn, NumberIn, fin-of, unit-pos, mid-pos, mag-exact, mag-lt, mag-pos, real, cross-l, cross-r, both}
-use Rattle.numbers.proofs.Rounding.{rounded, rounded-at-neg, rounded-at-pos, rounded-same, round-key, round-real, near, near-le, near-mono, near-mag, near-zero, key-pos}
+use Rattle.numbers.proofs.Rounding.{rounded, rounded-at-neg, rounded-at-pos, rounded-shift, round-key, round-real, near, near-le, near-mono, near-mag, near-zero, key-pos}
 
 -- ---- equal fractions
 pub near-same : (f : Format) (a b c d : ℕ) → 0 < b → 0 < d → a * d ≡ c * b → near f a b ≡ near f c d
@@ -78,12 +78,9 @@ add-at f (fin s m e) (fin t n d) p q o =
     l : (a b : ℕ) → 0 < a → 0 < a + b
     l a b h = omega arith
 
-    r : (a b : ℕ) → 0 < b → 0 < a + b
-    r a b h = omega arith
-
     nz : (s' t' : Bool) → T (plain (fin s' m e)) ⊎ T (plain (fin t' n d)) → (0 < m → 0 < mag f (fin s m e)) → (0 < n → 0 < mag f (fin t n d)) → T (s' && t') → 0 < mag f (fin s m e) + mag f (fin t n d)
     nz true true (inl h) i j k = l (mag f (fin s m e)) (mag f (fin t n d)) (i (ltb→lt 0 m h))
-    nz true true (inr h) i j k = r (mag f (fin s m e)) (mag f (fin t n d)) (j (ltb→lt 0 n h))
+    nz true true (inr h) i j k = omega (arith, j (ltb→lt 0 n h))
     nz true false h i j k = absurd k
     nz false t' h i j k = absurd k
 
@@ -98,23 +95,14 @@ sum-key f true a true b c A B C p q hA hB = go (eq-zero-or-pos (A + B))
     opened : sum f true a true b c ≡ round f true (a + b) c
     opened = unfold sum in refl
 
-    z : (m a b : ℕ) → a + b ≡ 0 → m + m ≤ m - a + (m - b)
-    z m a b h = omega arith
-
-    y : (m a b : ℕ) → m - a + (m - b) - (m + m) ≡ 0
-    y m a b = omega arith
-
-    w : (m : ℕ) → m - 0 ≡ m + 0
-    w m = omega arith
-
     go : (A + B ≡ 0) ⊎ (0 < A + B) → key f (sum f true a true b c) ≡ key f (rounded f (mid f - A + (mid f - B)) (mid f + mid f) (unit f))
     go (inr l) = ap (key f) (sum-at f true a true b c A B C p q hA hB (λ _. l))
     go (inl e) =
         ap (key f) opened ∙ round-key f true (a + b) c
         ∙ ap (λ (k : ℕ). mid f - k) (near-same f (a + b) c (A + B) (unit f) C (unit-pos f) (total f a b c A B C p q hA hB) ∙ ap (λ (k : ℕ). near f k (unit f)) e ∙ near-zero f (unit f) (unit-pos f))
-        ∙ w (mid f)
-        ∙ ap (λ (k : ℕ). mid f + k) (sym (ap (λ (k : ℕ). near f k (unit f)) (y (mid f) A B) ∙ near-zero f (unit f) (unit-pos f)))
-        ∙ sym (key-pos f (mid f - A + (mid f - B)) (mid f + mid f) (unit f) (z (mid f) A B e))
+        ∙ omega arith
+        ∙ ap (λ (k : ℕ). mid f + k) (sym (ap (λ (k : ℕ). near f k (unit f)) (omega arith) ∙ near-zero f (unit f) (unit-pos f)))
+        ∙ sym (key-pos f (mid f - A + (mid f - B)) (mid f + mid f) (unit f) (omega arith))
 sum-key f true a false b c A B C p q hA hB = ap (key f) (sum-at f true a false b c A B C p q hA hB (λ t. absurd t))
 sum-key f false a t b c A B C p q hA hB = ap (key f) (sum-at f false a t b c A B C p q hA hB (λ t. absurd t))
 
@@ -138,33 +126,21 @@ pub neg-key : (f : Format) (y : Float) → FiniteIn f y → key f (neg y) + key 
 unfolding key neg mag
 neg-key f nan q = absurd (q .isFinite)
 neg-key f (inf t) q = absurd (q .isFinite)
-neg-key f (fin true n d) q = z (mid f) (mag f (fin true n d)) (mag-lt f true n d (q .fit))
-  where
-    z : (m a : ℕ) → a < m → m + a + (m - a) ≡ m + m
-    z m a h = omega arith
-neg-key f (fin false n d) q = z (mid f) (mag f (fin false n d)) (mag-lt f false n d (q .fit))
-  where
-    z : (m a : ℕ) → a < m → m - a + (m + a) ≡ m + m
-    z m a h = omega arith
-
-pub rounded-shift : (f : Format) (p n q m c : ℕ) → 0 < c → p + m ≡ q + n → rounded f p n c ≡ rounded f q m c
-rounded-shift f p n q m c C h = rounded-same f p n c q m c C C (sym (add-mul p m c) ∙ ap (λ (k : ℕ). k * c) h ∙ add-mul q n c)
+neg-key f (fin true n d) q = omega (arith, mag-lt f true n d (q .fit))
+neg-key f (fin false n d) q = omega (arith, mag-lt f false n d (q .fit))
 
 sub-opens : (f : Format) (x y : Float) → sub f x y ≡ add f x (neg y)
 unfolding sub
 sub-opens f x y = refl
 
 pub sub-is : (f : Format) (x y : Float) → NumberIn f x → FiniteIn f y → sub f x y ≡ rounded f (key f x) (key f y) (unit f)
-sub-is f x y p q = sub-opens f x y ∙ add-is f x (neg y) p (neg-fin f y q) ∙ rounded-shift f (key f x + key f (neg y)) (mid f + mid f) (key f x) (key f y) (unit f) (unit-pos f) (z (key f x) (key f (neg y)) (key f y) (mid f + mid f) (neg-key f y q))
+sub-is f x y p q = sub-opens f x y ∙ add-is f x (neg y) p (neg-fin f y q) ∙ rounded-shift f (key f x + key f (neg y)) (mid f + mid f) (key f x) (key f y) (unit f) (z (key f x) (key f (neg y)) (key f y) (mid f + mid f) (neg-key f y q))
   where
     z : (x n y m : ℕ) → n + y ≡ m → x + n + y ≡ x + m
     z x n y m h = omega arith
 
 pub sub-key : (f : Format) (x y : Float) → FiniteIn f x → FiniteIn f y → key f (sub f x y) ≡ key f (rounded f (key f x) (key f y) (unit f))
-sub-key f x y p q = ap (key f) (sub-opens f x y) ∙ add-key f x (neg y) p (neg-fin f y q) ∙ ap (key f) (rounded-shift f (key f x + key f (neg y)) (mid f + mid f) (key f x) (key f y) (unit f) (unit-pos f) (z (key f x) (key f (neg y)) (key f y) (mid f + mid f) (neg-key f y q)))
-  where
-    z : (x n y m : ℕ) → n + y ≡ m → x + n + y ≡ x + m
-    z x n y m h = omega arith
+sub-key f x y p q = ap (key f) (sub-opens f x y) ∙ add-key f x (neg y) p (neg-fin f y q) ∙ ap (key f) (rounded-shift f (key f x + key f (neg y)) (mid f + mid f) (key f x) (key f y) (unit f) (omega (arith, neg-key f y q)))
 
 -- ---- the quotient by a number above zero
 -- A / B is X / Y where A and B are X and Y times D / u
@@ -311,10 +287,7 @@ pub share : (f : Format) (t y : Float) → NumberIn f t → FiniteIn f y → mid
 unfolding key
 share f nan y p q h k = absurd (p .isFinite)
 share f (inf s) y p q h k = absurd (p .isFinite)
-share f (fin true m e) y p q h k = absurd (z (mid f) (mag f (fin true m e)) (mag-pos f true m e (p .fit) (ltb→lt 0 m (p .plus))) (mid-pos f) h)
-  where
-    z : (m a : ℕ) → 0 < a → 0 < m → m ≤ m - a → ⊥
-    z m a h k l = omega arith
+share f (fin true m e) y p q h k = absurd (omega (arith, mag-pos f true m e (p .fit) (ltb→lt 0 m (p .plus)), mid-pos f))
 share f (fin false m e) y p q h k = go (negative y) (mul-key f (fin false m e) y (fin-of p) q) (mag-le-near f y (mag f (fin false m e)) q (z (mid f) (mag f (fin false m e)) (unit f) k)) (near-le f (mag f (fin false m e) * mag f y) (unit f * unit f))
   where
     z : (m a u : ℕ) → m + a ≤ m + u → a ≤ u

@@ -64,11 +64,8 @@ finite-bits n = same-bool (finite (ofFields binary64 (leb 9223372036854775808 n)
     y : (a : ℕ) → a < 9218868437227405312 → a / 4503599627370496 < 2047
     y a h = omega arith
 
-    w : (a : ℕ) → a < 9223372036854775808 → 9218868437227405312 ≤ a → a / 4503599627370496 ≡ 2047
-    w a h k = omega arith
-
     z : (a : ℕ) → a < 9223372036854775808 → (a / 4503599627370496 ≡ 2047 → ⊥) → a < 9218868437227405312
-    z a h k = native.Mathlib.Nat.lt-of-not-le (λ (g : 9218868437227405312 ≤ a). k (w a h g))
+    z a h k = native.Mathlib.Nat.lt-of-not-le (λ (g : 9218868437227405312 ≤ a). k (omega arith))
 
 finite-not-nan : (x : Float) → T (finite x) → T (not (isNan x))
 unfolding isNan

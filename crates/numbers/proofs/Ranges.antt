@@ -13,8 +13,8 @@ use lib.Ieee.Exact.{HasValue}
 use lib.Ieee.Back.{round-whole}
 use lib.Ieee.Scale.{finite}
 use Rattle.numbers.proofs.Keys.{mid, unit, mag, negative, shift, key, FiniteIn, NumberIn, fin-of, unit-pos, mid-pos, mag-le, mag-pos, finite-real, lt→key, le→key, key-inj, nlt→key}
-use Rattle.numbers.proofs.Rounding.{rounded, rounded-mono-same, rounded-key, rounded-num, near, near-exact, near-mono, key-pos, key-neg, order}
-use Rattle.numbers.proofs.Operations.{add-is, sub-is, rounded-shift, mul-key, mul-real}
+use Rattle.numbers.proofs.Rounding.{rounded, rounded-shift, rounded-mono-same, rounded-key, rounded-num, near, near-exact, near-mono, key-pos, key-neg, order}
+use Rattle.numbers.proofs.Operations.{add-is, sub-is, mul-key, mul-real}
 use Rattle.numbers.proofs.Bounds.{Within, value-key, near-whole, within-finite}
 
 -- ---- a number rounded is itself
@@ -42,10 +42,10 @@ sub-between f x y lo hi p q L H h k = rw (sub-is f x y p q) (rounded-between f (
 
 -- ---- exact sums and differences
 pub add-exact : (f : Format) (x y z : Float) → NumberIn f x → FiniteIn f y → NumberIn f z → key f x + key f y ≡ key f z + mid f → add f x y ≡ z
-add-exact f x y z p q r h = add-is f x y p q ∙ rounded-shift f (key f x + key f y) (mid f + mid f) (key f z) (mid f) (unit f) (unit-pos f) (omega arith) ∙ rounded-self f z r
+add-exact f x y z p q r h = add-is f x y p q ∙ rounded-shift f (key f x + key f y) (mid f + mid f) (key f z) (mid f) (unit f) (omega arith) ∙ rounded-self f z r
 
 pub sub-exact : (f : Format) (x y z : Float) → NumberIn f x → FiniteIn f y → NumberIn f z → key f x + mid f ≡ key f z + key f y → sub f x y ≡ z
-sub-exact f x y z p q r h = sub-is f x y p q ∙ rounded-shift f (key f x) (key f y) (key f z) (mid f) (unit f) (unit-pos f) h ∙ rounded-self f z r
+sub-exact f x y z p q r h = sub-is f x y p q ∙ rounded-shift f (key f x) (key f y) (key f z) (mid f) (unit f) h ∙ rounded-self f z r
 
 -- a sum or a difference that is a count of 2 ^ j units, of prec digits at most, is exact
 pub rounded-grid-pos : (f : Format) (p n q j : ℕ) → q < 2 ^ prec f → q * 2 ^ j < mid f → p ≡ n + q * 2 ^ j → key f (rounded f p n (unit f)) ≡ mid f + q * 2 ^ j
@@ -120,10 +120,7 @@ pub nonneg-minus : (f : Format) (x : Float) → NumberIn f x → mid f ≤ key f
 unfolding key
 nonneg-minus f nan p h = absurd (p .isFinite)
 nonneg-minus f (inf s) p h = absurd (p .isFinite)
-nonneg-minus f (fin true m e) p h = absurd (z (mid f) (mag f (fin true m e)) (mag-pos f true m e (p .fit) (ltb→lt 0 m (p .plus))) (mid-pos f) h)
-  where
-    z : (m a : ℕ) → 0 < a → 0 < m → m ≤ m - a → ⊥
-    z m a h k l = omega arith
+nonneg-minus f (fin true m e) p h = absurd (omega (arith, mag-pos f true m e (p .fit) (ltb→lt 0 m (p .plus)), mid-pos f))
 nonneg-minus f (fin false m e) p h = (refl, refl)
 
 -- numbers that are not negative: the product grows with each factor
@@ -192,7 +189,4 @@ div-within f a k x y p q w h u l = (record { fit = lib.Ieee.Fits.div-fits f x y;
 
 -- the whole part of a bounded value
 pub floor-within : (f : Format) (w n : ℕ) (x : Float) → FiniteIn f x → Within f n x → w ≤ suc (emax f) → toUnsigned w x ≤ n
-floor-within f w n x p b h = le-of-suc-le-suc (Rattle.numbers.proofs.RoundDown.floor-lt f w x (suc n) (p .fit) (finite-real x (p .isFinite)) h (native.Mathlib.Nat.zero-lt-suc n) (subst (λ (k : ℕ). key f x < mid f + k) (sym (native.Mathlib.Nat.suc-mul n (unit f))) (z (mid f) (key f x) (n * unit f) (unit f) (b .atMost) (unit-pos f))))
-  where
-    z : (m k a u : ℕ) → k ≤ m + a → 0 < u → k < m + (a + u)
-    z m k a u h g = omega arith
+floor-within f w n x p b h = le-of-suc-le-suc (Rattle.numbers.proofs.RoundDown.floor-lt f w x (suc n) (p .fit) (finite-real x (p .isFinite)) h (native.Mathlib.Nat.zero-lt-suc n) (subst (λ (k : ℕ). key f x < mid f + k) (sym (native.Mathlib.Nat.suc-mul n (unit f))) (omega (arith, b .atMost, unit-pos f))))

@@ -16,55 +16,37 @@ use Rattle.numbers.proofs.Bounds.{value-key}
 
 floor-fin : (f : Format) (m : ℕ) (e : ℤ) → T (fits f (fin false m e)) → m * up e / down e ≡ (key f (fin false m e) - mid f) / unit f
 unfolding key
-floor-fin f m e p = Nearest.div-same (m * up e) (down e) (mag f (fin false m e)) (unit f) (down-pos e) (unit-pos f) (sym (mag-exact f false m e p)) ∙ ap (λ (k : ℕ). k / unit f) (z (mid f) (mag f (fin false m e)))
-  where
-    z : (m a : ℕ) → a ≡ m + a - m
-    z m a = omega arith
+floor-fin f m e p = Nearest.div-same (m * up e) (down e) (mag f (fin false m e)) (unit f) (down-pos e) (unit-pos f) (sym (mag-exact f false m e p)) ∙ ap (λ (k : ℕ). k / unit f) (omega arith)
 
 mid-over : (f : Format) → mid f / unit f ≡ 2 ^ suc (emax f)
 unfolding mid unit
 mid-over f = ap (λ (k : ℕ). k / 2 ^ low f) (pow-add 2 (low f) (suc (emax f)) ∙ mul-comm (2 ^ low f) (2 ^ suc (emax f))) ∙ mul-div-cancel (2 ^ suc (emax f)) (pow-pos (low f))
 
 nothing : (u c k m : ℕ) → k ≤ m → 0 ≡ min ((k - m) / u) c
-nothing u c k m h = z ((k - m) / u) c (ap (λ (r : ℕ). r / u) (y k m h) ∙ zero-div u)
+nothing u c k m h = omega (arith, ap (λ (r : ℕ). r / u) (y k m h) ∙ zero-div u)
   where
     y : (k m : ℕ) → k ≤ m → k - m ≡ 0
     y k m h = omega arith
-
-    z : (a c : ℕ) → a ≡ 0 → 0 ≡ min a c
-    z a c h = omega arith
 
 -- Rust's `as` to an unsigned integer of w bits is the whole part of the key above `mid`, cut at the largest
 pub floor-is : (f : Format) (w : ℕ) (x : Float) → T (fits f x) → T (real x) → w ≤ suc (emax f) → toUnsigned w x ≡ min ((key f x - mid f) / unit f) (2 ^ w - 1)
 unfolding toUnsigned key mag
 floor-is f w nan p r h = absurd r
-floor-is f w (inf true) p r h = nothing (unit f) (2 ^ w - 1) (mid f - mid f) (mid f) (z (mid f))
-  where
-    z : (m : ℕ) → m - m ≤ m
-    z m = omega arith
-floor-is f w (inf false) p r h = z ((mid f + mid f - mid f) / unit f) (2 ^ w) (2 ^ suc (emax f)) (ap (λ (k : ℕ). k / unit f) (y (mid f)) ∙ mid-over f) (pow-mono h)
+floor-is f w (inf true) p r h = nothing (unit f) (2 ^ w - 1) (mid f - mid f) (mid f) (omega arith)
+floor-is f w (inf false) p r h = omega (arith, ap (λ (k : ℕ). k / unit f) (y (mid f)) ∙ mid-over f, pow-mono h)
   where
     y : (m : ℕ) → m + m - m ≡ m
     y m = omega arith
-
-    z : (a b c : ℕ) → a ≡ c → b ≤ c → b - 1 ≡ min a (b - 1)
-    z a b c h k = omega arith
-floor-is f w (fin true m e) p r h = nothing (unit f) (2 ^ w - 1) (mid f - mag f (fin true m e)) (mid f) (z (mid f) (mag f (fin true m e)))
-  where
-    z : (m a : ℕ) → m - a ≤ m
-    z m a = omega arith
+floor-is f w (fin true m e) p r h = nothing (unit f) (2 ^ w - 1) (mid f - mag f (fin true m e)) (mid f) (omega arith)
 floor-is f w (fin false m e) p r h = ap (λ (k : ℕ). min k (2 ^ w - 1)) (floor-fin f m e p)
 
 pub floor-mono : (f : Format) (w : ℕ) (x y : Float) → T (fits f x) → T (fits f y) → T (real x) → T (real y) → w ≤ suc (emax f) → key f x ≤ key f y → toUnsigned w x ≤ toUnsigned w y
 floor-mono f w x y p q r u h k =
     subst (λ (z : ℕ). z ≤ toUnsigned w y) (sym (floor-is f w x p r h)) (subst (λ (z : ℕ). min ((key f x - mid f) / unit f) (2 ^ w - 1) ≤ z) (sym (floor-is f w y q u h))
-    (z ((key f x - mid f) / unit f) ((key f y - mid f) / unit f) (2 ^ w - 1) (Nearest.div-mono (key f x - mid f) (unit f) (key f y - mid f) (unit f) (unit-pos f) (unit-pos f) (mul-le-mul-right (unit f) (y' (key f x) (key f y) (mid f) k)))))
+    (z ((key f x - mid f) / unit f) ((key f y - mid f) / unit f) (2 ^ w - 1) (Nearest.div-mono (key f x - mid f) (unit f) (key f y - mid f) (unit f) (unit-pos f) (unit-pos f) (mul-le-mul-right (unit f) (omega arith)))))
   where
     z : (a b c : ℕ) → a ≤ b → min a c ≤ min b c
     z a b c h = omega arith
-
-    y' : (a b m : ℕ) → a ≤ b → a - m ≤ b - m
-    y' a b m h = omega arith
 
 -- what a test of x against a whole number n says of its whole part
 pub floor-ge : (f : Format) (w : ℕ) (x : Float) (n : ℕ) → T (fits f x) → T (real x) → w ≤ suc (emax f) → n ≤ 2 ^ w - 1 → mid f + n * unit f ≤ key f x → n ≤ toUnsigned w x
@@ -128,10 +110,7 @@ floor-high x p h =
     z a b e h = omega arith
 
 below-one : (x : Float) → T (fits binary64 x) → T (real x) → T (not (le one x)) → 0 ≡ toUnsigned 64 x
-below-one x p r h = z (toUnsigned 64 x) (floor-lt binary64 64 x 1 p r (lib.Dec.lit≤ tt) (lib.Dec.lit< tt) (below-whole 1 one x (unfold fits in tt) p (refl, refl) r h))
-  where
-    z : (a : ℕ) → a < 1 → 0 ≡ a
-    z a h = omega arith
+below-one x p r h = omega (arith, floor-lt binary64 64 x 1 p r (lib.Dec.lit≤ tt) (lib.Dec.lit< tt) (below-whole 1 one x (unfold fits in tt) p (refl, refl) r h))
 
 pub floor-low : (x : Float) → T (fits binary64 x) → T (not (le one x)) → 0 ≡ toUnsigned 64 x
 floor-low nan p h = unfold toUnsigned in refl
@@ -146,9 +125,6 @@ pub floor-casts : (x : Float) → T (fits binary64 x) → T (le one x) → T (no
 floor-casts x p h k =
     let r = le-real one x h in
     let l = below-whole 18446744073709551616 limit x (unfold fits in tt) p (refl, refl) r k in (
-      key→lt binary64 (fin true 1 (pos 0)) x (unfold fits in tt) p tt r (subst (λ (a : ℕ). a < key binary64 x) (sym minus-one) (z (mid binary64) (unit binary64) (key binary64 x) (unit-pos binary64) (mid-pos binary64) (from-whole 1 one x (unfold fits in tt) p (refl, refl) h))),
+      key→lt binary64 (fin true 1 (pos 0)) x (unfold fits in tt) p tt r (subst (λ (a : ℕ). a < key binary64 x) (sym minus-one) (omega (arith, unit-pos binary64, mid-pos binary64, from-whole 1 one x (unfold fits in tt) p (refl, refl) h))),
       key→lt binary64 x limit p (unfold fits in tt) r tt (subst (λ (a : ℕ). key binary64 x < a) (sym (value-key binary64 limit false 18446744073709551616 (unfold fits in tt) (refl, refl))) l),
     )
-  where
-    z : (m u k : ℕ) → 0 < u → 0 < m → m + 1 * u ≤ k → m - 1 * u < k
-    z m u k a b c = omega arith
