@@ -1,0 +1,52 @@
+#!/usr/bin/env bash
+# run.sh N SEED: generates N jobs and compares on each the lifted planner, the
+# planner with rooms and the plain planner, in the whole plan and in a drawn
+# order; the oracle's reader with that of bits.py, on these jobs and on every
+# job of 0 to 2 bytes; and the program `plan`, where there is one (PLAN=path,
+# or under target/), byte for byte. SHORT=yes runs `plan` on the short jobs too.
+set -u
+here=$(cd "$(dirname "${BASH_SOURCE[0]}")" && pwd)
+if [ $# != 2 ]; then
+    sed -n '2,6s/^# //p' "$0" >&2
+    exit 2
+fi
+n=$1 seed=$2
+build=$here/build oracle=$here/build/oracle
+if [ ! -x "$oracle" ] || [ -n "$(find "$here/src" "$here/lift.py" -newer "$oracle")" ]; then
+    "$here/build.sh" || exit 1
+fi
+plan=${PLAN:-$(find "$here/../target" -type f -name plan -perm -u+x 2>/dev/null | head -n 1)}
+differ=0
+
+# Runs a command that ends with '.., D disagreements' and adds D.
+count() {
+    local text last
+    text=$("$@")
+    last=$(tail -n 1 <<<"$text")
+    if [[ $last =~ ,\ ([0-9]+)\ disagreements$ ]]; then
+        differ=$((differ + BASH_REMATCH[1]))
+    else
+        differ=$((differ + 1))
+    fi
+    printf '%s\n\n' "$text"
+}
+
+python3 "$here/gen.py" "$build/jobs" "$n" "$seed" || exit 1
+python3 "$here/gen.py" --short "$build/short" || exit 1
+
+echo "whole plans${plan:+, and $plan}"
+count "$oracle" --batch "$build/jobs" --out "$build/answers" ${plan:+--plan "$plan"}
+echo "fillings in a drawn order"
+count "$oracle" --batch "$build/jobs" --shuffle "$seed"
+echo "reader on the same jobs"
+"$oracle" --batch "$build/jobs" --answer --out "$build/readings" >/dev/null
+count python3 "$here/gen.py" --check "$build/jobs" "$build/readings"
+echo "reader on every job of 0 to 2 bytes"
+count "$oracle" --batch "$build/short" --answer --out "$build/readings"
+count python3 "$here/gen.py" --check "$build/short" "$build/readings"
+if [ -n "$plan" ] && [ "${SHORT:-}" = yes ]; then
+    echo "$plan on every job of 0 to 2 bytes"
+    count "$oracle" --batch "$build/short" --plan "$plan"
+fi
+echo "$n jobs, $differ disagreements"
+[ $differ = 0 ]

@@ -1,0 +1,117 @@
+//! The smaller questions: strips of a set, the not-a-number hatch, timing.
+use crate::compare::same_strips;
+use crate::job::{read_set, Job, Loops, Orientation, Part};
+use crate::nesting::{Layout, Plan};
+use crate::print::{self, hexes, refusal};
+use crate::probed::lifted::reach::{set_bounds, strips};
+use crate::timed;
+use std::time::Instant;
+
+/// `--strips`: the lifted strips of a set, and its bounds.
+pub fn strips_text(bytes: &[u8], sheet: bool) -> Result<String, String> {
+    let set = match read_set(bytes) {
+        Err(n) => return Ok(refusal(n)),
+        Ok(set) => set,
+    };
+    same_strips(&set, sheet)?;
+    Ok(set_text(&set, sheet))
+}
+
+fn set_text(set: &Loops, sheet: bool) -> String {
+    let mut out = String::new();
+    for s in strips(set, sheet) {
+        out += &format!("strip {}\n", hexes(&s));
+    }
+    out + &format!("bounds {}\n", hexes(&set_bounds(set)))
+}
+
+/// `--time N`: the least nanoseconds of N runs of the lifted code: preparing
+/// shapes and sheet, one filling, the lines of `nest`.
+pub fn time(job: &Job, runs: u32) -> String {
+    let signal = timed::Signal;
+    let order = crate::nesting::copy_order(job);
+    let mut least = [u128::MAX; 3];
+    for _ in 0..runs.max(1) {
+        let mut mark = Instant::now();
+        let mut lap = |i: usize| {
+            least[i] = least[i].min(mark.elapsed().as_nanos());
+            mark = Instant::now();
+        };
+        let planner = timed::lifted::reach::Lifted::new(job, &signal);
+        lap(0);
+        let filled = planner.fill(&order);
+        lap(1);
+        let nested = planner.nest(job);
+        lap(2);
+        std::hint::black_box((filled, nested));
+    }
+    format!("prepare {}\nfill {}\nnest {}\n", least[0], least[1], least[2])
+}
+
+/// `--lifted-only`: the plan by the lifted code alone, without look lines,
+/// rooms or comparison.
+pub fn lifted_text(job: &Job) -> String {
+    let nested = timed::lifted::reach::Lifted::new(job, &timed::Signal).nest(job);
+    let filled = nested.filled;
+    let looks = vec![];
+    let (placed, right, unplaced_area) = (filled.placed, filled.right, filled.unplaced_area);
+    let layout = Layout { placed, unplaced_area, right, looks };
+    let (order, improvements, state) = (nested.order, nested.improvements, nested.state);
+    print::plan(job, &Plan { order, layout, improvements, state, kept: 0 })
+}
+
+fn rectangle(width: f64, height: f64) -> Loops {
+    vec![vec![[0.0, 0.0], [width, 0.0], [width, height], [0.0, height]]]
+}
+
+fn kind(set: Loops, area: f64, priority: i32) -> Part {
+    let orientations = vec![Orientation { apart: set.clone(), inset: set }];
+    Part { quantity: 1, fill: false, priority, area, orientations }
+}
+
+/// Strips of a set as decimal numbers: x0..x1, low, high at both ends.
+fn plain_text(set: &Loops) -> String {
+    let mut out = String::new();
+    for s in strips(set, false) {
+        let [x0, x1, l0, l1, h0, h1] = s;
+        out += &format!("  strip {x0}..{x1} low {l0} {l1} high {h0} {h1}\n");
+    }
+    out + &format!("  bounds {:?}\n", set_bounds(set))
+}
+
+/// `--nan-hatch`: what the lifted code makes of a 4 × 3 hatch with
+/// not-a-number in a corner, and where a 2 × 2 plate is then put. No job can
+/// say this: the reader refuses it with 4.
+pub fn nan_hatch() -> String {
+    let clean = rectangle(4.0, 3.0);
+    let mut out = format!("clean\n{}", plain_text(&clean));
+    out += &plate(clean.clone());
+    for corner in 0..4 {
+        for axis in 0..2 {
+            let mut hatch = clean.clone();
+            hatch[0][corner][axis] = f64::NAN;
+            let [x, y] = clean[0][corner];
+            out += &format!("NaN for {} of ({x},{y})\n", ["x", "y"][axis]);
+            out += &plain_text(&hatch);
+            out += &plate(hatch);
+        }
+    }
+    out
+}
+
+/// Hatch and plate on a 10 × 6 sheet, by the lifted planner.
+fn plate(hatch: Loops) -> String {
+    let parts = vec![kind(hatch, 12.0, 1), kind(rectangle(2.0, 2.0), 4.0, 0)];
+    let sheet = rectangle(10.0, 6.0);
+    let job = Job { search_iterations: 0, seed: 0, resolution: 1.0, sheet, parts };
+    let nested = timed::lifted::reach::Lifted::new(&job, &timed::Signal).nest(&job);
+    let mut out = String::new();
+    for p in nested.placements {
+        let name = ["hatch", "plate"][p.part];
+        let [x, y] = p.translation_mm;
+        let over = p.part == 1 && x < 4.0 && y < 3.0;
+        let note = if over { ": over the hatch as drawn" } else { "" };
+        out += &format!("  {name} at ({x}, {y}){note}\n");
+    }
+    out
+}

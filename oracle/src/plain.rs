@@ -1,0 +1,148 @@
+//! The plain planner by hand from document 01: every search begins at column
+//! zero and holds the copy against every standing strip. No index, no rooms.
+use crate::filling::{ranges, Place, Ranges};
+use crate::job::Job;
+use crate::strips::{bounds, forbidden, moved, trapezoids, Strip};
+
+/// One orientation, with its searches so far.
+struct Slot {
+    bounds: [f64; 4],
+    apart: Vec<Strip>,
+    inset: Vec<Strip>,
+    /// Nothing where a range is reversed.
+    ranges: Option<Ranges>,
+    /// The last column found, finds, and whether a search found none.
+    found: Option<usize>,
+    finds: u64,
+    none: bool,
+}
+
+impl Slot {
+    /// Demand 3's look count.
+    fn looks(&self) -> u64 {
+        match (&self.ranges, self.none, self.found) {
+            (Some(r), true, _) => r.last as u64 + 1 + self.finds,
+            (Some(_), false, Some(column)) => column as u64 + self.finds,
+            _ => 0,
+        }
+    }
+}
+
+pub struct Plain {
+    pub placed: Vec<Place>,
+    pub unplaced_area: f64,
+    pub right: f64,
+    pub looks: Vec<u64>,
+}
+
+/// What a search holds copies against, and the work that is left.
+struct Sheet {
+    resolution: f64,
+    strips: Vec<Strip>,
+    standing: Vec<Strip>,
+    work: u64,
+}
+
+/// The smallest height from y_low on in no forbidden interval: raised to the
+/// top of an interval that holds it until none does.
+fn height(intervals: &[(f64, f64)], y_low: f64) -> f64 {
+    let mut y = y_low;
+    loop {
+        let before = y;
+        for &(low, high) in intervals {
+            if low < y && y < high {
+                y = high;
+            }
+        }
+        if y == before {
+            return y;
+        }
+    }
+}
+
+impl Sheet {
+    /// All forbidden intervals of the copy at x, counted or not.
+    fn intervals(&self, slot: &Slot, x: f64, out: &mut Vec<(f64, f64)>) {
+        out.clear();
+        for q in &slot.inset {
+            out.extend(self.strips.iter().filter_map(|p| forbidden(p, q, x)));
+        }
+        for q in &slot.apart {
+            out.extend(self.standing.iter().filter_map(|p| forbidden(p, q, x)));
+        }
+    }
+
+    /// The first column from 0 on with a free height; an error where the work
+    /// is used up.
+    fn search(&mut self, slot: &Slot, r: &Ranges) -> Result<Option<(usize, f64, f64)>, ()> {
+        let pairs = slot.inset.len() * self.strips.len() + slot.apart.len() * self.standing.len();
+        let mut intervals = vec![];
+        for column in 0..=r.last {
+            self.work = self.work.checked_sub(pairs as u64 + 1).ok_or(())?;
+            let x = r.x(column, self.resolution);
+            self.intervals(slot, x, &mut intervals);
+            let y = height(&intervals, r.ys.0);
+            if y <= r.ys.1 {
+                return Ok(Some((column, x, y)));
+            }
+        }
+        Ok(None)
+    }
+
+    /// Seeks in each orientation; the smallest x + b2, then y + b3, then the
+    /// first listed wins.
+    fn seek(&mut self, slots: &mut [Slot]) -> Result<Option<(f64, usize, f64, f64)>, ()> {
+        let mut best: Option<(f64, f64, usize, f64, f64)> = None;
+        for (o, slot) in slots.iter_mut().enumerate() {
+            let Some(r) = slot.ranges.take() else { continue };
+            let found = self.search(slot, &r);
+            slot.ranges = Some(r);
+            let Some((column, x, y)) = found? else {
+                slot.none = true;
+                continue;
+            };
+            slot.found = Some(column);
+            slot.finds += 1;
+            let (right, top) = (x + slot.bounds[2], y + slot.bounds[3]);
+            if best.is_none_or(|b| right < b.0 || (right == b.0 && top < b.1)) {
+                best = Some((right, top, o, x, y));
+            }
+        }
+        Ok(best.map(|(right, _, o, x, y)| (right, o, x, y)))
+    }
+}
+
+fn slots(job: &Job, s: &[f64; 4]) -> Vec<Vec<Slot>> {
+    let slot = |o: &crate::job::Orientation| Slot {
+        bounds: bounds(&o.inset),
+        apart: trapezoids(&o.apart, false),
+        inset: trapezoids(&o.inset, false),
+        ranges: ranges(s, &bounds(&o.inset), job.resolution),
+        found: None,
+        finds: 0,
+        none: false,
+    };
+    job.parts.iter().map(|p| p.orientations.iter().map(slot).collect()).collect()
+}
+
+/// The filling in an order; nothing where it takes more than `work` pairs.
+pub fn plain(job: &Job, order: &[usize], work: u64) -> Option<Plain> {
+    let s = bounds(&job.sheet);
+    let strips = trapezoids(&job.sheet, true);
+    let mut sheet = Sheet { resolution: job.resolution, strips, standing: vec![], work };
+    let mut slots = slots(job, &s);
+    let mut result = Plain { placed: vec![], unplaced_area: 0.0, right: s[0], looks: vec![] };
+    for &kind in order {
+        let Some((right, o, x, y)) = sheet.seek(&mut slots[kind]).ok()? else {
+            result.unplaced_area += job.parts[kind].area;
+            result.placed.push(None);
+            continue;
+        };
+        let copy = slots[kind][o].apart.iter().map(|p| moved(p, x, y));
+        sheet.standing.extend(copy);
+        result.right = if right > result.right { right } else { result.right };
+        result.placed.push(Some((o, x, y)));
+    }
+    result.looks = slots.iter().flatten().map(Slot::looks).collect();
+    Some(result)
+}

@@ -1,0 +1,153 @@
+//! The door to the lifted items, which are private: a module inside theirs.
+use super::*;
+use crate::job::Loops;
+
+pub type Strip = [f64; 6];
+
+/// A place: orientation, x, y; none where a copy did not fit.
+pub type Place = Option<(usize, f64, f64)>;
+
+fn strip(p: &Trapezoid) -> Strip {
+    [p.x0, p.x1, p.low[0], p.low[1], p.high[0], p.high[1]]
+}
+
+/// The lifted `trapezoids`, of a part or of the rest of a sheet's box.
+pub fn strips(loops: &Loops, sheet: bool) -> Vec<Strip> {
+    let frame = sheet.then(|| bounds(loops));
+    trapezoids(loops, frame).iter().map(strip).collect()
+}
+
+/// The lifted `bounds`.
+pub fn set_bounds(loops: &Loops) -> [f64; 4] {
+    bounds(loops)
+}
+
+/// The lifted `next_random`.
+pub fn next(state: &mut u64) -> u64 {
+    next_random(state)
+}
+
+/// What a filling gives.
+pub struct Filled {
+    pub placed: Vec<Place>,
+    pub unplaced_area: f64,
+    pub right: f64,
+}
+
+/// What the lines of `nest` give.
+pub struct Nested {
+    pub order: Vec<usize>,
+    pub filled: Filled,
+    pub improvements: u32,
+    pub state: u64,
+    pub copies: Vec<u32>,
+    pub placements: Vec<Placement>,
+    pub unplaced: Vec<Unplaced>,
+}
+
+fn filled(layout: Layout) -> Filled {
+    Filled {
+        placed: layout.placed,
+        unplaced_area: layout.unplaced_area,
+        right: layout.right,
+    }
+}
+
+/// The lifted planner of a job, and an index of its own for single looks.
+pub struct Lifted<'a> {
+    planner: Planner<'a, Signal>,
+    placed_parts: Index,
+    intervals: Vec<(f64, f64)>,
+}
+
+impl<'a> Lifted<'a> {
+    /// Shapes, sheet and bounds as `nest` prepares them, from ready loops.
+    pub fn new(job: &Job, cancel: &'a Signal) -> Self {
+        let sheet_bounds = bounds(&job.sheet);
+        let mut sheet = Index::new(sheet_bounds[0], sheet_bounds[2]);
+        for piece in trapezoids(&job.sheet, Some(sheet_bounds)) {
+            sheet.add(piece);
+        }
+        let mut shapes = vec![];
+        for (kind, part) in job.parts.iter().enumerate() {
+            let mut list = vec![];
+            for (o, orientation) in part.orientations.iter().enumerate() {
+                list.push(Shape {
+                    rotation_deg: o as f64,
+                    mirrored: false,
+                    apart: trapezoids(&orientation.apart, None),
+                    inset_bounds: bounds(&orientation.inset),
+                    inset: trapezoids(&orientation.inset, None),
+                });
+            }
+            shapes.push(orientations(kind, list, cancel));
+        }
+        let planner = Planner {
+            shapes,
+            areas: job.parts.iter().map(|p| p.area).collect(),
+            sheet,
+            sheet_bounds,
+            resolution: job.resolution,
+            cancel,
+        };
+        let placed_parts = Index::new(sheet_bounds[0], sheet_bounds[2]);
+        Self { planner, placed_parts, intervals: vec![] }
+    }
+
+    /// The lifted lines of `nest`.
+    pub fn nest(&self, job: &Job) -> Nested {
+        let p = planned(job, &self.planner, &Frame).expect("never cancelled");
+        Nested {
+            order: p.order,
+            filled: filled(p.best),
+            improvements: p.improvements,
+            state: p.state,
+            copies: p.copies,
+            placements: p.placements,
+            unplaced: p.unplaced,
+        }
+    }
+
+    /// The lifted `fill`.
+    pub fn fill(&self, order: &[usize]) -> Filled {
+        filled(self.planner.fill(order).expect("never cancelled"))
+    }
+
+    /// Begins a filling by single looks.
+    pub fn clear(&mut self) {
+        let b = self.planner.sheet_bounds;
+        self.placed_parts = Index::new(b[0], b[2]);
+    }
+
+    /// The lifted lines of one look: x, the lowest y in no interval, and how
+    /// many intervals were listed.
+    pub fn look(
+        &mut self,
+        (kind, o): (usize, usize),
+        columns: (usize, usize),
+        xs: (f64, f64),
+        ys: (f64, f64),
+    ) -> (f64, f64, usize) {
+        let shape = &self.planner.shapes[kind][o];
+        let out = &mut self.intervals;
+        let (x, y) = self.planner.look(shape, &self.placed_parts, columns, xs, ys, out);
+        (x, y, self.intervals.len())
+    }
+
+    /// Enters a placed copy's strips.
+    pub fn place(&mut self, (kind, o): (usize, usize), x: f64, y: f64) {
+        for piece in &self.planner.shapes[kind][o].apart {
+            self.placed_parts.add(piece.moved(x, y));
+        }
+    }
+
+    /// The standing strips entered so far, and the index's lists in a row.
+    pub fn standing(&self) -> (Vec<Strip>, Vec<u64>) {
+        let index = &self.placed_parts;
+        let entries = index.buckets.iter().flatten().map(|&id| id as u64);
+        (index.pieces.iter().map(strip).collect(), entries.collect())
+    }
+    pub fn sheet_entries(&self) -> Vec<u64> {
+        self.planner.sheet.buckets.iter().flatten().map(|&id| id as u64).collect()
+    }
+}

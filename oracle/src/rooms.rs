@@ -1,0 +1,96 @@
+//! The lent rooms: their records, sizes and contents.
+use crate::strips::Strip;
+
+// Slots of one record in each kind of room.
+pub const STRIP: usize = 6; // doubles
+pub const ENTRY: usize = 1; // strip number
+pub const INTERVAL: usize = 2; // doubles: low, high
+pub const POSITION: usize = 5; // doubles: kind, copy, orientation, x, y
+
+/// Lengths of the rooms in slots.
+#[derive(Clone)]
+pub struct Sizes {
+    pub shapes: usize,
+    pub sheet: usize,
+    pub placed: usize,
+    pub sheet_entries: usize,
+    pub placed_entries: usize,
+    pub intervals: usize,
+    pub positions: usize,
+}
+
+impl Sizes {
+    /// What `plan` lends.
+    pub fn plan() -> Self {
+        Self::records(1365, 16384, 4096, 4096)
+    }
+
+    /// More than a generated job needs.
+    pub fn ample() -> Self {
+        Self::records(400_000, 4_000_000, 1_000_000, 4096)
+    }
+
+    fn records(strips: usize, entries: usize, intervals: usize, positions: usize) -> Self {
+        Self {
+            shapes: strips * STRIP,
+            sheet: strips * STRIP,
+            placed: strips * STRIP,
+            sheet_entries: entries * ENTRY,
+            placed_entries: entries * ENTRY,
+            intervals: intervals * INTERVAL,
+            positions: positions * POSITION,
+        }
+    }
+
+    /// Seven numbers with commas, in the order of the fields.
+    pub fn parse(text: &str) -> Option<Self> {
+        let n: Vec<usize> = text.split(',').map(|t| t.parse().ok()).collect::<Option<_>>()?;
+        let [shapes, sheet, placed, sheet_entries, placed_entries, intervals, positions] = n[..]
+        else {
+            return None;
+        };
+        Some(Self { shapes, sheet, placed, sheet_entries, placed_entries, intervals, positions })
+    }
+}
+
+pub struct Rooms {
+    pub shapes: Vec<f64>,
+    pub sheet: Vec<f64>,
+    pub placed: Vec<f64>,
+    pub sheet_entries: Vec<u64>,
+    pub placed_entries: Vec<u64>,
+    pub intervals: Vec<f64>,
+    pub positions: Vec<f64>,
+}
+
+impl Rooms {
+    pub fn new(sizes: &Sizes) -> Self {
+        Self {
+            shapes: vec![0.0; sizes.shapes],
+            sheet: vec![0.0; sizes.sheet],
+            placed: vec![0.0; sizes.placed],
+            sheet_entries: vec![0; sizes.sheet_entries],
+            placed_entries: vec![0; sizes.placed_entries],
+            intervals: vec![0.0; sizes.intervals],
+            positions: vec![0.0; sizes.positions],
+        }
+    }
+
+    pub fn clear_intervals(&mut self) {
+        self.intervals.fill(0.0);
+    }
+}
+
+/// The whole records that fit a room.
+pub fn capacity(slots: usize, record: usize) -> usize {
+    slots / record
+}
+
+pub fn load(room: &[f64], i: usize) -> Strip {
+    let s = &room[i * STRIP..(i + 1) * STRIP];
+    [s[0], s[1], s[2], s[3], s[4], s[5]]
+}
+
+pub fn store(room: &mut [f64], i: usize, strip: &Strip) {
+    room[i * STRIP..(i + 1) * STRIP].copy_from_slice(strip);
+}

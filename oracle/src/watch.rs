@@ -1,0 +1,102 @@
+//! What is noted of the planner with rooms while it works, and its comparison
+//! with the lifted code at every look.
+use crate::filling::{Ranges, Slot, State};
+use crate::probed::lifted::reach::Lifted;
+use crate::probed::Search;
+use crate::rooms::{load, Rooms};
+
+/// One look. `y` is the lowest height in no interval, free or not.
+pub struct Look {
+    pub kind: usize,
+    pub orientation: usize,
+    pub column: usize,
+    pub x: f64,
+    pub y: f64,
+    pub free: bool,
+    pub intervals: usize,
+}
+
+impl Look {
+    pub fn line(&self) -> String {
+        let Look { kind, orientation, column, x, y, free, intervals } = self;
+        let answer = if *free { format!("free {:016x}", y.to_bits()) } else { "full".into() };
+        let x = x.to_bits();
+        format!("{kind} {orientation} {column} {x:016x} {answer} {intervals}")
+    }
+}
+
+#[derive(Default)]
+pub struct Watch<'a, 'b> {
+    /// The lifted code, asked for the same looks.
+    pub lifted: Option<&'a mut Lifted<'b>>,
+    /// Looks of the first filling, where they are wanted.
+    pub looks: Option<Vec<Look>>,
+    /// Searches of each filling.
+    pub fillings: Vec<Vec<Search>>,
+}
+
+impl Watch<'_, '_> {
+    pub fn filling(&mut self) {
+        self.fillings.push(vec![]);
+        if let Some(lifted) = &mut self.lifted {
+            lifted.clear();
+        }
+    }
+
+    pub fn search(&mut self, slot: &Slot) {
+        if let Some(filling) = self.fillings.last_mut() {
+            filling.push((slot.kind as u32, slot.orientation as u32, 0));
+        }
+    }
+
+    /// Notes a look; a message where the lifted lines answer otherwise.
+    pub fn look(&mut self, look: &Look, r: &Ranges) -> Result<(), String> {
+        if let Some(search) = self.fillings.last_mut().and_then(|f| f.last_mut()) {
+            search.2 += 1;
+        }
+        if let Some(lifted) = &mut self.lifted {
+            let columns = (look.column, r.columns);
+            let (x, y, n) = lifted.look((look.kind, look.orientation), columns, r.xs, r.ys);
+            let same = x.to_bits() == look.x.to_bits()
+                && y.to_bits() == look.y.to_bits()
+                && n == look.intervals;
+            if !same {
+                return Err(format!("look {}: lifted x {x:?} y {y:?} of {n}", look.line()));
+            }
+        }
+        if self.fillings.len() < 2 {
+            if let Some(looks) = &mut self.looks {
+                looks.push(Look { ..*look });
+            }
+        }
+        Ok(())
+    }
+
+    pub fn place(&mut self, kind: usize, o: usize, x: f64, y: f64) {
+        if let Some(lifted) = &mut self.lifted {
+            lifted.place((kind, o), x, y);
+        }
+    }
+
+    /// After a filling: the standing strips and entries against the lifted
+    /// index.
+    pub fn filled(&mut self, state: &State, rooms: &Rooms) -> Result<(), String> {
+        let Some(lifted) = &self.lifted else {
+            return Ok(());
+        };
+        let (strips, entries) = lifted.standing();
+        let bits = |s: [f64; 6]| s.map(f64::to_bits);
+        let same = strips.len() == state.placed_strips
+            && strips.iter().enumerate().all(|(i, s)| bits(*s) == bits(load(&rooms.placed, i)));
+        if !same {
+            return Err("placed strips differ".into());
+        }
+        if entries != rooms.placed_entries[..state.placed_index.count()] {
+            return Err("placed entries differ".into());
+        }
+        if lifted.sheet_entries() != rooms.sheet_entries[..state.sheet_index.count()] {
+            return Err("sheet entries differ".into());
+        }
+        Ok(())
+    }
+}

@@ -1,0 +1,217 @@
+#!/usr/bin/env python3
+"""Tests of the oracle itself: the starred cases of document 01, the order of
+refusals where two hold, and every room exact and one short by --rooms."""
+import os
+import subprocess
+import sys
+
+from bits import bits, double, fields, pack, pack_fields, set_fields
+from cases import CLOCKWISE, TRIANGLE, case4, grid, job, part, rect, starred
+
+ORACLE = os.path.join(os.path.dirname(os.path.abspath(__file__)), "build", "oracle")
+CASE4 = """plan 4 1 0
+put 0 0 0 0000000000000000 0000000000000000
+put 0 1 0 0000000000000000 4008000000000000
+put 0 2 0 4010000000000000 0000000000000000
+put 0 3 0 4010000000000000 4008000000000000
+left 0 1
+look 0 0 11
+right 4020000000000000
+area 4028000000000000
+offcut 4000000000000000
+"""
+failed = []
+tried = 0
+
+
+def oracle(data, *options):
+    data = data if isinstance(data, bytes) else pack(data)
+    done = subprocess.run([ORACLE, *options], input=data, capture_output=True)
+    if done.returncode:
+        return "error " + done.stderr.decode()
+    return done.stdout.decode()
+
+
+def expect(name, got, want):
+    global tried
+    tried += 1
+    if got != want:
+        failed.append(name)
+        print(f"{name}: got {got!r}, want {want!r}")
+
+
+def hexes(*xs):
+    return " ".join(f"{bits(float(x)):016x}" for x in xs)
+
+
+def puts(text):
+    """(kind, copy, orientation, x, y) of the put lines."""
+    lines = [line.split() for line in text.splitlines() if line.startswith("put")]
+    return [(*map(int, p[1:4]), double(int(p[4], 16)), double(int(p[5], 16))) for p in lines]
+
+
+def columns(text):
+    """The x of each look, with --looks."""
+    lines = [line.split() for line in text.splitlines() if line[0].isdigit()]
+    return [double(int(p[3], 16)) for p in lines]
+
+
+def strips(s, which):
+    return oracle(pack_fields(set_fields(s, which)), "--strips", which)
+
+
+def test_starred():
+    case = dict(starred())
+    expect("case 1", strips(TRIANGLE, "part"),
+           f"strip {hexes(0, 4, 0, 0, 4, 0)}\nbounds {hexes(0, 0, 4, 4)}\n")
+    expect("case 2", strips(CLOCKWISE, "part"), f"bounds {hexes(0, 0, 4, 3)}\n")
+    expect("case 3", strips(rect(10, 6), "sheet"), f"bounds {hexes(0, 0, 10, 6)}\n")
+    expect("case 4", oracle(case["case4"]), CASE4)
+    expect("case 5", "look 0 0 8\n" in oracle(case["case5"]), True)
+    expect("case 6", sorted(set(columns(oracle(case["case6"], "--looks")))), [0.0, 4.0, 6.0])
+    expect("case 7", sorted(set(columns(oracle(case["case7"], "--looks")))), [0.0, 3.0, 6.0])
+    expect("case 7 looks", "look 0 0 5\n" in oracle(case["case7"]), True)
+    text = oracle(case["case8"])
+    expect("case 8", (puts(text), "look 0 0 2\n" in text), ([(0, 0, 0, 0.0, 0.0)], True))
+    text = oracle(case["case9"])
+    expect("case 9", (puts(text), "look 0 0 0\n" in text, text[:10]), ([], True, "plan 0 1 0"))
+    expect("case 10", puts(oracle(case["case10"])), [(0, 0, 1, 0.0, 0.0)])
+    text = oracle(case["case11"], "--draws")
+    state = (7 + 6 * 0x9E3779B97F4A7C15) % 2**64
+    expect("case 11", text.split("\n", 7)[7], f"order 0 0\nimprovements 0\nstate {state:016x}\n")
+
+
+def changed(name, value, j=None, nth=0):
+    """A job's bytes with one field changed."""
+    list_ = fields(j or case4())
+    at = [i for i, f in enumerate(list_) if f[0] == name][nth]
+    list_[at] = (name, list_[at][1], value)
+    return pack_fields(list_)
+
+
+def upto(name, value, j=None):
+    """The bytes up to that field, changed, with zero bits to a byte's end."""
+    list_ = fields(j or case4())
+    at = [f[0] for f in list_].index(name)
+    return pack_fields(list_[:at] + [(name, list_[at][1], value)])
+
+
+def test_reader_order():
+    nan, far = 0x7FF8000000000000, bits(1e300)
+    many = job([part([rect(4, 3)], 4095), part([rect(4, 3)], 2)])
+    wide = dict(many, sheet=rect(1e5, 6), resolution=0.001)
+    expect("nothing", oracle(b""), "no 1\n")
+    expect("3 in one byte", oracle(b"\x20"), "no 3\n")
+    expect("1 inside kinds", oracle(b"\x10"), "no 1\n")
+    expect("6 where the bytes then end", oracle(upto("kinds", 0)), "no 6\n")
+    expect("6 at loops, then end", oracle(upto("sheet loops", 65)), "no 6\n")
+    expect("6 at points, then end", oracle(upto("sheet points", 513)), "no 6\n")
+    two = dict(case4(), sheet=[rect(10, 6)[0], [(0.0, 0.0)] * 509])
+    list_ = fields(two)
+    second = [i for i, f in enumerate(list_) if f[0] == "sheet points"][1]
+    expect("6 at the points that pass 512", oracle(pack_fields(list_[:second + 1])), "no 6\n")
+    two["sheet"][1] = [(0.0, 0.0)] * 508
+    expect("512 points in two loops", oracle(two)[:4], "plan")
+    expect("1 inside a double", oracle(upto("sheet x", nan)[:-2]), "no 1\n")
+    expect("4 before 5", oracle(changed("sheet x", bits(float("inf")))), "no 4\n")
+    expect("5", oracle(changed("sheet x", far)), "no 5\n")
+    expect("5, then 6", oracle(changed("quantity", 0, dict(case4(), resolution=1e9))), "no 5\n")
+    late = case4()
+    late["parts"][0].update(area=1e300, quantity=0)
+    expect("6, then 5", oracle(late), "no 6\n")
+    expect("4, then 6", oracle(changed("resolution", nan, late)), "no 4\n")
+    expect("2 before 7", oracle(pack(many) + b"\0"), "no 2\n")
+    expect("7", oracle(many), "no 7\n")
+    expect("7 before 8", oracle(wide), "no 7\n")
+    wide["parts"][1]["quantity"] = 1
+    expect("8", oracle(wide), "no 8\n")
+    expect("2 before 8", oracle(pack(wide) + b"\0"), "no 2\n")
+    expect("11 first", oracle(b"\xff" * 65537), "no 11\n")
+    expect("no 11 in the library", oracle(b"\xff" * 65537, "--answer"), "no 3\n")
+
+
+# Room sizes in slots, in the order of --rooms.
+NAMES = ["shapes", "sheet", "placed", "sheet_entries", "placed_entries", "intervals", "positions"]
+RECORD = dict(zip(NAMES, [6, 6, 6, 1, 1, 2, 5]))
+AMPLE = dict(zip(NAMES, [600, 600, 600, 9999, 9999, 600, 600]))
+
+
+def with_rooms(j, *options, **sizes):
+    sizes = {**AMPLE, **sizes}
+    return oracle(j, "--rooms", ",".join(str(sizes[n]) for n in NAMES), *options)
+
+
+def room_job():
+    """Every room is used: a sheet with a hole, two kinds."""
+    sheet = rect(10, 6) + grid(1, 1, 1.0, 1.0, 8.0, 4.0, True)
+    return job([part([rect(4, 3)], 2, 12), part([TRIANGLE], 1, 8)], sheet)
+
+
+def number(text):
+    return text.split("\n")[0] if text.startswith("no ") else text[:4]
+
+
+def test_refusal_order():
+    j = room_job()
+    bad = ["--order", "0,0,0"]
+    wide = dict(j, sheet=rect(1e5, 6), resolution=0.001)
+    expect("8 before 30", number(with_rooms(wide, positions=0)), "no 8")
+    expect("30 before 10", number(with_rooms(j, *bad, positions=0)), "no 30")
+    expect("10 before sheet 20", number(with_rooms(j, *bad, sheet=0)), "no 10")
+    expect("sheet 20 before 21", number(with_rooms(j, sheet=0, sheet_entries=0)), "no 20")
+    expect("sheet 21 before shapes 20", number(with_rooms(j, shapes=0, sheet_entries=0)), "no 21")
+    expect("shapes 20 before 22", number(with_rooms(j, shapes=0, intervals=0)), "no 20")
+    # The second copy is the first that meets a standing one.
+    one = with_rooms(case4(), intervals=0, placed=6)
+    expect("22 before 20 of one copy", number(one), "no 22")
+    expect("22 before 21", number(with_rooms(case4(), intervals=0, placed_entries=205)), "no 22")
+    expect("20 before 21 of one copy", number(with_rooms(case4(), placed=0, placed_entries=0)),
+           "no 20")
+    for order in ("0,1", "0,0,2", "0,1,1", "0,0,1,1", ""):
+        expect(f"order {order}", number(with_rooms(j, "--order", order)), "no 10")
+    expect("order 1,0,0", number(with_rooms(j, "--order", "1,0,0")), "plan")
+
+
+def test_rooms_exact():
+    """The least size of each room that is accepted; one slot less is refused."""
+    j = room_job()
+    numbers = {"shapes": "no 20", "sheet": "no 20", "placed": "no 20", "sheet_entries": "no 21",
+               "placed_entries": "no 21", "intervals": "no 22", "positions": "no 30"}
+    for name in NAMES:
+        least = next(n for n in range(AMPLE[name] + 1)
+                     if number(with_rooms(j, **{name: n})) == "plan")
+        expect(f"{name} in whole records", least % RECORD[name], 0)
+        for less in range(1, RECORD[name] + 1):
+            text = with_rooms(j, **{name: least - less})
+            expect(f"{name} {less} short", number(text), numbers[name])
+        text = with_rooms(j, **{name: least + RECORD[name] - 1})
+        expect(f"{name} with a remainder", text, with_rooms(j))
+
+
+def replies(text):
+    return [line[6:] for line in text.splitlines() if line.startswith("reply")]
+
+
+def test_trace():
+    expect("trace of case 4", replies(oracle(case4(), "--trace")), ["ok"] * 6 + ["no 23"])
+    expect("trace, no order", replies(oracle(case4(), "--trace", "--order", "0")), ["no 10"])
+    # The interval room is each call's own: 22 changes nothing.
+    text = oracle(case4(), "--trace", "--intervals", "0,0,2,0,8", "--calls", "7")
+    expect("trace with 22", replies(text), ["ok", "ok", "no 22", "ok", "no 22", "ok", "ok", "ok"])
+    calls = text.split("call ")
+    state = [c.split("\n", 2)[2] for c in calls[1:]]
+    expect("22 leaves all as it was", state[2].replace("intervals 0", "intervals 2"),
+           state[1].replace("intervals 0", "intervals 2"))
+    expect("the rest as without", state[7].split("room intervals")[0],
+           oracle(case4(), "--trace").split("call 5\n")[1].split("call 6")[0]
+           .split("\n", 1)[1].split("room intervals")[0])
+
+
+def main():
+    for test in (test_starred, test_reader_order, test_refusal_order, test_rooms_exact, test_trace):
+        test()
+    print(f"{tried} tests, {len(failed)} failed")
+    sys.exit(len(failed) > 0)
+
+
+main()
