@@ -132,6 +132,15 @@ def intervals(copies):
     return job([part([(rect(4, 1), grid(64, 1, 4.0, 1.0))], copies)], sheet, 20.0)
 
 
+def intervals_touching():
+    """4,096 counted intervals, and two more that touch the lowest and the
+    highest allowed height and so do not count."""
+    low, pairs = 0.0078125, grid(64, 1, 4.0, 1.0)  # y_high is 99 + low
+    apart = rect(4, 1, 0, 1) + rect(4, 1, 0, -100 - low)
+    sheet = rect(10, 100) + grid(32, 2, 4.0, 60.0, 0.0, 20.0, True)
+    return job([part([rect(4, 1)], 1, 4), part([(apart, pairs)], 1, 2)], sheet, 20.0)
+
+
 def intervals_prime():
     """17 moving strips and 241 of the sheet: 4,097 pairs."""
     sheet = rect(10, 100) + grid(60, 4, 4.0, 60.0, 0.0, 20.0, True)
@@ -160,6 +169,7 @@ def rooms_cases():
         ("room placed entries exact", placed_entries(False)),
         ("room placed entries short", placed_entries(True)),
         ("room intervals exact", intervals(1)),
+        ("room intervals exact, touching", intervals_touching()),
         ("room intervals short", intervals(2)),
         ("room intervals short, sheet alone", intervals_prime()),
         ("refused in a swap round", late_refusal()),
