@@ -1,0 +1,5 @@
+pub mod Sorting
+pub mod Rows
+pub mod Storing
+pub mod Winding
+pub mod Sizes

@@ -1,0 +1,120 @@
+-- `slab::wind` meets its contract. Assumes nothing.
+use Prim.Native.Nat.{_+_, _≤_, _<_}
+use lib.ListN.{length}
+use lib.Ieee.{lt}
+use mathlib.Core.Path.{_≡_, refl, ap, _∙_}
+use denote.Ref.{now}
+use native.Mathlib.Omega.{arith}
+use mathlib.Core.Bool.{Bool, _&&_}
+use lib.IntN.{ℤ, pos, _-ℤ_, +ℤ-invr}
+use Rattle.slab.proofs.Winding.{wind-step, wind-last, turned-low, turned-high}
+use Rattle.slab.specs.Slab.{walk}
+use Rattle.slab.specs.Tables.{hold, down, crossingAt, zeroBits}
+use borrow.Author.Needs.{needs}
+use Rattle.slab.proofs.wind.Statement.{statement}
+use Rattle.slab.proofs.wind.Tie as tie
+
+abbrev Inv-loop : tie.InvT-loop
+Inv-loop rows m sheet bottom top xa xb room₀ n k₀ w₀ la₀ lb₀ count₀ room k w la lb count =
+    (k ≤ m) × (k ≤ w) × (w + k ≤ m + m) × (length room ≡ length room₀) × (hold (record { room = room; count = count }) (walk sheet top xa xb (pos w -ℤ pos m) la lb (down (crossingAt rows) k)) ≡ hold (record { room = room₀; count = n }) (walk sheet top xa xb (pos 0) bottom bottom (down (crossingAt rows) m)))
+
+abbrev μ-loop : tie.MeasureT-loop
+μ-loop rows m sheet bottom top xa xb room₀ n k₀ w₀ la₀ lb₀ count₀ room k w la lb count =
+    k
+
+loop-holds : tie.Need-loop-holds Inv-loop μ-loop
+loop-holds c =
+    let a = c .before .before .args in (search needs, search needs, omega arith, refl, ap (λ (z : ℤ). hold (record { room = now (a .room); count = a .n }) (walk (a .sheet) (a .top) (a .xa) (a .xb) z (a .bottom) (a .bottom) (down (crossingAt (now (a .rows))) (a .m)))) (+ℤ-invr (pos (a .m))))
+
+sub-k : tie.Need-sub-k Inv-loop μ-loop
+sub-k c = search needs
+
+row-at-requires : tie.Need-row-at-requires Inv-loop μ-loop
+row-at-requires c κs = search needs
+
+runs-requires : tie.Need-runs-requires Inv-loop μ-loop
+runs-requires c κs = search needs
+
+turned-requires : tie.Need-turned-requires Inv-loop μ-loop
+turned-requires c κs =
+    (omega arith, omega arith)
+
+runs-requires-2 : tie.Need-runs-requires-2 Inv-loop μ-loop
+runs-requires-2 c κs = search needs
+
+strip-requires : tie.Need-strip-requires Inv-loop μ-loop
+strip-requires c κs = search needs
+
+closes-requires : tie.Need-closes-requires Inv-loop μ-loop
+closes-requires c κs = search needs
+
+close-requires : tie.Need-close-requires Inv-loop μ-loop
+close-requires c κs = search needs
+
+pick-requires : tie.Need-pick-requires Inv-loop μ-loop
+pick-requires c κs = search needs
+
+pick-requires-2 : tie.Need-pick-requires-2 Inv-loop μ-loop
+pick-requires-2 c κs = search needs
+
+loop-less : tie.Need-loop-less Inv-loop μ-loop
+loop-less c = search needs
+
+loop-again : tie.Need-loop-again Inv-loop μ-loop
+loop-again c =
+    let l = c .before .before .before .before .before .before .before .before .before .before .before .before .before in let a = c .before .before .before .before .before .before .before .before .before .before .before .before .before .before .before .before .args in let g = c .before .before .before .before .close in let t = c .before .before .before .before .before .before .before .before .before .turned in let r = c .before .before .before .before .before .before .before .before .before .before .before .row-at in let p : 0 < l .loop .k = c .before .before .before .before .before .before .before .before .before .before .before .before .loop-test .taken in (
+      omega arith,
+      turned-low (lt zeroBits (r .result .d)) (l .loop .w) (t .result) (l .loop .k) (a .m) (t .ensures) p (l .loop .inv .1),
+      turned-high (lt zeroBits (r .result .d)) (l .loop .w) (t .result) (l .loop .k) (a .m) (t .ensures) p (l .loop .inv .1) (l .loop .inv .2),
+      g .kept .1 .0 ∙ l .loop .inv .3,
+      wind-step (a .sheet) (a .top) (a .xa) (a .xb) (now (a .rows)) (a .m) (l .loop .k) (l .loop .w) (t .result) p (omega (arith, p, l .loop .inv .1)) (l .loop .la) (l .loop .lb) (l .loop .room) (g .last .1 .0) (l .loop .count) (g .result)
+          (r .result) (c .before .before .before .before .before .before .before .before .before .before .runs .result) (c .before .before .before .before .before .before .before .before .runs2 .result) (c .before .before .before .before .before .before .closes .result) (c .before .before .before .before .before .before .before .strip .result) (c .before .pick .result) (c .pick2 .result)
+          (r .ensures) (t .ensures) (c .before .before .before .before .before .before .before .before .before .before .runs .ensures) (c .before .before .before .before .before .before .before .before .runs2 .ensures) (c .before .before .before .before .before .before .before .strip .ensures) (c .before .before .before .before .before .before .closes .ensures) (g .ensures) (c .before .pick .ensures) (c .pick2 .ensures) ∙ l .loop .inv .4,
+    )
+
+strip-requires-2 : tie.Need-strip-requires-2 Inv-loop μ-loop
+strip-requires-2 c κs = search needs
+
+runs-requires-3 : tie.Need-runs-requires-3 Inv-loop μ-loop
+runs-requires-3 c κs = search needs
+
+both-requires : tie.Need-both-requires Inv-loop μ-loop
+both-requires c κs = search needs
+
+close-requires-2 : tie.Need-close-requires-2 Inv-loop μ-loop
+close-requires-2 c κs = search needs
+
+same-length : tie.Need-same-length Inv-loop μ-loop
+same-length c =
+    c .before .before .close2 .kept .1 .0 ∙ c .before .before .before .before .before .before .before .before .loop .inv .3
+
+returns : tie.Need-returns Inv-loop μ-loop
+returns c =
+    let l = c .before .before .before .before .before .before .before .before in let a = c .before .before .before .before .before .before .before .before .before .before .before .args in let g = c .before .before .close2 in
+    g .ensures ∙ (wind-last (a .sheet) (a .top) (a .xa) (a .xb) (crossingAt (now (a .rows))) (l .loop .k) (omega arith) (pos (l .loop .w) -ℤ pos (a .m)) (l .loop .la) (l .loop .lb) (l .loop .room) (l .loop .count) (c .before .before .before .before .both .result) (c .before .before .before .before .before .before .strip2 .result) (c .before .before .before .before .before .before .strip2 .ensures) (c .before .before .before .before .both .ensures ∙ ap (λ (t : Bool). a .sheet && t) (c .before .before .before .before .before .runs3 .ensures)) ∙ l .loop .inv .4)
+
+pub wind-spec : {M : Type 1} → statement M
+wind-spec =
+    tie.close
+    (tie.spec
+    Inv-loop
+    μ-loop
+    loop-holds
+    sub-k
+    row-at-requires
+    runs-requires
+    turned-requires
+    runs-requires-2
+    strip-requires
+    closes-requires
+    close-requires
+    pick-requires
+    pick-requires-2
+    loop-less
+    loop-again
+    strip-requires-2
+    runs-requires-3
+    both-requires
+    close-requires-2
+    same-length
+    returns)

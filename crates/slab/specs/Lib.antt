@@ -1,0 +1,2 @@
+pub mod Slab
+pub mod Tables
