@@ -1,6 +1,9 @@
 // What C and Rust may link (`rt staticlib exports`): the planner's functions under plain names, for
 // comparisons with the Rust and for speed tables.
+ghost use Prim.Native.Nat.{_+_, _*_, _≤_, _<_};
+ghost use lib.ListN.{length};
 ghost use mathlib.Core.Path.{_≡_};
+ghost use Rattle.strips.specs.Strips.{Loops};
 ghost use Rattle.random.specs.SplitMix64.{nextState, mixed};
 
 // The next draw, and the state moved on.
@@ -9,4 +12,26 @@ pub extern "C" fn panel_next_random(state: &mut u64) -> u64
     ensures { λ r. ⌜ (now (state .exit) ≡ nextState (now (state .entry))) × (r ≡ mixed (nextState (now (state .entry)))) ⌝ }
 {
     random::next_random(state)
+}
+
+// The strips of a set, stored from strip 0 on: how many, or one more than the room holds. The
+// caller owes what `strips::trapezoids` requires; nothing here tests it.
+#[no_mangle]
+pub extern "C" fn panel_trapezoids(
+    points: &[f64],
+    n: usize,
+    ends: &[u16],
+    sheet: bool,
+    es: &mut [f64],
+    rows: &mut [f64],
+    line: &mut [f64],
+    room: &mut [f64],
+) -> usize
+    requires { ⌜ (0 < n) × (2 * n ≤ length (now points)) × Loops 0 (now ends) n × (6 * n ≤ length (now es)) × (3 * n ≤ length (now rows)) × (n + 2 ≤ length (now line)) ⌝ }
+{
+    let stored = strips::trapezoids(points, n, ends, sheet, es, rows, line, room, 0);
+    match stored {
+        strips::Stored::Count(m) => m,
+        strips::Stored::NoRoom => room.len() / 6 + 1,
+    }
 }
