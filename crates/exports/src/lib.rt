@@ -4,6 +4,9 @@ ghost use Prim.Native.Nat.{_+_, _*_, _≤_, _<_};
 ghost use lib.ListN.{length};
 ghost use mathlib.Core.Path.{_≡_};
 ghost use Rattle.strips.specs.Strips.{Loops};
+ghost use Rattle.job.specs.Jobs.{readJob};
+ghost use Rattle.job.specs.Meaning.{verdictOf};
+ghost use Rattle.exports.specs.Answers.{verdictNumber};
 ghost use Rattle.random.specs.SplitMix64.{nextState, mixed};
 
 // The next draw, and the state moved on.
@@ -33,5 +36,16 @@ pub extern "C" fn panel_trapezoids(
     match stored {
         strips::Stored::Count(m) => m,
         strips::Stored::NoRoom => room.len() / 6 + 1,
+    }
+}
+
+// The number 1 to 8 of a refused job, or 0.
+#[no_mangle]
+pub extern "C" fn panel_judge(bytes: &[u8]) -> u64
+    ensures { λ r. ⌜ r ≡ verdictNumber (verdictOf (readJob (now (bytes .entry)))) ⌝ }
+{
+    match job::judge(bytes) {
+        job::Verdict::Accepted(_, _) => 0,
+        job::Verdict::Refused(k) => bits::refusal_number(k),
     }
 }

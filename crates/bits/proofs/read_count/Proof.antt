@@ -1,0 +1,35 @@
+-- `bits::read_count` meets its contract. Assumes nothing.
+use mathlib.Core.Path.{sym, ap, _∙_, subst}
+use Prim.Native.Nat.{_+_, _≤_}
+use native.Mathlib.Omega.{arith}
+use Rattle.bits.specs.declared.Taken.{Taken}
+use Rattle.bits.specs.declared.Counted.{Counted}
+use Rattle.bits.specs.Reading.{taken}
+use Rattle.bits.specs.Fields.{countOf}
+use Rattle.bits.proofs.Judging.{count-is, count-end, count-most}
+use borrow.Author.Needs.{needs}
+use Rattle.bits.proofs.read_count.Statement.{statement}
+use Rattle.bits.proofs.read_count.Tie as tie
+
+read-field-requires : tie.Need-read-field-requires
+read-field-requires c κs = search needs
+
+enum-known-n : tie.Need-enum-known-n
+enum-known-n c = search needs
+
+judge-count-requires : tie.Need-judge-count-requires
+judge-count-requires c κs = search needs
+
+enum-told : tie.Need-enum-told
+enum-told c = search needs
+
+returns : tie.Need-returns
+returns c = (count-is (c .before .before .before .before .before .before .args .bytes .now) (c .before .before .before .before .before .before .args .at) (c .before .before .before .before .before .before .args .width) (c .before .before .before .before .before .before .args .least) (c .before .before .before .before .before .before .args .most) (c .before .before .before .before .read-field .ensures ∙ ap (λ (t : Taken). taken t (c .before .before .before .before .before .before .args .at + c .before .before .before .before .before .before .args .width)) (c .before .before .n .given .1)) (c .judge-count .ensures), subst (λ (t : Counted). countOf t ≤ c .before .before .before .before .before .before .args .most) (sym (c .judge-count .ensures)) (count-most (c .before .before .before .before .before .before .args .least) (c .before .before .before .before .before .before .args .most) (c .before .before .n .given .0 .0)))
+
+returns-2 : tie.Need-returns-2
+returns-2 c = (count-end (c .before .before .before .before .args .bytes .now) (c .before .before .before .before .args .at) (c .before .before .before .before .args .width) (c .before .before .before .before .args .least) (c .before .before .before .before .args .most) (c .before .before .read-field .ensures ∙ ap (λ (t : Taken). taken t (c .before .before .before .before .args .at + c .before .before .before .before .args .width)) (c .enum-told .given .1)), omega arith)
+
+pub read-count-spec : {M : Type 1} → statement M
+read-count-spec =
+    tie.close
+    (tie.spec read-field-requires enum-known-n judge-count-requires enum-told returns returns-2)

@@ -1,0 +1,10 @@
+-- What the exported functions answer. Definitions only. Assumes nothing.
+use Prim.Native.Nat.{ℕ}
+use Rattle.job.specs.declared.Verdict.{Verdict}
+use Rattle.job.specs.declared.Verdict.the-variants.{Accepted, Refused}
+use Rattle.bits.specs.Reading.{numberOf}
+
+-- document 01's number of a refused job, 0 for an accepted one
+abbrev pub verdictNumber : Verdict → ℕ
+verdictNumber (Accepted h c) = 0
+verdictNumber (Refused k) = numberOf k

@@ -1,0 +1,3 @@
+pub mod Headers
+pub mod Whole
+pub mod Accepted

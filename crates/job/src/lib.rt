@@ -1,0 +1,237 @@
+// The job (document 01, "The job's bits" and refusals 1 to 8): bytes in, a job or why it is refused
+// out. A job's kinds lie in the tables of the crate kinds; its sets are read when they are needed.
+ghost use mathlib.Core.Path.{_≡_};
+ghost use Prim.Native.Nat.{_+_, _*_, _≤_, _<_};
+ghost use lib.ListN.{length};
+ghost use Rattle.numbers.specs.Numbers.{_⊖_};
+ghost use Rattle.job.specs.Jobs.{afterVersion, aHeader, ended, left, right, judgeEnd, readJob};
+ghost use Rattle.job.specs.Meaning.{headerRead, answered, jobRead, verdictOf, headerFits};
+use bits::Counted;
+use bits::Measured;
+use bits::Refusal;
+use bits::Taken;
+use kinds::KindsRead;
+use sets::SetRead;
+
+// What stands before the sheet.
+pub struct Header {
+    pub version: u64,
+    pub kinds: u64,
+    pub rounds: u64,
+    pub seed: u64,
+    pub resolution: f64,
+}
+
+// The header and the position after it, or why it is refused.
+pub enum HeaderRead {
+    Front(Header, usize),
+    NoHeader(Refusal),
+}
+
+fn read_header(bytes: &[u8]) -> HeaderRead
+    ensures { λ r. ⌜ (aHeader (now (bytes .entry)) 0 ≡ headerRead r) × headerFits r ⌝ }
+{
+    let Taken::Bits(version) = bits::read_field(bytes, 0, 4) else {
+        return HeaderRead::NoHeader(Refusal::Truncated);
+    };
+    if version == 1 {
+        return read_front(bytes, 4, version);
+    }
+    HeaderRead::NoHeader(Refusal::UnknownVersion)
+}
+
+// The header's fields after the version.
+fn read_front(bytes: &[u8], at: usize, version: u64) -> HeaderRead
+    requires { ⌜ at ≤ 100 ⌝ }
+    ensures { λ r. ⌜ (afterVersion version (now (bytes .entry)) at ≡ headerRead r) × headerFits r ⌝ }
+{
+    let kinds = match bits::read_count(bytes, at, 7, 1, 64) {
+        Counted::Count(n) => n,
+        Counted::NoCount(k) => {
+            return HeaderRead::NoHeader(k);
+        }
+    };
+    let at_rounds = at + 7;
+    let Taken::Bits(rounds) = bits::read_field(bytes, at_rounds, 12) else {
+        return HeaderRead::NoHeader(Refusal::Truncated);
+    };
+    let at_seed = at_rounds + 12;
+    let Taken::Bits(seed) = bits::read_field(bytes, at_seed, 64) else {
+        return HeaderRead::NoHeader(Refusal::Truncated);
+    };
+    let at_resolution = at_seed + 64;
+    let past = at_resolution + 64;
+    match bits::read_number(bytes, at_resolution, 0.001, 10000.0) {
+        Measured::Value(resolution) => HeaderRead::Front(
+            Header {
+                version,
+                kinds,
+                rounds,
+                seed,
+                resolution,
+            },
+            past,
+        ),
+        Measured::NoValue(k) => HeaderRead::NoHeader(k),
+    }
+}
+
+// Whether only zero bits, fewer than eight, lie from the position p on.
+fn fills_last_byte(bytes: &[u8], p: usize) -> bool
+    requires { ⌜ p ≤ 1000000000 ⌝ }
+    ensures { λ r. ⌜ r ≡ ended (now (bytes .entry)) p ⌝ }
+{
+    let k = (p + 7) / 8;
+    if k < bytes.len() {
+        return false;
+    }
+    if bytes.len() < k {
+        return true;
+    }
+    match bits::read_field(bytes, p, 8 * k - p) {
+        Taken::Bits(b) => b == 0,
+        Taken::End => false,
+    }
+}
+
+// The smallest x of the first n points.
+fn left_of(room: &[f64], n: usize) -> f64
+    requires { ⌜ (1024 ≤ length (now room)) × (n ≤ 512) ⌝ }
+    ensures { λ r. ⌜ r ≡ left (now (room .entry)) n ⌝ }
+{
+    let mut x = f64::from_bits(0x7ff0_0000_0000_0000);
+    let mut i = 0;
+    while i < n {
+        let j = 2 * i;
+        x = numbers::smaller(x, room[j]);
+        i += 1;
+    }
+    x
+}
+
+// The largest x of the first n points.
+fn right_of(room: &[f64], n: usize) -> f64
+    requires { ⌜ (1024 ≤ length (now room)) × (n ≤ 512) ⌝ }
+    ensures { λ r. ⌜ r ≡ right (now (room .entry)) n ⌝ }
+{
+    let mut x = f64::from_bits(0xfff0_0000_0000_0000);
+    let mut i = 0;
+    while i < n {
+        let j = 2 * i;
+        x = numbers::larger(x, room[j]);
+        i += 1;
+    }
+    x
+}
+
+// The width of the n points.
+fn width_of(room: &[f64], n: usize) -> f64
+    requires { ⌜ (1024 ≤ length (now room)) × (n ≤ 512) ⌝ }
+    ensures { λ r. ⌜ r ≡ right (now (room .entry)) n ⊖ left (now (room .entry)) n ⌝ }
+{
+    let a = right_of(room, n);
+    let b = left_of(room, n);
+    a - b
+}
+
+// What is judged after the last field.
+pub enum Judged {
+    Passed,
+    Failed(Refusal),
+}
+
+fn judge_end(bytes: &[u8], p: usize, copies: u64, width: f64, resolution: f64) -> Judged
+    requires { ⌜ p ≤ 1000000000 ⌝ }
+    ensures { λ r. ⌜ r ≡ judgeEnd (now (bytes .entry)) p copies width resolution ⌝ }
+{
+    if fills_last_byte(bytes, p) {
+        if 4096 < copies {
+            return Judged::Failed(Refusal::TooManyCopies);
+        }
+        if 1000000.0 < width / resolution {
+            return Judged::Failed(Refusal::TooManyColumns);
+        }
+        return Judged::Passed;
+    }
+    Judged::Failed(Refusal::TrailingData)
+}
+
+// The header, the bit position of the sheet's set and the copies in all; or why the job is refused.
+pub enum JobRead {
+    Good(Header, u32, u64),
+    NoJob(Refusal),
+}
+
+fn answer(j: Judged, h: Header, sheet: u32, copies: u64) -> JobRead
+    ensures { λ r. ⌜ r ≡ answered j h sheet copies ⌝ }
+{
+    match j {
+        Judged::Passed => JobRead::Good(h, sheet, copies),
+        Judged::Failed(k) => JobRead::NoJob(k),
+    }
+}
+
+// The job that the bytes are, its kinds in the tables; or why it is refused. The rooms take each set
+// in turn. Called by this project's crates alone.
+pub fn read_job(
+    bytes: &[u8],
+    rows: &mut [u64],
+    areas: &mut [f64],
+    places: &mut [u32],
+    room: &mut [f64],
+    ends: &mut [usize],
+) -> JobRead
+    requires { ⌜ (256 ≤ length (now rows)) × (64 ≤ length (now areas)) × (2048 ≤ length (now places)) × (1024 ≤ length (now room)) × (64 ≤ length (now ends)) ⌝ }
+    ensures { λ r. ⌜ readJob (now (bytes .entry)) ≡ jobRead r (now (bytes .entry)) (now (rows .exit)) (now (areas .exit)) (now (places .exit)) ⌝ }
+{
+    match read_header(bytes) {
+        HeaderRead::Front(h, at) => {
+            let sheet = at as u32;
+            match sets::read_set(bytes, sheet, room, ends) {
+                SetRead::Loops(_, m, q) => {
+                    let w = width_of(room, m);
+                    let n = h.kinds as usize;
+                    match kinds::read_kinds(bytes, q, n, rows, areas, places, room, ends) {
+                        KindsRead::AllKinds(c, p) => answer(
+                            judge_end(bytes, p, c, w, h.resolution),
+                            h,
+                            sheet,
+                            c,
+                        ),
+                        KindsRead::NoKinds(k) => JobRead::NoJob(k),
+                    }
+                }
+                SetRead::NoSet(k) => JobRead::NoJob(k),
+            }
+        }
+        HeaderRead::NoHeader(k) => JobRead::NoJob(k),
+    }
+}
+
+// The header and the copies in all, or why the job is refused.
+pub enum Verdict {
+    Accepted(Header, u64),
+    Refused(Refusal),
+}
+
+// Whether the bytes are a job.
+pub fn judge(bytes: &[u8]) -> Verdict
+    ensures { λ r. ⌜ r ≡ verdictOf (readJob (now (bytes .entry))) ⌝ }
+{
+    let mut rows = [0u64; 256];
+    let mut areas = [0.0; 64];
+    let mut places = [0u32; 2048];
+    let mut room = [0.0; 1024];
+    let mut ends = [0usize; 64];
+    match read_job(
+        bytes,
+        &mut rows,
+        &mut areas,
+        &mut places,
+        &mut room,
+        &mut ends,
+    ) {
+        JobRead::Good(h, _, c) => Verdict::Accepted(h, c),
+        JobRead::NoJob(k) => Verdict::Refused(k),
+    }
+}
