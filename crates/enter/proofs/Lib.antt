@@ -1,0 +1,4 @@
+pub mod Starts
+pub mod NewEntries
+pub mod Opening
+pub mod GapFilling

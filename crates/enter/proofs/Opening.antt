@@ -1,0 +1,147 @@
+-- Buckets moved up from the back, one after the other. Assumes nothing.
+use Prim.Native.Nat.{ℕ, zero, suc, _+_, _-_, _*_, _<_, _≤_}
+use native.Mathlib.Omega.{arith}
+use native.Mathlib.Nat.{eq-or-lt-of-le}
+use mathlib.Core.Path.{_≡_, refl, sym, ap, _∙_, subst}
+use mathlib.Core.Logic.{_⊎_, inl, inr}
+use mathlib.Core.List.{List, [], _∷_, _++_}
+use lib.ListN.{length, getD, set, length-set}
+use lib.Seq.{getD-set-same, getD-set-other}
+use lib.Ieee.{Float}
+use Rattle.index.specs.declared.Index.{Index}
+use Rattle.index.specs.Buckets.{buckets, entered}
+use Rattle.index.specs.Listing.{Laid}
+use Rattle.enter.specs.EntryRoom.{startOf}
+use Rattle.enter.specs.Gaps.{Moved, before, Opened, Blocks, Counted}
+use Rattle.enter.proofs.Starts.{before-rise, before-next, start-gain, start-next, laid-starts, laid-holds}
+
+-- ---- moving up, from the back: j is the first that is moved already
+pub moved-start : (from to by : ℕ) (s : List ℕ) → from ≤ to → Moved to to by s s
+moved-start from to by s h = record { size = refl; up = λ j a b. absurd (no j a b); front = λ j a. refl; back = λ j a. refl }
+  where
+    no : (j : ℕ) → to ≤ j → j < to → ⊥
+    no j a b = omega arith
+
+pub moved-step : (j to by : ℕ) (s r : List ℕ) → j < to → to + by ≤ length s → Moved (j + 1) to by s r → Moved j to by s (set r (j + by) (getD r j 0))
+moved-step j to by s r h l M = record { size = length-set r (j + by) (getD r j 0) ∙ M .size; up = λ i a b. up i a b (eq-or-lt-of-le a); front = λ i a. getD-set-other r (j + by) i (getD r j 0) 0 (λ e. no i a e) ∙ M .front i (omega arith); back = λ i a. getD-set-other r (j + by) i (getD r j 0) 0 (λ e. never i a e) ∙ M .back i a }
+  where
+    no : (i : ℕ) → i < j + by → i ≡ j + by → ⊥
+    no i a e = omega arith
+
+    never : (i : ℕ) → to + by ≤ i → i ≡ j + by → ⊥
+    never i a e = omega arith
+
+    other : (i : ℕ) → j < i → i + by ≡ j + by → ⊥
+    other i a e = omega arith
+
+    up : (i : ℕ) → j ≤ i → i < to → (j ≡ i) ⊎ (j < i) → getD (set r (j + by) (getD r j 0)) (i + by) 0 ≡ getD s i 0
+    up i a b (inl e) = subst (λ (k : ℕ). getD (set r (j + by) (getD r j 0)) (k + by) 0 ≡ getD s k 0) e (getD-set-same r (j + by) (getD r j 0) 0 (let z = M .size in omega arith) ∙ M .front j (omega arith))
+    up i a b (inr e) = getD-set-other r (j + by) (i + by) (getD r j 0) 0 (λ q. other i e q) ∙ M .up i (omega arith) b
+
+-- ---- opening the gaps
+pub opened-start : (st g e₀ : List ℕ) → Opened st g e₀ buckets e₀ st
+opened-start st g e₀ = record { size = refl; table = refl; old = λ c h. refl; new = λ c h l. absurd (no c h l); moved = λ c h l. absurd (no c h l); kept = λ j h. refl; rest = λ j h. refl }
+  where
+    no : (c : ℕ) → buckets ≤ c → c < buckets → ⊥
+    no c h l = omega arith
+
+module _ (st g e₀ : List ℕ) (T : length st ≡ buckets + 1) (R : (b c : ℕ) → b ≤ c → c < buckets + 1 → getD st b 0 ≤ getD st c 0) where
+  pub opened-step : (b : ℕ) (e s e' : List ℕ) → b < buckets → Opened st g e₀ (b + 1) e s → Moved (getD st b 0) (getD st (b + 1) 0) (before g b) e e' → Opened st g e₀ b e' (set s (b + 1) (getD st (b + 1) 0 + before g b))
+  opened-step b e s e' h O M = record { size = M .size ∙ O .size; table = length-set s (b + 1) (getD st (b + 1) 0 + before g b) ∙ O .table; old = old; new = λ c a l. new c l (eq-or-lt-of-le a); moved = λ c a l. moved c l (eq-or-lt-of-le a); kept = kept; rest = rest }
+    where
+      rise : getD st b 0 ≤ getD st (b + 1) 0
+      rise = R b (b + 1) (omega arith) (omega arith)
+
+      apart : (c : ℕ) → c ≤ b → c ≡ b + 1 → ⊥
+      apart c a q = omega arith
+
+      later : (c : ℕ) → b < c → c + 1 ≡ b + 1 → ⊥
+      later c a q = omega arith
+
+      old : (c : ℕ) → c ≤ b → getD (set s (b + 1) (getD st (b + 1) 0 + before g b)) c 0 ≡ getD st c 0
+      old c a = getD-set-other s (b + 1) c (getD st (b + 1) 0 + before g b) 0 (λ q. apart c a q) ∙ O .old c (omega arith)
+
+      new : (c : ℕ) → c < buckets → (b ≡ c) ⊎ (b < c) → getD (set s (b + 1) (getD st (b + 1) 0 + before g b)) (c + 1) 0 ≡ getD st (c + 1) 0 + before g c
+      new c l (inl q) = subst (λ (d : ℕ). getD (set s (b + 1) (getD st (b + 1) 0 + before g b)) (d + 1) 0 ≡ getD st (d + 1) 0 + before g d) q (getD-set-same s (b + 1) (getD st (b + 1) 0 + before g b) 0 (let t = O .table in omega arith))
+      new c l (inr q) = getD-set-other s (b + 1) (c + 1) (getD st (b + 1) 0 + before g b) 0 (λ z. later c q z) ∙ O .new c (omega arith) l
+
+      moved : (c : ℕ) → c < buckets → (b ≡ c) ⊎ (b < c) → (j : ℕ) → getD st c 0 ≤ j → j < getD st (c + 1) 0 → getD e' (j + before g c) 0 ≡ getD e₀ j 0
+      moved c l (inl q) = subst (λ (d : ℕ). (j : ℕ) → getD st d 0 ≤ j → j < getD st (d + 1) 0 → getD e' (j + before g d) 0 ≡ getD e₀ j 0) q (λ j a z. M .up j a z ∙ O .kept j z)
+      moved c l (inr q) = λ j a z.
+          (let t = R (b + 1) c (omega arith) (omega arith) in
+          let u = before-rise g b c (omega arith) in
+          M .back (j + before g c) (omega arith) ∙ O .moved c (omega arith) l j a z)
+
+      kept : (j : ℕ) → j < getD st b 0 → getD e' j 0 ≡ getD e₀ j 0
+      kept j a = M .front j (omega arith) ∙ O .kept j (let t = rise in omega arith)
+
+      rest : (j : ℕ) → getD st buckets 0 + before g buckets ≤ j → getD e' j 0 ≡ getD e₀ j 0
+      rest j a =
+          let t = R (b + 1) buckets (omega arith) (omega arith) in
+          let u = before-rise g b buckets (omega arith) in
+          M .back j (omega arith) ∙ O .rest j a
+
+  -- where no new entries come before a bucket, it and those before it stay
+  pub opened-end : (b : ℕ) (e s : List ℕ) → b ≤ buckets → before g b ≡ 0 → Opened st g e₀ b e s → Opened st g e₀ 0 e s
+  opened-end b e s h z O = record { size = O .size; table = O .table; old = λ c a. O .old c (omega arith); new = λ c a l. new c l (split c); moved = λ c a l. moved c l (split c); kept = λ j a. O .kept j (let t = R 0 b (omega arith) (omega arith) in omega arith); rest = O .rest }
+    where
+      split : (c : ℕ) → (c < b) ⊎ (b ≤ c)
+      split c = Rattle.index.proofs.Collecting.lt-or-ge c b
+
+      none : (c : ℕ) → c < b → before g c ≡ 0
+      none c a = let t = before-rise g c b (omega arith) in omega arith
+
+      new : (c : ℕ) → c < buckets → (c < b) ⊎ (b ≤ c) → getD s (c + 1) 0 ≡ getD st (c + 1) 0 + before g c
+      new c l (inl a) = let n = none c a in O .old (c + 1) (omega arith) ∙ (let q : getD st (c + 1) 0 ≡ getD st (c + 1) 0 + before g c = omega arith in q)
+      new c l (inr a) = O .new c a l
+
+      moved : (c : ℕ) → c < buckets → (c < b) ⊎ (b ≤ c) → (j : ℕ) → getD st c 0 ≤ j → j < getD st (c + 1) 0 → getD e (j + before g c) 0 ≡ getD e₀ j 0
+      moved c l (inl a) j x y =
+          let n = none c a in
+          let q : j + before g c ≡ j = omega arith in
+          let t = R (c + 1) b (omega arith) (omega arith) in
+          ap (λ (i : ℕ). getD e i 0) q ∙ O .kept j (omega arith)
+      moved c l (inr a) j x y = O .moved c a l j x y
+
+-- ---- open gaps are blocks of the old entries, where the new lists begin
+pub opened-blocks : (ix : Index) (standing : List Float) (m c : ℕ) (g e₀ st e s : List ℕ) → Laid ix standing m e₀ st → Counted ix standing c m g → Opened st g e₀ 0 e s → Blocks (startOf ix standing (m + c)) (entered ix standing m) e s
+opened-blocks ix standing m c g e₀ st e s L C O = record { table = O .table ∙ L .table; first = O .old 0 (omega arith) ∙ L .first; ends = ends; holds = holds }
+  where
+    begins : (b : ℕ) → b ≤ buckets → startOf ix standing (m + c) b ≡ getD st b 0 + before g b
+    begins b h = start-gain ix standing m c g C b h ∙ ap (λ (k : ℕ). k + before g b) (sym (laid-starts ix standing m e₀ st L b h))
+
+    next : (b : ℕ) → b < buckets → getD st (b + 1) 0 ≡ getD st b 0 + length (entered ix standing m b)
+    next b h = let a = laid-starts ix standing m e₀ st L b (omega arith) in let d = laid-starts ix standing m e₀ st L (b + 1) (omega arith) in let f = start-next ix standing m b in omega arith
+
+    ends : (b : ℕ) → b < buckets → getD s (b + 1) 0 ≡ startOf ix standing (m + c) b + length (entered ix standing m b)
+    ends b h = let a = O .new b (omega arith) h in let d = begins b (omega arith) in let f = next b h in omega arith
+
+    holds : (b : ℕ) → b < buckets → (j : ℕ) → j < length (entered ix standing m b) → getD e (startOf ix standing (m + c) b + j) 0 ≡ getD (entered ix standing m b) j 0
+    holds b h j l =
+        let d = begins b (omega arith) in
+        let f = next b h in
+        let q : startOf ix standing (m + c) b + j ≡ getD st b 0 + j + before g b = omega arith in
+        ap (λ (i : ℕ). getD e i 0) q ∙ (O .moved b (omega arith) h (getD st b 0 + j) (omega arith) (omega arith) ∙ laid-holds ix standing m e₀ st L b h j l)
+
+-- one turn of the loop
+pub opened-turn : (st g e₀ : List ℕ) → length st ≡ buckets + 1 → ((b c : ℕ) → b ≤ c → c < buckets + 1 → getD st b 0 ≤ getD st c 0) → (b left : ℕ) (e s e' : List ℕ) → 0 < b → b ≤ buckets → left ≡ before g b → Opened st g e₀ b e s
+    → Moved (getD s (b - 1) 0) (getD s (b - 1 + 1) 0) (left - getD g (b - 1) 0) e e' → Opened st g e₀ (b - 1) e' (set s (b - 1 + 1) (getD s (b - 1 + 1) 0 + (left - getD g (b - 1) 0)))
+opened-turn st g e₀ T R b left e s e' h l q O M =
+    subst (λ (k : ℕ). Opened st g e₀ (b - 1) e' (set s (b - 1 + 1) k)) sum
+    (opened-step st g e₀ T R (b - 1) e s e' (omega arith) (subst (λ (k : ℕ). Opened st g e₀ k e s) (sym back) O)
+    (subst (λ (k : ℕ). Moved (getD st (b - 1) 0) (getD st (b - 1 + 1) 0) k e e') gone (subst (λ (k : ℕ). Moved (getD st (b - 1) 0) k (left - getD g (b - 1) 0) e e') high (subst (λ (k : ℕ). Moved k (getD s (b - 1 + 1) 0) (left - getD g (b - 1) 0) e e') low M))))
+  where
+    back : b - 1 + 1 ≡ b
+    back = omega arith
+
+    low : getD s (b - 1) 0 ≡ getD st (b - 1) 0
+    low = O .old (b - 1) (omega arith)
+
+    high : getD s (b - 1 + 1) 0 ≡ getD st (b - 1 + 1) 0
+    high = O .old (b - 1 + 1) (omega arith)
+
+    gone : left - getD g (b - 1) 0 ≡ before g (b - 1)
+    gone = let z = Rattle.enter.proofs.Starts.before-back g b h in omega arith
+
+    sum : getD st (b - 1 + 1) 0 + before g (b - 1) ≡ getD s (b - 1 + 1) 0 + (left - getD g (b - 1) 0)
+    sum = let x = high in let y = gone in omega arith

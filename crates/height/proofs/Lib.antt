@@ -1,0 +1,3 @@
+pub mod SmallestHeight
+pub mod Passes
+pub mod Rearranging

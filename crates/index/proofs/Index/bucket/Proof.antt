@@ -1,0 +1,46 @@
+use mathlib.Core.Path.{_≡_, sym, ap, _∙_, refl, subst}
+use mathlib.Core.Bool.{Bool, true, false, cond, _||_}
+use mathlib.Core.List.{List, [], _∷_, flatMap}
+use Prim.Native.Nat.{ℕ, _+_, _-_, _*_, _/_, _≤_, _<_, min}
+use native.Mathlib.Omega.{arith}
+use lib.ListN.{length, getD, length-set}
+use lib.Ieee.{Float, lt}
+use lib.Dec.{eqb}
+use Rattle.numbers.specs.Numbers.{smaller, larger}
+use Rattle.trapezoid.specs.declared.Trapezoid.{Trapezoid}
+use Rattle.trapezoid.specs.Strip.{stripAt, capacity}
+use Rattle.index.specs.declared.Interval.{Interval}
+use Rattle.index.specs.declared.Moving.{Moving}
+use Rattle.index.specs.declared.Meeting.{Meeting}
+use Rattle.index.specs.declared.Meeting.the-variants.{Apart, Forbidden}
+use Rattle.index.specs.Buckets.{buckets, upFrom, indexOf, bucketIn}
+use Rattle.index.specs.Intervals.{intervalOf, countsOf}
+use Rattle.index.specs.Listing.{movingOf, heightsOf, meetingAt, pairOf, Collected, collected, push, pushAll, metIn, entryOf, listEntries, listBucket, listMoving, listed, Usable}
+use Rattle.index.proofs.Steps.{meeting-apart, meeting-over, pair-none, pair-counts, pair-counts-not, pushAll-one, pushAll-none, entry-true, entry-false, eqb-yes, eqb-no, push-true, push-false, lt-ltb, ge-ltb, kept-length, over-end, turn, bucket-top}
+use borrow.Author.Needs.{needs}
+use Rattle.index.proofs.Index.bucket.Statement.{statement}
+use Rattle.index.proofs.Index.bucket.Tie as tie
+use Rattle.index.proofs.Index.bucket.Reads as reads
+use Rattle.index.proofs.Index.bucket.Lts as lts
+use Rattle.numbers.proofs.floor.Reads as floor-reads
+
+-- src/lib.rt:60:17
+floor-requires : tie.Need-floor-requires
+floor-requires c κs = search needs
+
+-- src/lib.rt:62:13
+returns : tie.Need-returns
+unfolding bucketIn
+returns c = omega (arith, c .if1 .taken, c .before .floor .ensures)
+
+-- src/lib.rt:64:9
+sub-result : tie.Need-sub-result
+sub-result c = search needs
+
+-- src/lib.rt:57:5
+returns-2 : tie.Need-returns-2
+unfolding bucketIn
+returns-2 c = omega (arith, c .if1 .left, c .before .floor .ensures)
+
+pub bucket-spec : {M : Type 1} → statement M
+bucket-spec = tie.close (tie.spec floor-requires returns sub-result returns-2)

@@ -1,0 +1,42 @@
+use mathlib.Core.Path.{_≡_, sym, ap, _∙_, refl, subst}
+use mathlib.Core.Bool.{Bool, true, false, cond, _||_}
+use mathlib.Core.List.{List, [], _∷_, flatMap}
+use Prim.Native.Nat.{ℕ, _+_, _-_, _*_, _/_, _≤_, _<_, min}
+use native.Mathlib.Omega.{arith}
+use lib.ListN.{length, getD, length-set}
+use lib.Ieee.{Float, lt}
+use lib.Dec.{eqb}
+use Rattle.numbers.specs.Numbers.{smaller, larger}
+use Rattle.trapezoid.specs.declared.Trapezoid.{Trapezoid}
+use Rattle.trapezoid.specs.Strip.{stripAt, capacity}
+use Rattle.index.specs.declared.Interval.{Interval}
+use Rattle.index.specs.declared.Moving.{Moving}
+use Rattle.index.specs.declared.Meeting.{Meeting}
+use Rattle.index.specs.declared.Meeting.the-variants.{Apart, Forbidden}
+use Rattle.index.specs.Buckets.{buckets, upFrom, indexOf, bucketIn}
+use Rattle.index.specs.Intervals.{intervalOf, countsOf}
+use Rattle.index.specs.Listing.{movingOf, heightsOf, meetingAt, pairOf, Collected, collected, push, pushAll, metIn, entryOf, listEntries, listBucket, listMoving, listed, Usable}
+use Rattle.index.proofs.Steps.{meeting-apart, meeting-over, pair-none, pair-counts, pair-counts-not, pushAll-one, pushAll-none, entry-true, entry-false, eqb-yes, eqb-no, push-true, push-false, lt-ltb, ge-ltb, kept-length, over-end, turn, bucket-top}
+use borrow.Author.Needs.{needs}
+use Rattle.index.proofs.Index.new.Statement.{statement}
+use Rattle.index.proofs.Index.new.Tie as tie
+use Rattle.index.proofs.Index.new.Reads as reads
+use Rattle.index.proofs.Index.new.Lts as lts
+use Rattle.numbers.proofs.larger.Reads as larger-reads
+
+-- src/lib.rt:51:34
+int-to-float-share : tie.Need-int-to-float-share
+unfolding lib.Ieee.inFloat
+int-to-float-share c = search needs
+
+-- src/lib.rt:52:13
+larger-requires : tie.Need-larger-requires
+larger-requires c κs = search needs
+
+-- src/lib.rt:48:5
+returns : tie.Need-returns
+unfolding indexOf larger
+returns c = rw (c .larger .ensures)
+
+pub new-spec : {M : Type 1} → statement M
+new-spec = tie.close (tie.spec int-to-float-share larger-requires returns)

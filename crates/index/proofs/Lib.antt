@@ -1,0 +1,6 @@
+pub mod Steps
+pub mod Flat
+pub mod Collecting
+pub mod BucketOrder
+pub mod NewIndex
+pub mod Listed

@@ -1,0 +1,54 @@
+-- Document 01, "Index", first part: buckets and entries. Definitions only. Assumes nothing.
+use Prim.Native.Nat.{ℕ, zero, suc, _+_, _-_, _*_, _/_, min}
+use mathlib.Core.Bool.{Bool, true, false, _&&_}
+use mathlib.Core.List.{List, [], _∷_, map, flatMap}
+use lib.ListN.{length}
+use lib.Dec.{leb}
+use lib.Ieee.{Float, binary64, ofBits, toUnsigned}
+use Rattle.numbers.specs.Numbers.{_⊖_, _⊘_, larger, fromInt}
+use Rattle.trapezoid.specs.declared.Trapezoid.{Trapezoid}
+use Rattle.trapezoid.specs.Strip.{stripAt}
+use Rattle.index.specs.declared.Index.{Index}
+
+-- the n numbers from c on
+unfoldable pub upFrom : ℕ → ℕ → List ℕ
+upFrom zero c = []
+upFrom (suc n) c = c ∷ upFrom n (suc c)
+
+-- those of a list that pass a test
+unfoldable pub keep {ℓ} : {A : Type ℓ} → (A → Bool) → List A → List A
+keep test [] = []
+keep test (a ∷ as′) = elim (test a) [ true ↦ a ∷ keep test as′ | false ↦ keep test as′ ]
+
+-- "The index has 512 buckets, numbered 0 to 511"
+abbrev pub buckets : ℕ
+buckets = 512
+
+-- "a bucket's width is at least 2^−1022"
+abbrev pub leastWidth : Float
+leastWidth = ofBits binary64 0x0010_0000_0000_0000
+
+-- "over the sheet's width": the index from x0 to x1
+unfoldable pub indexOf : Float → Float → Index
+indexOf x0 x1 = record { x0 = x0; width = larger ((x1 ⊖ x0) ⊘ fromInt buckets) leastWidth }
+
+-- "The bucket of x is (x − x0) / width rounded down, held to 0..511; a quotient too large for a double is bucket 511, one too far below zero bucket 0."
+unfoldable pub bucketIn : Index → Float → ℕ
+bucketIn ix x = min (toUnsigned 64 ((x ⊖ ix .x0) ⊘ ix .width)) (buckets - 1)
+
+-- "A standing strip is entered in every bucket from its x0 to its x1"
+unfoldable pub covers : Index → Trapezoid → ℕ → Bool
+covers ix p b = leb (bucketIn ix (p .x0)) b && leb b (bucketIn ix (p .x1))
+
+-- the entries of bucket b: the numbers of the n standing strips of the room that are entered in it
+unfoldable pub entered : Index → List Float → ℕ → ℕ → List ℕ
+entered ix standing n b = keep (λ i. covers ix (stripAt standing i) b) (upFrom n 0)
+
+-- "Entries lie by bucket, then strip number."
+unfoldable pub entriesOf : Index → List Float → ℕ → List ℕ
+entriesOf ix standing n = flatMap (entered ix standing n) (upFrom buckets 0)
+
+-- what a computed claim opens
+unfoldable pub buckets-compute : Unit {0}
+unfolding upFrom keep indexOf bucketIn covers entered entriesOf
+buckets-compute = tt

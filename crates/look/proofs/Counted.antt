@@ -1,0 +1,125 @@
+-- Intervals that do not count change no look; more intervals never lower its height. Assumes nothing.
+use Prim.Native.Nat.{ℕ, _≤_, _<_}
+use native.Mathlib.Omega.{arith}
+use mathlib.Core.Path.{_≡_, refl, sym, ap, _∙_, subst}
+use mathlib.Core.Logic.{_⊎_, inl, inr}
+use mathlib.Core.Bool.{Bool, true, false, not, _&&_}
+use mathlib.Core.List.{List, [], _∷_, _++_, List·Memᴰ, List·Memᴰ·append-cases, Memᴰ·append-left, Memᴰ·append-right}
+use lib.Dec.{T}
+use lib.Ieee.{Float, binary64, fits, lt, le}
+use Rattle.numbers.proofs.Doubles.{k, Finite, finite}
+use Rattle.numbers.proofs.RoundDown.{le-real}
+use Rattle.index.specs.declared.Interval.{Interval}
+use Rattle.index.specs.Buckets.{keep}
+use Rattle.index.specs.Intervals.{forbiddenOf, countsOf, countedOf}
+use Rattle.index.specs.Listing.{Bounded}
+use Rattle.index.proofs.Steps.{dich}
+use Rattle.height.specs.declared.Look.{Look}
+use Rattle.height.specs.declared.Look.the-variants.{Free, Full}
+use Rattle.height.specs.Smallest.{inside, outside, heightOf}
+use Rattle.height.specs.Raising.{FiniteEnd, FiniteEnds}
+use Rattle.height.proofs.SmallestHeight.{clash, Real, real-of, lt-is-true, lt-is-false, le-is-true, is-lt, is-le, inside-key, outside-of, of-outside, keep-mem, mem-keep, Smallest, NoneFree, height-free, height-full, free-height, full-height}
+use Rattle.look.specs.Looking.{forbiddenIn, countedIn}
+use Rattle.look.specs.Ready.{BoundedStrips}
+use Rattle.look.proofs.IntervalEnds.{forbidden-finite}
+
+-- every interval of the one list is in the other
+abbrev pub Within : List Interval → List Interval → Type 0
+Within is js = (i : Interval) → List·Memᴰ i is → List·Memᴰ i js
+
+pub outside-within : (is js : List Interval) → Within is js → (z : Float) → outside js z ≡ true → outside is z ≡ true
+outside-within is js w z c = of-outside is z (λ i m. outside-of js z c i (w i m))
+
+module _ (yl yh : Float) (L : Finite yl) (H : Finite yh) where
+  -- two lists that leave the same heights from y-low to y-high give the same answer
+  pub same-height : (is js : List Interval) → FiniteEnds is → FiniteEnds js
+      → ((z : Float) → Real z → k yl ≤ k z → k z ≤ k yh → outside is z ≡ true → outside js z ≡ true)
+      → ((z : Float) → Real z → k yl ≤ k z → k z ≤ k yh → outside js z ≡ true → outside is z ≡ true)
+      → heightOf yl yh is ≡ heightOf yl yh js
+  same-height is js F G to back = go (heightOf yl yh is) refl
+    where
+      first : (h : Float) → Smallest yl yh is h → (z : Float) → Real z → k yl ≤ k z → outside js z ≡ true → (k yh < k z) ⊎ (k z ≤ k yh) → k h ≤ k z
+      first h S z Z a c (inl l) = let b = S .upto in omega arith
+      first h S z Z a c (inr l) = S .first z Z a (back z Z a l c)
+
+      go : (l : Look) → heightOf yl yh is ≡ l → l ≡ heightOf yl yh js
+      go Full e = sym (full-height yl yh js L H G (λ z Z a l c. height-full yl yh is L H F e z Z a l (back z Z a l c)))
+      go (Free h) e =
+          let S = height-free yl yh is L H F h e in
+          let R = real-of (finite (S .number)) in
+          sym (free-height yl yh js L H G h (record { number = S .number; from = S .from; upto = S .upto; out = to h R (S .from) (S .upto) (S .out); first = λ z Z a c. first h S z Z a c (Rattle.height.proofs.SmallestHeight.lt-or-ge (k yh) (k z)) }))
+
+  -- an interval that does not count holds no height from y-low to y-high
+  uncounted : (i : Interval) → FiniteEnd i → countsOf yl yh i ≡ false → (z : Float) → Real z → k yl ≤ k z → k z ≤ k yh → inside z i ≡ true → ⊥
+  unfolding countsOf
+  uncounted i I e z Z a b t =
+      let q = inside-key Z I t in
+      let x = is-lt (real-of (I .from)) (real-of (I .to)) (omega (arith, q .0, q .1)) in
+      let y = is-lt (real-of L) (real-of (I .to)) (omega (arith, q .1)) in
+      let w = is-lt (real-of (I .from)) (real-of H) (omega (arith, q .0)) in
+      clash (rw (x, y, w)) e
+
+  pub keep-height : (is : List Interval) → FiniteEnds is → heightOf yl yh (keep (countsOf yl yh) is) ≡ heightOf yl yh is
+  keep-height is F = same-height (keep (countsOf yl yh) is) is (λ i m. F i (keep-mem (countsOf yl yh) i is m .0)) F
+      (λ z Z a b c. of-outside is z (λ i m. at i m z Z a b c (dich (countsOf yl yh i)) (dich (inside z i))))
+      (λ z Z a b c. outside-within (keep (countsOf yl yh) is) is (λ i m. keep-mem (countsOf yl yh) i is m .0) z c)
+    where
+      at : (i : Interval) → List·Memᴰ i is → (z : Float) → Real z → k yl ≤ k z → k z ≤ k yh → outside (keep (countsOf yl yh) is) z ≡ true → (countsOf yl yh i ≡ true) ⊎ (countsOf yl yh i ≡ false) → (inside z i ≡ true) ⊎ (inside z i ≡ false) → inside z i ≡ false
+      at i m z Z a b c (inl e) t = outside-of (keep (countsOf yl yh) is) z c i (mem-keep (countsOf yl yh) i is m e)
+      at i m z Z a b c (inr e) (inl t) = absurd (uncounted i (F i m) e z Z a b t)
+      at i m z Z a b c (inr e) (inr t) = t
+
+  -- more intervals leave full what is full
+  pub more-full : (is js : List Interval) → FiniteEnds is → FiniteEnds js → Within is js → heightOf yl yh is ≡ Full → heightOf yl yh js ≡ Full
+  more-full is js F G w e = full-height yl yh js L H G (λ z Z a b c. height-full yl yh is L H F e z Z a b (outside-within is js w z c))
+
+  -- and never lower the height
+  pub more-higher : (is js : List Interval) → FiniteEnds is → FiniteEnds js → Within is js → (h g : Float) → heightOf yl yh is ≡ Free h → heightOf yl yh js ≡ Free g → le h g ≡ true
+  more-higher is js F G w h g d e =
+      let S = height-free yl yh is L H F h d in
+      let R = height-free yl yh js L H G g e in
+      is-le (real-of (finite (S .number))) (real-of (finite (R .number))) (S .first g (real-of (finite (R .number))) (R .from) (outside-within is js w g (R .out)))
+
+-- ---- of a look
+keep-append : (test : Interval → Bool) (is js : List Interval) → keep test (is ++ js) ≡ keep test is ++ keep test js
+keep-append test is js = Rattle.index.proofs.Flat.keep-append test is js
+
+pub counted-is : (x yl yh : Float) (inset apart sheet placed : List Float) → keep (countsOf yl yh) (forbiddenIn x inset apart sheet placed) ≡ countedIn x yl yh inset apart sheet placed
+unfolding forbiddenIn countedIn countedOf
+counted-is x yl yh inset apart sheet placed = keep-append (countsOf yl yh) (forbiddenOf sheet inset x) (forbiddenOf placed apart x)
+
+module _ (x yl yh : Float) (inset apart sheet placed : List Float) (L : Finite yl) (H : Finite yh) (X : Bounded 2000000 x)
+    (I : BoundedStrips inset) (A : BoundedStrips apart) (S : BoundedStrips sheet) (P : BoundedStrips placed) where
+  pub all-finite : FiniteEnds (forbiddenIn x inset apart sheet placed)
+  unfolding forbiddenIn
+  all-finite i m = go (List·Memᴰ·append-cases (forbiddenOf sheet inset x) m)
+    where
+      go : List·Memᴰ i (forbiddenOf sheet inset x) ⊎ List·Memᴰ i (forbiddenOf placed apart x) → FiniteEnd i
+      go (inl n) = forbidden-finite sheet inset x S I X i n
+      go (inr n) = forbidden-finite placed apart x P A X i n
+
+  pub counted-finite : FiniteEnds (countedIn x yl yh inset apart sheet placed)
+  counted-finite = rw (← counted-is x yl yh inset apart sheet placed) (λ i m. all-finite i (keep-mem (countsOf yl yh) i (forbiddenIn x inset apart sheet placed) m .0))
+
+  -- the counted intervals give the look of all forbidden ones
+  pub counted-height : heightOf yl yh (countedIn x yl yh inset apart sheet placed) ≡ heightOf yl yh (forbiddenIn x inset apart sheet placed)
+  counted-height = rw (← counted-is x yl yh inset apart sheet placed) (keep-height yl yh L H (forbiddenIn x inset apart sheet placed) all-finite)
+
+  -- where the look is free, its height is the smallest of all doubles from y-low on that lie in no forbidden interval of any pair, counted or not
+  pub free-smallest : (h : Float) → heightOf yl yh (countedIn x yl yh inset apart sheet placed) ≡ Free h
+      → (le yl h ≡ true) × (le h yh ≡ true) × (outside (forbiddenIn x inset apart sheet placed) h ≡ true)
+      × ((z : Float) → T (fits binary64 z) → le yl z ≡ true → outside (forbiddenIn x inset apart sheet placed) z ≡ true → le h z ≡ true)
+  free-smallest h e =
+      let R = height-free yl yh (forbiddenIn x inset apart sheet placed) L H all-finite h (sym counted-height ∙ e) in
+      let r = real-of (finite (R .number)) in
+      (is-le (real-of L) r (R .from), is-le r (real-of H) (R .upto), R .out, λ z f l c. (let Z = no-nan z f l in is-le r Z (R .first z Z (le-is-true (real-of L) Z l) c)))
+    where
+      no-nan : (z : Float) → T (fits binary64 z) → le yl z ≡ true → Real z
+      no-nan z f l = record { fit = f; isReal = le-real yl z (subst T (sym l) tt) }
+
+  -- where it is full, no double from y-low to y-high lies in none
+  pub full-none : heightOf yl yh (countedIn x yl yh inset apart sheet placed) ≡ Full
+      → (z : Float) → T (fits binary64 z) → le yl z ≡ true → le z yh ≡ true → outside (forbiddenIn x inset apart sheet placed) z ≡ true → ⊥
+  full-none e z f l g c =
+      let Z : Real z = record { fit = f; isReal = le-real yl z (subst T (sym l) tt) } in
+      height-full yl yh (forbiddenIn x inset apart sheet placed) L H all-finite (sym counted-height ∙ e) z Z (le-is-true (real-of L) Z l) (le-is-true Z (real-of H) g) c

@@ -1,0 +1,4 @@
+pub mod IntervalEnds
+pub mod Counted
+pub mod Answering
+pub mod OnGrid

@@ -1,0 +1,103 @@
+// What a Rust driver links (`rt staticlib look_exports`) to compare looks with the lifted Rust and to
+// time them: entering, the height search and one look, under plain names.
+ghost use mathlib.Core.Path.{_≡_};
+ghost use Prim.Native.Nat.{_+_, _*_, _≤_};
+ghost use lib.ListN.{length};
+ghost use Rattle.numbers.proofs.Doubles.{Finite};
+ghost use Rattle.index.specs.Buckets.{buckets};
+ghost use Rattle.index.specs.Listing.{intervals, Laid};
+ghost use Rattle.height.specs.Raising.{FiniteEnds};
+ghost use Rattle.look.specs.Ready.{Lookable};
+use height::Look;
+use index::Index;
+use look::Answer;
+
+// A height; 1e300 where it is full.
+fn height_or(l: Look) -> f64 {
+    match l {
+        Look::Free(h) => h,
+        Look::Full => 1.0e300,
+    }
+}
+
+// The width of a new index's buckets.
+#[no_mangle]
+pub extern "C" fn panel_width(x0: f64, x1: f64) -> f64 {
+    let ix = Index::new(x0, x1);
+    ix.width
+}
+
+// A look: its height, 1e300 where it is full, -1e300 where the room does not hold its intervals.
+#[no_mangle]
+pub extern "C" fn panel_look(
+    x0: f64,
+    width: f64,
+    x: f64,
+    y_low: f64,
+    y_high: f64,
+    inset: &[f64],
+    apart: &[f64],
+    sheet: &[f64],
+    sheet_entries: &[u32],
+    sheet_starts: &[usize],
+    placed: &[f64],
+    placed_entries: &[u32],
+    placed_starts: &[usize],
+    room: &mut [f64],
+) -> f64
+    requires { ⌜ Lookable (record { x0 = x0; width = width }) x «y_low» «y_high» (now inset) (now apart) (now sheet) (now placed) (now «sheet_entries») (now «sheet_starts») (now «placed_entries») (now «placed_starts») ⌝ }
+{
+    let ix = Index {
+        x0: x0,
+        width: width,
+    };
+    let answer = look::look_at(
+        ix,
+        x,
+        y_low,
+        y_high,
+        inset,
+        apart,
+        sheet,
+        sheet_entries,
+        sheet_starts,
+        placed,
+        placed_entries,
+        placed_starts,
+        room,
+    );
+    match answer {
+        Answer::NoRoom => -1.0e300,
+        Answer::Seen(l) => height_or(l),
+    }
+}
+
+// Enters the strips from `from` to below `to`.
+#[no_mangle]
+pub extern "C" fn panel_enter(
+    x0: f64,
+    width: f64,
+    standing: &[f64],
+    from: usize,
+    to: usize,
+    entries: &mut [u32],
+    starts: &mut [usize],
+    gains: &mut [usize],
+) -> bool
+    requires { ⌜ (from ≤ to) × (6 * to ≤ length (now standing)) × (to ≤ 4294967296) × (length (now gains) ≡ buckets) × Laid (record { x0 = x0; width = width }) (now standing) from (now entries) (now starts) ⌝ }
+{
+    let ix = Index {
+        x0: x0,
+        width: width,
+    };
+    enter::enter_copy(ix, standing, from, to, entries, starts, gains)
+}
+
+// The smallest height in none of the first n intervals of the room.
+#[no_mangle]
+pub extern "C" fn panel_height(room: &mut [f64], n: usize, y_low: f64, y_high: f64) -> f64
+    requires { ⌜ (2 * n ≤ length (now room)) × Finite «y_low» × Finite «y_high» × FiniteEnds (intervals (now room) n) ⌝ }
+{
+    let l = height::height(room, n, y_low, y_high);
+    height_or(l)
+}
