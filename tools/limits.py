@@ -24,7 +24,7 @@ def functions(lines):
 
 def definitions(lines):
     """Each declaration of a specs file: its name, first and last line number."""
-    starts = [i for i, l in enumerate(lines) if re.match(r"(unfoldable |abbrev )?pub ", l)]
+    starts = [i for i, l in enumerate(lines) if re.match(r"[^\s-][^=]* : |(unfoldable |abbrev )?pub ", l)]
     for a, b in zip(starts, starts[1:] + [len(lines)]):
         last = max((i for i in range(a, b) if lines[i].strip() and not lines[i].startswith("--")), default=a)
         yield lines[a].split(" : ")[0], a, last

@@ -12,6 +12,7 @@ use lib.Dec.{T, leb, leb→le, le→leb}
 use lib.Ieee.{Float}
 use Rattle.trapezoid.specs.Strip.{stripAt}
 use Rattle.index.specs.declared.Index.{Index}
+use Rattle.index.proofs.EntryLists.{entries-by-bucket}
 use Rattle.index.specs.Buckets.{buckets, upFrom, keep, bucketIn, covers, entered, entriesOf}
 use Rattle.index.specs.Listing.{Laid}
 use Rattle.index.proofs.Steps.{dich, keep-yes, keep-no, keep-none}
@@ -152,8 +153,8 @@ module _ (ix : Index) (standing : List Float) where
   start-next n b = ap length (flat-snoc (entered ix standing n) b) ∙ length-append (flatMap (entered ix standing n) (upFrom b 0)) (entered ix standing n b)
 
   pub start-last : (n : ℕ) → startOf ix standing n buckets ≡ length (entriesOf ix standing n)
-  unfolding startOf entriesOf
-  start-last n = refl
+  unfolding startOf
+  start-last n = ap length (sym (entries-by-bucket ix standing n))
 
   start-up : (n b d : ℕ) → startOf ix standing n b ≤ startOf ix standing n (b + d)
   start-up n b zero = let e : b + 0 ≡ b = omega arith in rw e (native.Mathlib.Nat.le-refl (startOf ix standing n b))
@@ -200,12 +201,13 @@ module _ (ix : Index) (standing : List Float) where
         ∙ (sym (flat-snoc (entered ix standing n) b) ∙ ap (λ (k : ℕ). flatMap (entered ix standing n) (upFrom k 0)) (add-one b)))))
 
     pub laid-entries : (e₀ : List ℕ) → length e ≡ length e₀ → ((j : ℕ) → startOf ix standing n buckets ≤ j → getD e j 0 ≡ getD e₀ j 0) → e ≡ entriesIn ix standing n e₀
-    unfolding entriesIn entriesOf
+    unfolding entriesIn
     laid-entries e₀ s r =
         let t : getD st buckets 0 ≡ length (entriesOf ix standing n) = laid-starts buckets (omega arith) ∙ start-last n in
         sym (lib.ListN.take-append-drop (getD st buckets 0) e)
         ∙ (ap (λ (l : List ℕ). l ++ drop (getD st buckets 0) e) (prefix buckets (omega arith))
         ∙ ap (λ (l : List ℕ). flatMap (entered ix standing n) (upFrom buckets 0) ++ l) (ap (λ (k : ℕ). drop k e) t ∙ ext-getD 0 (drop (length (entriesOf ix standing n)) e) (drop (length (entriesOf ix standing n)) e₀) (simp length-drop (rw s)) (λ i h. getD-drop (length (entriesOf ix standing n)) e i 0 ∙ (r (length (entriesOf ix standing n) + i) (let q = start-last n in omega arith) ∙ sym (getD-drop (length (entriesOf ix standing n)) e₀ i 0)))))
+        ∙ ap (λ (l : List ℕ). l ++ drop (length (entriesOf ix standing n)) e₀) (sym (entries-by-bucket ix standing n))
 
     pub laid-table : st ≡ startsOf ix standing n
     unfolding startsOf

@@ -4,3 +4,4 @@ pub mod Collecting
 pub mod BucketOrder
 pub mod NewIndex
 pub mod Listed
+pub mod EntryLists

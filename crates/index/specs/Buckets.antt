@@ -44,11 +44,29 @@ covers ix p b = leb (bucketIn ix (p .x0)) b && leb b (bucketIn ix (p .x1))
 unfoldable pub entered : Index → List Float → ℕ → ℕ → List ℕ
 entered ix standing n b = keep (λ i. covers ix (stripAt standing i) b) (upFrom n 0)
 
--- "Entries lie by bucket, then strip number."
+-- the same "from its x0 to its x1": the first and the last bucket of a strip
+pub record Span : Type 0 where
+  pub first : ℕ
+  pub last : ℕ
+
+-- the buckets of a strip
+unfoldable pub spanOf : Index → Trapezoid → Span
+spanOf ix p = record { first = bucketIn ix (p .x0); last = bucketIn ix (p .x1) }
+
+-- of strips numbered from i on, those entered in bucket b
+unfoldable pub numbersIn : ℕ → ℕ → List Span → List ℕ
+numbersIn b i [] = []
+numbersIn b i (s ∷ ss) = elim (leb (s .first) b && leb b (s .last)) [ true ↦ i ∷ numbersIn b (suc i) ss | false ↦ numbersIn b (suc i) ss ]
+
+-- by bucket, then strip number
+unfoldable pub byBucket : List Span → List ℕ
+byBucket ss = flatMap (λ b. numbersIn b 0 ss) (upFrom buckets 0)
+
+-- "Entries lie by bucket, then strip number." Each strip's buckets are worked out once, so that it computes
 unfoldable pub entriesOf : Index → List Float → ℕ → List ℕ
-entriesOf ix standing n = flatMap (entered ix standing n) (upFrom buckets 0)
+entriesOf ix standing n = byBucket (map (λ i. spanOf ix (stripAt standing i)) (upFrom n 0))
 
 -- what a computed claim opens
 unfoldable pub buckets-compute : Unit {0}
-unfolding upFrom keep indexOf bucketIn covers entered entriesOf
+unfolding upFrom keep indexOf bucketIn covers entered spanOf numbersIn byBucket entriesOf
 buckets-compute = tt

@@ -8,6 +8,7 @@ use lib.Dec.{leb}
 use borrow.Author.Needs.{needs}
 use Rattle.trapezoid.specs.declared.Trapezoid.{Trapezoid}
 use Rattle.trapezoid.specs.Strip.{stripAt}
+use Rattle.index.proofs.EntryLists.{entries-by-bucket}
 use Rattle.index.specs.Buckets.{upFrom}
 use Rattle.index.specs.Buckets.{buckets, bucketIn, covers, keep, entered, entriesOf}
 use Rattle.entries.specs.declared.Walked.{Walked}
@@ -93,14 +94,13 @@ same-length c = c .before .before .before .before .loop .inv .2 .table ∙ sym (
 
 -- src/lib.rt:83:17
 returns : tie.Need-returns Inv-loop μ-loop
-unfolding entriesOf
 returns c = let g = c .before .before .before .before .before .before .before .before .args in
     let p = c .before .before .before .before .before .before .before .before .pre in
     let l = c .before .before .before .before .loop in
     let es = g .entries .now in
     let f = entered (g .ix) (g .standing .now) (g .n) in
     let q = sym (c .before .before .walk-bucket .ensures) ∙ c .enum-told .given .1 in
-    (sym (then-wrong es (f (l .b)) (flatMap f (upFrom (buckets - (l .b + 1)) (l .b + 1))) (l .e) q) ∙ (ap (follows es (l .e)) (sym (flat-on f buckets (l .b) (c .before .before .before .loop-test .taken))) ∙ l .inv .3), tt)
+    (sym (then-wrong es (f (l .b)) (flatMap f (upFrom (buckets - (l .b + 1)) (l .b + 1))) (l .e) q) ∙ (ap (follows es (l .e)) (sym (flat-on f buckets (l .b) (c .before .before .before .loop-test .taken))) ∙ (l .inv .3 ∙ ap (follows es 0) (sym (entries-by-bucket (g .ix) (g .standing .now) (g .n))))), tt)
 
 -- src/lib.rt:68:1
 same-length-2 : tie.Need-same-length-2 Inv-loop μ-loop
@@ -108,7 +108,6 @@ same-length-2 c = c .before .loop .inv .2 .table ∙ sym (c .before .before .bef
 
 -- src/lib.rt:68:1
 returns-2 : tie.Need-returns-2 Inv-loop μ-loop
-unfolding entriesOf
 returns-2 c = let g = c .before .before .before .before .before .args in
     let p = c .before .before .before .before .before .pre in
     let l = c .before .loop in
@@ -116,7 +115,7 @@ returns-2 c = let g = c .before .before .before .before .before .args in
     let f = entered (g .ix) (g .standing .now) (g .n) in
     let e : l .b ≡ buckets = omega (arith, l .inv .0) in
     let F = subst (λ (z : ℕ). Filled (g .ix) (g .standing .now) (g .n) es (l .starts) z) e (l .inv .2) in (
-      sym (ap (follows es (l .e)) (flat-end f buckets (l .b) (omega arith)) ∙ follows-none es (l .e)) ∙ l .inv .3,
+      sym (ap (follows es (l .e)) (flat-end f buckets (l .b) (omega arith)) ∙ follows-none es (l .e)) ∙ (l .inv .3 ∙ ap (follows es 0) (sym (entries-by-bucket (g .ix) (g .standing .now) (g .n)))),
       (filled-laid (g .ix) (g .standing .now) (g .n) es (l .starts) (p .0) F),
     )
 

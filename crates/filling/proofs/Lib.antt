@@ -1,0 +1,15 @@
+pub mod Lists
+pub mod Reading
+pub mod FullStays
+pub mod FirstFree
+pub mod Sizes
+pub mod Entered
+pub mod Steps
+pub mod Rows
+pub mod Begin
+pub mod Runs
+pub mod Demand3
+pub mod Numbers31
+pub mod Never31
+pub mod Refused
+pub mod EntryWalk

@@ -1,0 +1,134 @@
+-- What every copy taken keeps, every list of next-copy calls keeps, and every filling that is not refused. Assumes nothing.
+use mathlib.Core.Path.{_≡_, refl, sym, ap, _∙_}
+use mathlib.Core.Logic.{_⊎_, inl, inr}
+use mathlib.Core.Bool.{Bool, true, false}
+use mathlib.Core.List.{List, [], _∷_}
+use Prim.Native.Nat.{ℕ, zero, suc}
+use native.Mathlib.Omega.{arith}
+use lib.ListN.{length, replicate}
+use lib.Ieee.{Float}
+use Rattle.numbers.proofs.Truth.{either}
+use Rattle.numbers.specs.Numbers.{posZero}
+use Rattle.job.specs.Jobs.{Job, Answer, accepted, refused, readJob}
+use Rattle.filling.specs.declared.State.{State}
+use Rattle.filling.specs.declared.Plan.{Plan}
+use Rattle.filling.specs.declared.Refusal.{Refusal}
+use Rattle.filling.specs.declared.Refusal.the-variants as Why
+use Rattle.filling.specs.declared.Verdict.{Verdict}
+use Rattle.filling.specs.declared.Verdict.the-variants.{Accepted, Refused}
+use Rattle.filling.specs.Refusals.{isRefused}
+use Rattle.filling.specs.Shapes.{Planner, plannerOf}
+use Rattle.filling.specs.Plain.{Plain, plainTake, plainCalls}
+use Rattle.filling.specs.Rooms.{Rooms, Lent, laid, zeros, onlyPositions}
+use Rattle.filling.specs.Consistent.{consistent}
+use Rattle.filling.specs.Start.{startVerdict, firstState, firstRooms}
+use Rattle.filling.specs.NextCopy.{Step, noStep, coreStep, stepJob, stepGiven, nextCopyOf}
+use Rattle.filling.specs.Accounts.{positions, flatPositions, placedOf, unplacedOf, looksBySlot, planOf}
+use Rattle.filling.specs.Fill.{Filling, filled, stopped, fillFrom, fillOrder, Planned, notPlanned, plannedWith, plannedBy, fillJob, fillGiven, fillOf}
+use Rattle.filling.specs.Calls.{Call, nextCopy, After, callStep, afterCalls, refusals, Outcome, stateOutcome}
+use Rattle.filling.proofs.Steps as Steps
+use Rattle.filling.proofs.Steps.{Linked, Took, unchanged, took, core-outcome, refused≢accepted}
+
+-- ---- what a call does
+
+pub step-consistent : (j : Job) (s : State) (w : Rooms) (iv : List Float) → consistent j s w ≡ true → stepJob j s w iv ≡ coreStep j s w iv
+unfolding stepJob
+step-consistent j s w iv e = rw (e, stepJob)
+
+pub step-inconsistent : (j : Job) (s : State) (w : Rooms) (iv : List Float) → consistent j s w ≡ false → stepJob j s w iv ≡ noStep Why.Inconsistent s w iv
+unfolding stepJob
+step-inconsistent j s w iv e = rw (e, stepJob)
+
+job-outcome : (j : Job) (s : State) (w : Rooms) → Linked j s w → (iv : List Float) → Steps.Outcome j s w (stepJob j s w iv)
+unfolding noStep
+job-outcome j s w h iv = go (either (consistent j s w))
+  where
+    go : (consistent j s w ≡ true) ⊎ (consistent j s w ≡ false) → Steps.Outcome j s w (stepJob j s w iv)
+    go (inl e) = rw (step-consistent j s w iv e) (core-outcome j s w h iv)
+    go (inr e) = rw (step-inconsistent j s w iv e) (unchanged Why.Inconsistent refl refl refl)
+
+pub call-outcome : (bytes : List ℕ) (j : Job) → readJob bytes ≡ accepted j → (s : State) (w : Rooms) → Linked j s w → (c : Call) → Steps.Outcome j s w (callStep bytes c s w)
+unfolding callStep nextCopyOf stepGiven
+call-outcome bytes j e s w h (nextCopy iv) = rw e (job-outcome j s w h iv)
+
+plain-more : (p : Planner) (b : Bool) (bs : List Bool) (q : Plain) → plainCalls p bs (plainCalls p (b ∷ []) q) ≡ plainCalls p (b ∷ bs) q
+unfolding plainCalls
+plain-more p true bs q = refl
+plain-more p false bs q = refl
+
+-- ---- K: what holds of state, rooms and the plain planner's state, and what a copy taken keeps of it
+
+module _ (j : Job) (K : State → Rooms → Plain → Type 0) (linked : (s : State) (w : Rooms) (q : Plain) → K s w q → Linked j s w)
+    (on : (s : State) (w : Rooms) (q : Plain) → K s w q → (r : Step) → Took j s w r → K (r .state) (r .rooms) (plainTake (plannerOf j) q (q .to-come))) where
+  -- a refused call changes nothing, any other takes the next copy
+  pub step-keeps : (s : State) (w : Rooms) (q : Plain) → K s w q → (r : Step) → Steps.Outcome j s w r → K (r .state) (r .rooms) (plainCalls (plannerOf j) (isRefused (r .verdict) ∷ []) q)
+  unfolding isRefused plainCalls
+  step-keeps s w q a r (unchanged k v b c) = rw (v, b, c) a
+  step-keeps s w q a r (took t) = rw (t .accepted) (on s w q a r t)
+
+  pub calls-keep : (bytes : List ℕ) → readJob bytes ≡ accepted j → (cs : List Call) (s : State) (w : Rooms) (q : Plain) → K s w q
+      → let r = afterCalls bytes cs s w in K (r .state) (r .rooms) (plainCalls (plannerOf j) (refusals (r .verdicts)) q)
+  unfolding afterCalls refusals plainCalls
+  calls-keep bytes e [] s w q a = a
+  calls-keep bytes e (c ∷ cs) s w q a =
+      let r = callStep bytes c s w in
+      let b = step-keeps s w q a r (call-outcome bytes j e s w (linked s w q a) c) in
+      let d = calls-keep bytes e cs (r .state) (r .rooms) (plainCalls (plannerOf j) (isRefused (r .verdict) ∷ []) q) b in
+      rw (← plain-more (plannerOf j) (isRefused (r .verdict)) (refusals (afterCalls bytes cs (r .state) (r .rooms) .verdicts)) q) d
+
+  stopped≢filled : {s : State} {k : Refusal} → stopped k ≡ filled s → ⊥
+  stopped≢filled e = let z : _≡_ {A = ℕ} 0 1 = cc in omega arith
+
+  -- one step for every copy, none refused
+  pub fill-keeps : (iv : List Float) (n : ℕ) (s s′ : State) (w : Rooms) (q : Plain) → K s w q → fillFrom j iv n s w ≡ filled s′ → (w′ : Rooms) × K s′ w′ (plainCalls (plannerOf j) (replicate n false) q)
+  unfolding fillFrom plainCalls
+  fill-keeps iv zero s s′ w q a e = let i : s ≡ s′ = cc in (w, rw (← i) a)
+  fill-keeps iv (suc n) s s′ w q a e =
+      go (λ t. fill-keeps iv n (coreStep j s w iv .state) s′ (coreStep j s w iv .rooms) (plainTake (plannerOf j) q (q .to-come)) (on s w q a (coreStep j s w iv) t))
+      (coreStep j s w iv .verdict) refl (core-outcome j s w (linked s w q a) iv) e
+    where
+      r : Step
+      r = coreStep j s w iv
+
+      go : (Took j s w r → fillFrom j iv n (r .state) (r .rooms) ≡ filled s′ → (w′ : Rooms) × K s′ w′ (plainCalls (plannerOf j) (replicate n false) (plainTake (plannerOf j) q (q .to-come))))
+          → (v : Verdict) → r .verdict ≡ v → Steps.Outcome j s w r
+          → _≡_ {A = Filling} (elim v [ Accepted ↦ fillFrom j iv n (r .state) (r .rooms) | Refused k ↦ stopped k ]) (filled s′) → (w′ : Rooms) × K s′ w′ (plainCalls (plannerOf j) (replicate n false) (plainTake (plannerOf j) q (q .to-come)))
+      go more (Refused k) d o e = absurd (stopped≢filled e)
+      go more Accepted d (unchanged k v b c) e = absurd (refused≢accepted (sym v ∙ d))
+      go more Accepted d (took t) e = more t e
+
+-- ---- what a filling's reply and position room say of an outcome
+
+pub record Reports (j : Job) (l : Lent) (r : Planned) (o : Outcome) : Type 0 where
+  pub placed : r .plan .placed ≡ length (o .standing)
+  pub placed-of : r .plan .«placed_of» ≡ placedOf (o .standing)
+  pub positions-are : r .lent .positions ≡ laid (flatPositions (positions j (o .standing))) (zeros posZero (l .positions))
+  pub unplaced : r .plan .unplaced ≡ length (o .without)
+  pub unplaced-of : r .plan .«unplaced_of» ≡ unplacedOf (o .without)
+  pub look-counts : r .plan .«look_counts» ≡ looksBySlot (o .look-counts)
+
+state-reports : (j : Job) (l : Lent) (s : State) (n : ℕ) → Reports j l (plannedWith j l s n) (stateOutcome j s)
+unfolding plannedWith planOf onlyPositions stateOutcome
+state-reports j l s n = record { placed = refl; placed-of = refl; positions-are = refl; unplaced = refl; unplaced-of = refl; look-counts = refl }
+
+module _ (j : Job) (order : List ℕ) (l : Lent) (o : Outcome) (is : startVerdict j order l ≡ Accepted → (s : State) → fillOrder j l order ≡ filled s → stateOutcome j s ≡ o) where
+  fill-stopped : (k : Refusal) → startVerdict j order l ≡ Refused k → fillJob j order l ≡ notPlanned k l
+  unfolding fillJob
+  fill-stopped k e = rw (e, fillJob)
+
+  fill-runs : startVerdict j order l ≡ Accepted → fillJob j order l ≡ plannedBy j l (fillOrder j l order)
+  unfolding fillJob
+  fill-runs e = rw (e, fillJob)
+
+  by-filling : startVerdict j order l ≡ Accepted → (f : Filling) → fillOrder j l order ≡ f → plannedBy j l f .verdict ≡ Accepted → Reports j l (plannedBy j l f) o
+  unfolding plannedBy notPlanned
+  by-filling v (stopped k) d e = absurd (refused≢accepted e)
+  by-filling v (filled s) d e = rw (← is v s d) (state-reports j l s 0)
+
+  pub fill-reports : fillJob j order l .verdict ≡ Accepted → Reports j l (fillJob j order l) o
+  unfolding notPlanned
+  fill-reports e = go (startVerdict j order l) refl
+    where
+      go : (v : Verdict) → startVerdict j order l ≡ v → Reports j l (fillJob j order l) o
+      go (Refused k) d = absurd (refused≢accepted (sym (ap (λ r. r .verdict) (fill-stopped k d)) ∙ e))
+      go Accepted d = rw (fill-runs d) (by-filling d (fillOrder j l order) refl (rw (fill-runs d) at e))

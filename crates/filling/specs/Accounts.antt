@@ -1,0 +1,95 @@
+-- Document 01, "Order and swaps" and "The printed plan": what a filling answers: copy numbers, positions, counts, right, unplaced area, offcut.
+-- Definitions only. Assumes nothing.
+use Prim.Native.Nat.{ℕ, zero, suc, _/_, _%_}
+use mathlib.Core.Bool.{Bool, true, false}
+use mathlib.Core.List.{List, [], _∷_, map, flatMap}
+use lib.ListN.{length, getD, replicate}
+use lib.Dec.{eqb}
+use lib.Ieee.{Float}
+use Rattle.numbers.specs.Numbers.{_⊖_, posZero, fromInt}
+use Rattle.index.specs.Buckets.{upFrom}
+use Rattle.kinds.specs.Kinds.{Kind}
+use Rattle.job.specs.Jobs.{Job}
+use Rattle.filling.specs.declared.State.{State}
+use Rattle.filling.specs.declared.Plan.{Plan}
+use Rattle.filling.specs.Shapes.{Copy, Standing}
+use Rattle.filling.specs.Search.{Track}
+use Rattle.filling.specs.Order.{countIn}
+use Rattle.filling.specs.State.{bySlot, standingOf, withoutOf, tracksOf}
+
+-- "`put`: kind, copy, orientation, x, y"
+pub record Position : Type 0 where
+  pub kind : ℕ
+  pub copy : ℕ
+  pub orientation : ℕ
+  pub x : Float
+  pub y : Float
+
+-- "Placed copies of a kind are numbered from 0 in the final order": those of kind k, from copy n on
+unfoldable pub positionsOfKind : ℕ → ℕ → List Standing → List Position
+positionsOfKind k n [] = []
+positionsOfKind k n (c ∷ cs) =
+    elim (eqb (c .copy .kind) k) [
+      | true ↦ record { kind = k; copy = n; orientation = c .orientation; x = c .x; y = c .y } ∷ positionsOfKind k (suc n) cs
+      | false ↦ positionsOfKind k n cs
+    ]
+
+-- ", and given by kind, then copy"
+unfoldable pub positions : Job → List Standing → List Position
+positions j cs = flatMap (λ k. positionsOfKind k 0 cs) (upFrom (length (j .kinds)) 0)
+
+-- as they lie in the position room, five doubles each
+unfoldable pub flatPositions : List Position → List Float
+flatPositions [] = []
+flatPositions (p ∷ ps) = fromInt (p .kind) ∷ fromInt (p .copy) ∷ fromInt (p .orientation) ∷ p .x ∷ p .y ∷ flatPositions ps
+
+-- by kind (64) the copies that stand, and those without a place
+unfoldable pub placedOf : List Standing → List ℕ
+placedOf cs = map (λ k. length (positionsOfKind k 0 cs)) (upFrom 64 0)
+
+-- the copies without a place by kind: "`left`: .. missing copies"
+unfoldable pub unplacedOf : List Copy → List ℕ
+unplacedOf cs = map (λ k. countIn k (map (λ c. c .kind) cs)) (upFrom 64 0)
+
+-- by slot what a table by kind and orientation says, 0 where it says nothing
+unfoldable pub looksBySlot : List (List ℕ) → List ℕ
+looksBySlot t = bySlot (λ i. getD (getD t (i / 16) []) (i % 16) 0)
+
+-- the look counts by kind and orientation
+unfoldable pub lookCountsOf : Job → State → List (List ℕ)
+lookCountsOf j s = map (map (λ t. t .look-count)) (tracksOf j s)
+
+-- "Offcut = s2 − right."
+unfoldable pub planOf : Job → State → ℕ → Plan
+planOf j s improvements =
+    record {
+      placed = length (standingOf s);
+      unplaced = length (withoutOf s);
+      improvements = improvements;
+      «placed_of» = placedOf (standingOf s);
+      «unplaced_of» = unplacedOf (withoutOf s);
+      «look_counts» = looksBySlot (lookCountsOf j s);
+      right = s .layout .right;
+      «unplaced_area» = s .layout .«unplaced_area»;
+      offcut = s .tables .«sheet_bounds» .right ⊖ s .layout .right;
+    }
+
+-- "A refused whole plan returns only the number"
+unfoldable pub noPlan : Plan
+noPlan =
+    record {
+      placed = 0;
+      unplaced = 0;
+      improvements = 0;
+      «placed_of» = replicate 64 0;
+      «unplaced_of» = replicate 64 0;
+      «look_counts» = replicate 1024 0;
+      right = posZero;
+      «unplaced_area» = posZero;
+      offcut = posZero;
+    }
+
+-- what a computed claim opens
+unfoldable pub accounts-compute : Unit {0}
+unfolding positionsOfKind positions flatPositions placedOf unplacedOf looksBySlot lookCountsOf planOf noPlan
+accounts-compute = tt

@@ -1,0 +1,16 @@
+pub mod Refusals
+pub mod Columns
+pub mod Shapes
+pub mod Search
+pub mod Choice
+pub mod Plain
+pub mod Rooms
+pub mod State
+pub mod Order
+pub mod Consistent
+pub mod Start
+pub mod NextCopy
+pub mod Accounts
+pub mod Fill
+pub mod Leaf
+pub mod Calls

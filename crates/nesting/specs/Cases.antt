@@ -1,0 +1,381 @@
+-- Document 01, "Sheets tried by hand": the starred cases as one list; `got` is what the definitions come to, `want` what the paper says.
+-- Definitions only. Assumes nothing.
+use Prim.Native.Nat.{ℕ, zero, suc, _+_, _*_, _%_, _^_}
+use mathlib.Core.Bool.{Bool, true, false}
+use mathlib.Core.List.{List, [], _∷_, _++_, map, flatMap}
+use lib.ListN.{length, take, replicate}
+use lib.IntN.{ℤ, pos}
+use lib.Ieee.{Float, binary64, toBits}
+use Rattle.numbers.specs.Numbers.{fromInt}
+use Rattle.trapezoid.specs.declared.Heights.{Heights}
+use Rattle.trapezoid.specs.Strip.{stripAt, heightsAt}
+use Rattle.index.specs.Buckets.{upFrom}
+use Rattle.job.specs.declared.Header.{Header}
+use Rattle.sets.specs.Sets.{Set}
+use Rattle.kinds.specs.Kinds.{Orientation, Kind}
+use Rattle.job.specs.Jobs.{Job, Answer, accepted, refused, readJob}
+use Rattle.filling.specs.declared.State.{State}
+use Rattle.filling.specs.declared.Plan.{Plan}
+use Rattle.filling.specs.declared.Verdict.{Verdict}
+use Rattle.filling.specs.Refusals.{verdictNumber}
+use Rattle.filling.specs.Columns.{Ranges, ranges, lastColumn, columnAt}
+use Rattle.filling.specs.Shapes.{Copy, Standing, setBounds, setStrips}
+use Rattle.filling.specs.Rooms.{Rooms, Lent}
+use Rattle.filling.specs.State.{standingOf, withoutOf}
+use Rattle.filling.specs.Start.{Start, startOf}
+use Rattle.filling.specs.Fill.{Planned, fillOf}
+use Rattle.filling.specs.Calls.{Call, nextCopy, After, afterCalls}
+use Rattle.nesting.specs.Rounds.{Kept, Swaps, kept, ended, swapSearch}
+use Rattle.nesting.specs.Nest.{nestJob, nestOf}
+use Rattle.nesting.specs.Text.{replyText}
+
+-- a case: what the definitions come to, and what the paper says
+pub record Case : Type 0 where
+  pub got : List (List ℕ)
+  pub want : List (List ℕ)
+
+-- ---- sheets and parts
+
+-- "rectangles from (0,0), counter-clockwise"
+unfoldable pub rectangle : ℕ → ℕ → Set
+rectangle a b = record { points = map fromInt (0 ∷ 0 ∷ a ∷ 0 ∷ a ∷ b ∷ 0 ∷ b ∷ []); ends = 4 ∷ [] }
+
+-- "Loop (0,0),(4,0),(0,4)"
+unfoldable pub triangle : Set
+triangle = record { points = map fromInt (0 ∷ 0 ∷ 4 ∷ 0 ∷ 0 ∷ 4 ∷ []); ends = 3 ∷ [] }
+
+-- "A 4 × 3 rectangle drawn clockwise"
+unfoldable pub clockwise : Set
+clockwise = record { points = map fromInt (0 ∷ 0 ∷ 0 ∷ 3 ∷ 4 ∷ 3 ∷ 4 ∷ 0 ∷ []); ends = 4 ∷ [] }
+
+-- "apart and inset sets equal"
+unfoldable pub both : Set → Orientation
+both s = record { apart = s; inset = s }
+
+-- "Sheet 10 × 6": n copies of one kind
+unfoldable pub jobOf : ℕ → ℕ → ℕ → ℕ → List Set → Job
+jobOf resolution n area rounds os =
+    record {
+      header = record { version = 1; kinds = 1; rounds = rounds; seed = 0; resolution = fromInt resolution };
+      sheet = rectangle 10 6;
+      kinds = record { quantity = n; fill = false; priority = pos 0; area = fromInt area; orientations = map both os } ∷ [];
+      copies = n;
+    }
+
+-- ---- rooms, with something in them, and lengths that are no multiple of a record
+
+-- doubles by their bits
+unfoldable pub bits : List Float → List ℕ
+bits l = map (toBits binary64) l
+
+-- a room of n sevens
+unfoldable pub room : ℕ → List Float
+room n = replicate n (fromInt 7)
+
+-- strip and entry rooms
+unfoldable pub roomsOf : ℕ → ℕ → ℕ → Rooms
+roomsOf shapes placed entries =
+    record { shapes = room shapes; sheet = room 7; placed = room placed; sheet-entries = 9 ∷ []; placed-entries = replicate entries 9 }
+
+-- all seven rooms
+unfoldable pub lentOf : Rooms → ℕ → ℕ → Lent
+lentOf w intervals positions = record { rooms = w; intervals = room intervals; positions = room positions }
+
+-- more than the cases need
+unfoldable pub ample : Lent
+ample = lentOf (roomsOf 25 31 1100) 9 26
+
+-- what lies in the strip and entry rooms
+unfoldable pub roomsBits : Rooms → List (List ℕ)
+roomsBits w = bits (w .shapes) ∷ bits (w .sheet) ∷ bits (w .placed) ∷ w .sheet-entries ∷ w .placed-entries ∷ []
+
+-- what lies in all seven rooms
+unfoldable pub lentBits : Lent → List (List ℕ)
+lentBits l = roomsBits (l .rooms) ++ (bits (l .intervals) ∷ bits (l .positions) ∷ [])
+
+-- ---- what is compared
+
+-- the verdict's number; placed, without a place, improvements; by kind; the first two slots' look counts; right, area, offcut
+unfoldable pub planBits : Planned → List (List ℕ)
+planBits r =
+    let p = r .plan in
+    (verdictNumber (r .verdict) ∷ p .placed ∷ p .unplaced ∷ p .improvements ∷ [])
+    ∷ (take 2 (p .«placed_of») ++ take 2 (p .«unplaced_of»))
+    ∷ take 2 (p .«look_counts»)
+    ∷ bits (p .right ∷ p .«unplaced_area» ∷ p .offcut ∷ [])
+    ∷ []
+
+-- a plan of a job, and the beginning of the position room
+unfoldable pub jobBits : Job → List (List ℕ)
+jobBits j = let r = nestJob j ample in planBits r ++ (bits (take 21 (r .lent .positions)) ∷ [])
+
+-- a plan, and every room after it
+unfoldable pub plannedBits : Planned → List (List ℕ)
+plannedBits r = planBits r ++ lentBits (r .lent)
+
+-- "six draws": the state of the draws at the end
+unfoldable pub drawsOf : Swaps → ℕ
+drawsOf (kept q) = q .random
+drawsOf (ended r) = 0
+
+-- the standing copies, those without a place, copies taken, placed strips, right and area, remembered columns and look counts
+unfoldable pub stateBits : State → List (List ℕ)
+stateBits s =
+    flatMap (λ c. c .copy .place ∷ c .copy .kind ∷ c .orientation ∷ bits (c .x ∷ c .y ∷ [])) (standingOf s)
+    ∷ flatMap (λ c. c .place ∷ c .kind ∷ []) (withoutOf s)
+    ∷ (s .taken ∷ s .«placed_strips» ∷ bits (s .layout .right ∷ s .layout .«unplaced_area» ∷ []))
+    ∷ (take 2 (s .«next_column») ++ take 2 (s .«look_counts»))
+    ∷ []
+
+-- what some calls answered and left
+unfoldable pub afterBits : After → List (List ℕ)
+afterBits a = map verdictNumber (a .verdicts) ∷ (stateBits (a .state) ++ roomsBits (a .rooms))
+
+-- the x's of the columns of a part at a resolution
+unfoldable pub columnBits : ℕ → Set → List ℕ
+columnBits resolution s =
+    let r = ranges (setBounds (rectangle 10 6)) (setBounds s) in
+    bits (map (columnAt (fromInt resolution) r) (upFrom (suc (lastColumn (fromInt resolution) r)) 0))
+
+-- ---- case 4 as bytes
+
+-- the job of case 4
+unfoldable pub case4 : List ℕ
+case4 =
+    16 ∷ 32 ∷ 0 ∷ 0 ∷ 0 ∷ 0 ∷ 0 ∷ 0 ∷ 0 ∷ 0 ∷ 0 ∷ 127 ∷ 224 ∷ 0 ∷ 0 ∷ 0 ∷ 0 ∷ 0 ∷ 0 ∷ 4 ∷ 4 ∷ 0 ∷ 0 ∷ 0 ∷
+    0 ∷ 0 ∷ 0 ∷ 0 ∷ 0 ∷ 0 ∷ 0 ∷ 0 ∷ 0 ∷ 0 ∷ 0 ∷ 0 ∷ 0 ∷ 64 ∷ 36 ∷ 0 ∷ 0 ∷ 0 ∷ 0 ∷ 0 ∷ 0 ∷ 0 ∷ 0 ∷ 0 ∷
+    0 ∷ 0 ∷ 0 ∷ 0 ∷ 0 ∷ 64 ∷ 36 ∷ 0 ∷ 0 ∷ 0 ∷ 0 ∷ 0 ∷ 0 ∷ 64 ∷ 24 ∷ 0 ∷ 0 ∷ 0 ∷ 0 ∷ 0 ∷ 0 ∷ 0 ∷ 0 ∷ 0 ∷
+    0 ∷ 0 ∷ 0 ∷ 0 ∷ 0 ∷ 64 ∷ 24 ∷ 0 ∷ 0 ∷ 0 ∷ 0 ∷ 0 ∷ 0 ∷ 0 ∷ 80 ∷ 0 ∷ 0 ∷ 0 ∷ 2 ∷ 1 ∷ 64 ∷ 0 ∷ 0 ∷ 0 ∷
+    0 ∷ 0 ∷ 0 ∷ 64 ∷ 128 ∷ 128 ∷ 0 ∷ 0 ∷ 0 ∷ 0 ∷ 0 ∷ 0 ∷ 0 ∷ 0 ∷ 0 ∷ 0 ∷ 0 ∷ 0 ∷ 0 ∷ 0 ∷ 0 ∷ 8 ∷ 2 ∷ 0 ∷
+    0 ∷ 0 ∷ 0 ∷ 0 ∷ 0 ∷ 0 ∷ 0 ∷ 0 ∷ 0 ∷ 0 ∷ 0 ∷ 0 ∷ 0 ∷ 8 ∷ 2 ∷ 0 ∷ 0 ∷ 0 ∷ 0 ∷ 0 ∷ 0 ∷ 8 ∷ 1 ∷ 0 ∷
+    0 ∷ 0 ∷ 0 ∷ 0 ∷ 0 ∷ 0 ∷ 0 ∷ 0 ∷ 0 ∷ 0 ∷ 0 ∷ 0 ∷ 0 ∷ 8 ∷ 1 ∷ 0 ∷ 0 ∷ 0 ∷ 0 ∷ 0 ∷ 0 ∷ 0 ∷ 64 ∷ 64 ∷
+    0 ∷ 0 ∷ 0 ∷ 0 ∷ 0 ∷ 0 ∷ 0 ∷ 0 ∷ 0 ∷ 0 ∷ 0 ∷ 0 ∷ 0 ∷ 0 ∷ 0 ∷ 4 ∷ 1 ∷ 0 ∷ 0 ∷ 0 ∷ 0 ∷ 0 ∷ 0 ∷ 0 ∷
+    0 ∷ 0 ∷ 0 ∷ 0 ∷ 0 ∷ 0 ∷ 0 ∷ 4 ∷ 1 ∷ 0 ∷ 0 ∷ 0 ∷ 0 ∷ 0 ∷ 0 ∷ 4 ∷ 0 ∷ 128 ∷ 0 ∷ 0 ∷ 0 ∷ 0 ∷ 0 ∷ 0 ∷
+    0 ∷ 0 ∷ 0 ∷ 0 ∷ 0 ∷ 0 ∷ 0 ∷ 4 ∷ 0 ∷ 128 ∷ 0 ∷ 0 ∷ 0 ∷ 0 ∷ 0 ∷ 0 ∷ []
+
+-- after a start, n calls with an interval room of four
+unfoldable pub calledBits : ℕ → Start → List (List ℕ)
+calledBits n r =
+    (verdictNumber (r .verdict) ∷ [])
+    ∷ (afterBits (afterCalls case4 (replicate n (nextCopy (room 4))) (r .state) (r .lent .rooms)) ++ (bits (r .lent .intervals) ∷ bits (r .lent .positions) ∷ []))
+
+-- "five copies": the one order of case 4
+unfoldable pub fiveCopies : List ℕ
+fiveCopies = 0 ∷ 0 ∷ 0 ∷ 0 ∷ 0 ∷ []
+
+-- the text of a job's plan
+unfoldable pub printed : Answer → Lent → List ℕ
+printed (refused k) l = []
+printed (accepted j) l = let r = nestJob j l in replyText j r (r .verdict)
+
+-- ---- numbers of the paper, as the bits of doubles
+
+-- 2
+abbrev d2 : ℕ
+d2 = 0x4000000000000000
+
+-- 3
+abbrev d3 : ℕ
+d3 = 0x4008000000000000
+
+-- 4
+abbrev d4 : ℕ
+d4 = 0x4010000000000000
+
+-- 6
+abbrev d6 : ℕ
+d6 = 0x4018000000000000
+
+-- 8
+abbrev d8 : ℕ
+d8 = 0x4020000000000000
+
+-- 10
+abbrev d10 : ℕ
+d10 = 0x4024000000000000
+
+-- 12
+abbrev d12 : ℕ
+d12 = 0x4028000000000000
+
+-- n zeros
+unfoldable pub nothing : ℕ → List ℕ
+nothing n = replicate n 0
+
+-- kind 0's first four copies in case 4: kind, copy, orientation, x, y
+unfoldable pub fourPlates : List ℕ
+fourPlates = bits (map fromInt (0 ∷ 0 ∷ 0 ∷ 0 ∷ 0 ∷ 0 ∷ 1 ∷ 0 ∷ 0 ∷ 3 ∷ 0 ∷ 2 ∷ 0 ∷ 4 ∷ 0 ∷ 0 ∷ 3 ∷ 0 ∷ 4 ∷ 3 ∷ []))
+
+-- the strips of the 4 × 3 rectangle, apart and inset; of the four plates that stand; their entries: 0 and 1 in buckets 0 to 203, all four
+-- in bucket 204, 2 and 3 in buckets 205 to 409
+unfoldable pub plateStrips : List ℕ
+plateStrips = 0 ∷ d4 ∷ 0 ∷ 0 ∷ d3 ∷ d3 ∷ 0 ∷ d4 ∷ 0 ∷ 0 ∷ d3 ∷ d3 ∷ []
+
+-- the strips of the four plates that stand
+unfoldable pub fourStrips : List ℕ
+fourStrips =
+    0 ∷ d4 ∷ 0 ∷ 0 ∷ d3 ∷ d3 ∷
+    0 ∷ d4 ∷ d3 ∷ d3 ∷ d6 ∷ d6 ∷
+    d4 ∷ d8 ∷ 0 ∷ 0 ∷ d3 ∷ d3 ∷
+    d4 ∷ d8 ∷ d3 ∷ d3 ∷ d6 ∷ d6 ∷ []
+
+-- their entries
+unfoldable pub fourEntries : List ℕ
+fourEntries = flatMap (λ b. 0 ∷ 1 ∷ []) (upFrom 204 0) ++ ((0 ∷ 1 ∷ 2 ∷ 3 ∷ []) ++ flatMap (λ b. 2 ∷ 3 ∷ []) (upFrom 205 0))
+
+-- the rooms after the four plates are placed, with one strip, a remainder of one double and one entry to spare
+unfoldable pub roomsLeft : List (List ℕ)
+roomsLeft =
+    (plateStrips ++ nothing 7) ∷ nothing 7 ∷ (fourStrips ++ nothing 7) ∷ (0 ∷ []) ∷ (fourEntries ++ (0 ∷ [])) ∷ nothing 5 ∷ nothing 26 ∷ []
+
+-- the four plates by place and kind, orientation, x and y
+unfoldable pub fourStanding : List ℕ
+fourStanding = 0 ∷ 0 ∷ 0 ∷ 0 ∷ 0 ∷ 1 ∷ 0 ∷ 0 ∷ 0 ∷ d3 ∷ 2 ∷ 0 ∷ 0 ∷ d4 ∷ 0 ∷ 3 ∷ 0 ∷ 0 ∷ d4 ∷ d3 ∷ []
+
+-- case 4's reply: number and counts, by kind, look counts, right, area, offcut
+unfoldable pub case4Plan : List (List ℕ)
+case4Plan = (0 ∷ 4 ∷ 1 ∷ 0 ∷ []) ∷ (4 ∷ 0 ∷ 1 ∷ 0 ∷ []) ∷ (11 ∷ 0 ∷ []) ∷ (d8 ∷ d12 ∷ d2 ∷ []) ∷ []
+
+-- every room exact, but one position and a remainder to spare: zeros after the positions and in the work rooms
+unfoldable pub exact : Lent
+exact = lentOf (roomsOf 12 24 822) 4 31
+
+-- the rooms after case 4
+unfoldable pub case4Rooms : List (List ℕ)
+case4Rooms = nothing 12 ∷ nothing 7 ∷ nothing 24 ∷ nothing 1 ∷ nothing 822 ∷ nothing 4 ∷ (fourPlates ++ nothing 11) ∷ []
+
+-- case 4 as printed in document 01
+unfoldable pub case4Text : List ℕ
+case4Text =
+    -- plan 4 1 0
+    112 ∷ 108 ∷ 97 ∷ 110 ∷ 32 ∷ 52 ∷ 32 ∷ 49 ∷ 32 ∷ 48 ∷ 10 ∷
+    -- put 0 0 0 0000000000000000 0000000000000000
+    112 ∷ 117 ∷ 116 ∷ 32 ∷ 48 ∷ 32 ∷ 48 ∷ 32 ∷ 48 ∷ 32 ∷ 48 ∷ 48 ∷ 48 ∷ 48 ∷ 48 ∷ 48 ∷ 48 ∷ 48 ∷ 48 ∷ 48 ∷ 48 ∷ 48 ∷ 48 ∷ 48 ∷ 48 ∷ 48 ∷ 32 ∷ 48 ∷ 48 ∷ 48 ∷ 48 ∷ 48 ∷ 48 ∷ 48 ∷ 48 ∷ 48 ∷ 48 ∷ 48 ∷ 48 ∷ 48 ∷ 48 ∷ 48 ∷ 48 ∷ 10 ∷
+    -- put 0 1 0 0000000000000000 4008000000000000
+    112 ∷ 117 ∷ 116 ∷ 32 ∷ 48 ∷ 32 ∷ 49 ∷ 32 ∷ 48 ∷ 32 ∷ 48 ∷ 48 ∷ 48 ∷ 48 ∷ 48 ∷ 48 ∷ 48 ∷ 48 ∷ 48 ∷ 48 ∷ 48 ∷ 48 ∷ 48 ∷ 48 ∷ 48 ∷ 48 ∷ 32 ∷ 52 ∷ 48 ∷ 48 ∷ 56 ∷ 48 ∷ 48 ∷ 48 ∷ 48 ∷ 48 ∷ 48 ∷ 48 ∷ 48 ∷ 48 ∷ 48 ∷ 48 ∷ 48 ∷ 10 ∷
+    -- put 0 2 0 4010000000000000 0000000000000000
+    112 ∷ 117 ∷ 116 ∷ 32 ∷ 48 ∷ 32 ∷ 50 ∷ 32 ∷ 48 ∷ 32 ∷ 52 ∷ 48 ∷ 49 ∷ 48 ∷ 48 ∷ 48 ∷ 48 ∷ 48 ∷ 48 ∷ 48 ∷ 48 ∷ 48 ∷ 48 ∷ 48 ∷ 48 ∷ 48 ∷ 32 ∷ 48 ∷ 48 ∷ 48 ∷ 48 ∷ 48 ∷ 48 ∷ 48 ∷ 48 ∷ 48 ∷ 48 ∷ 48 ∷ 48 ∷ 48 ∷ 48 ∷ 48 ∷ 48 ∷ 10 ∷
+    -- put 0 3 0 4010000000000000 4008000000000000
+    112 ∷ 117 ∷ 116 ∷ 32 ∷ 48 ∷ 32 ∷ 51 ∷ 32 ∷ 48 ∷ 32 ∷ 52 ∷ 48 ∷ 49 ∷ 48 ∷ 48 ∷ 48 ∷ 48 ∷ 48 ∷ 48 ∷ 48 ∷ 48 ∷ 48 ∷ 48 ∷ 48 ∷ 48 ∷ 48 ∷ 32 ∷ 52 ∷ 48 ∷ 48 ∷ 56 ∷ 48 ∷ 48 ∷ 48 ∷ 48 ∷ 48 ∷ 48 ∷ 48 ∷ 48 ∷ 48 ∷ 48 ∷ 48 ∷ 48 ∷ 10 ∷
+    -- left 0 1
+    108 ∷ 101 ∷ 102 ∷ 116 ∷ 32 ∷ 48 ∷ 32 ∷ 49 ∷ 10 ∷
+    -- look 0 0 11
+    108 ∷ 111 ∷ 111 ∷ 107 ∷ 32 ∷ 48 ∷ 32 ∷ 48 ∷ 32 ∷ 49 ∷ 49 ∷ 10 ∷
+    -- right 4020000000000000
+    114 ∷ 105 ∷ 103 ∷ 104 ∷ 116 ∷ 32 ∷ 52 ∷ 48 ∷ 50 ∷ 48 ∷ 48 ∷ 48 ∷ 48 ∷ 48 ∷ 48 ∷ 48 ∷ 48 ∷ 48 ∷ 48 ∷ 48 ∷ 48 ∷ 48 ∷ 10 ∷
+    -- area 4028000000000000
+    97 ∷ 114 ∷ 101 ∷ 97 ∷ 32 ∷ 52 ∷ 48 ∷ 50 ∷ 56 ∷ 48 ∷ 48 ∷ 48 ∷ 48 ∷ 48 ∷ 48 ∷ 48 ∷ 48 ∷ 48 ∷ 48 ∷ 48 ∷ 48 ∷ 10 ∷
+    -- offcut 4000000000000000
+    111 ∷ 102 ∷ 102 ∷ 99 ∷ 117 ∷ 116 ∷ 32 ∷ 52 ∷ 48 ∷ 48 ∷ 48 ∷ 48 ∷ 48 ∷ 48 ∷ 48 ∷ 48 ∷ 48 ∷ 48 ∷ 48 ∷ 48 ∷ 48 ∷ 48 ∷ 48 ∷ 10 ∷ []
+
+-- ---- the cases
+
+-- 1*. "one strip, 0..4, low 0 0, high 4 0; at 1 the high is 3"
+unfoldable pub starred1 : Case
+starred1 =
+    let s = setStrips false triangle in
+    record { got = bits s ∷ bits (heightsAt (stripAt s 0) (fromInt 1) .high ∷ []) ∷ []; want = (0 ∷ d4 ∷ 0 ∷ 0 ∷ d4 ∷ 0 ∷ []) ∷ (d3 ∷ []) ∷ [] }
+
+-- 2*. "no strip"
+unfoldable pub starred2 : Case
+starred2 = record { got = bits (setStrips false clockwise) ∷ []; want = [] ∷ [] }
+
+-- 3*. "The sheet: no strip."
+unfoldable pub starred3 : Case
+starred3 = record { got = bits (setStrips true (rectangle 10 6)) ∷ []; want = [] ∷ [] }
+
+-- 4*. "4 × 3, area 12, five copies, one orientation, no rounds: as printed above; 11 looks = 6 + 1 + 4": a start and six calls,
+-- the sixth refused with 23
+unfoldable pub starred4 : Case
+starred4 =
+    record {
+      got = calledBits 6 (startOf case4 fiveCopies (lentOf (roomsOf 19 31 823) 5 26));
+      want =
+          (0 ∷ []) ∷ (0 ∷ 0 ∷ 0 ∷ 0 ∷ 0 ∷ 23 ∷ []) ∷ fourStanding ∷ (4 ∷ 0 ∷ []) ∷ (5 ∷ 4 ∷ d8 ∷ d12 ∷ []) ∷ (0 ∷ 1 ∷ 11 ∷ 0 ∷ []) ∷ roomsLeft;
+    }
+
+-- a filling, the whole plan, and its text
+unfoldable pub starred4-fill : Case
+starred4-fill = record { got = plannedBits (fillOf case4 fiveCopies exact); want = case4Plan ++ case4Rooms }
+
+-- the whole plan
+unfoldable pub starred4-plan : Case
+starred4-plan = record { got = plannedBits (nestOf case4 exact); want = case4Plan ++ case4Rooms }
+
+-- "as printed above"
+unfoldable pub starred4-text : Case
+starred4-text = record { got = printed (readJob case4) exact ∷ []; want = case4Text ∷ [] }
+
+-- 5*. "The first four only: 8 looks = 4 + 4.": a job of four, and four calls of case 4's
+unfoldable pub starred5 : Case
+starred5 =
+    record {
+      got = jobBits (jobOf 1 4 12 0 (rectangle 4 3 ∷ []));
+      want = (0 ∷ 4 ∷ 0 ∷ 0 ∷ []) ∷ (4 ∷ 0 ∷ 0 ∷ 0 ∷ []) ∷ (8 ∷ 0 ∷ []) ∷ (d8 ∷ 0 ∷ d2 ∷ []) ∷ (fourPlates ++ nothing 1) ∷ [];
+    }
+
+-- four calls of case 4's job
+unfoldable pub starred5-calls : Case
+starred5-calls =
+    record {
+      got = calledBits 4 (startOf case4 fiveCopies (lentOf (roomsOf 19 31 823) 5 26));
+      want = (0 ∷ []) ∷ (0 ∷ 0 ∷ 0 ∷ 0 ∷ []) ∷ fourStanding ∷ [] ∷ (4 ∷ 4 ∷ d8 ∷ 0 ∷ []) ∷ (5 ∷ 1 ∷ 8 ∷ 0 ∷ []) ∷ roomsLeft;
+    }
+
+-- 6*. "Resolution 4, width 4: columns at 0, 4, 6."
+unfoldable pub starred6 : Case
+starred6 = record { got = columnBits 4 (rectangle 4 3) ∷ []; want = (0 ∷ d4 ∷ d6 ∷ []) ∷ [] }
+
+-- 7*. "Resolution 3: 0, 3, 6, no extra."
+unfoldable pub starred7 : Case
+starred7 = record { got = columnBits 3 (rectangle 4 3) ∷ []; want = (0 ∷ d3 ∷ d6 ∷ []) ∷ [] }
+
+-- 8*. "10 × 6, two copies: (0,0), then none; 2 looks."
+unfoldable pub starred8 : Case
+starred8 =
+    record {
+      got = jobBits (jobOf 1 2 60 0 (rectangle 10 6 ∷ []));
+      want = (0 ∷ 1 ∷ 1 ∷ 0 ∷ []) ∷ (1 ∷ 0 ∷ 1 ∷ 0 ∷ []) ∷ (2 ∷ 0 ∷ []) ∷ (d10 ∷ 0x404e000000000000 ∷ 0 ∷ []) ∷ nothing 21 ∷ [];
+    }
+
+-- 9*. "11 × 1: no look, unplaced."
+unfoldable pub starred9 : Case
+starred9 =
+    record {
+      got = jobBits (jobOf 1 1 11 0 (rectangle 11 1 ∷ []));
+      want = (0 ∷ 0 ∷ 1 ∷ 0 ∷ []) ∷ (0 ∷ 0 ∷ 1 ∷ 0 ∷ []) ∷ (0 ∷ 0 ∷ []) ∷ (0 ∷ 0x4026000000000000 ∷ d10 ∷ []) ∷ nothing 21 ∷ [];
+    }
+
+-- 10*. "4 × 3 or 3 × 4: the second, at (0,0)."
+unfoldable pub starred10 : Case
+starred10 =
+    record {
+      got = jobBits (jobOf 1 1 12 0 (rectangle 4 3 ∷ rectangle 3 4 ∷ []));
+      want =
+          (0 ∷ 1 ∷ 0 ∷ 0 ∷ []) ∷ (1 ∷ 0 ∷ 0 ∷ 0 ∷ []) ∷ (1 ∷ 1 ∷ []) ∷ (d3 ∷ 0 ∷ 0x401c000000000000 ∷ [])
+          ∷ ((0 ∷ 0 ∷ 0x3ff0000000000000 ∷ []) ++ nothing 18) ∷ [];
+    }
+
+-- 11*. "One kind, two copies, three rounds: six draws, no improvement."
+unfoldable pub starred11 : Case
+starred11 =
+    let j = jobOf 1 2 12 3 (rectangle 4 3 ∷ []) in
+    record {
+      got = jobBits j ++ ((drawsOf (swapSearch j ample) ∷ []) ∷ []);
+      want =
+          (0 ∷ 2 ∷ 0 ∷ 0 ∷ []) ∷ (2 ∷ 0 ∷ 0 ∷ 0 ∷ []) ∷ (2 ∷ 0 ∷ []) ∷ (d4 ∷ 0 ∷ d6 ∷ [])
+          ∷ ((0 ∷ 0 ∷ 0 ∷ 0 ∷ 0 ∷ 0 ∷ 0x3ff0000000000000 ∷ 0 ∷ 0 ∷ d3 ∷ []) ++ nothing 11)
+          ∷ ((6 * 0x9e3779b97f4a7c15 % 2 ^ 64) ∷ [])
+          ∷ [];
+    }
+
+-- the starred cases
+unfoldable pub starred : List Case
+starred =
+    starred1 ∷ starred2 ∷ starred3 ∷ starred4 ∷ starred4-fill ∷ starred4-plan ∷ starred4-text ∷ starred5 ∷ starred5-calls ∷ starred6 ∷ starred7
+    ∷ starred8 ∷ starred9 ∷ starred10 ∷ starred11 ∷ []
+
+-- what a computed claim opens
+unfoldable pub cases-compute : Unit {0}
+unfolding Rattle.numbers.specs.Numbers.numbers-compute Rattle.trapezoid.specs.Strip.strip-computes Rattle.slab.specs.Slab.slab-computes Rattle.strips.specs.Strips.strips-compute Rattle.index.specs.Buckets.buckets-compute Rattle.index.specs.Intervals.intervals-compute Rattle.height.specs.Smallest.height-computes Rattle.look.specs.Looking.looking-computes Rattle.job.specs.Jobs.jobs-compute Rattle.filling.specs.Refusals.refusals-compute Rattle.filling.specs.Columns.columns-compute Rattle.filling.specs.Shapes.shapes-compute Rattle.filling.specs.Search.search-computes Rattle.filling.specs.Choice.choice-computes Rattle.filling.specs.Rooms.rooms-compute Rattle.filling.specs.State.state-computes Rattle.filling.specs.Order.order-computes Rattle.filling.specs.Consistent.consistent-computes Rattle.filling.specs.Start.start-computes Rattle.filling.specs.NextCopy.next-copy-computes Rattle.filling.specs.Accounts.accounts-compute Rattle.filling.specs.Fill.fill-computes Rattle.filling.specs.Calls.calls-compute Rattle.random.specs.SplitMix64.nextState Rattle.random.specs.SplitMix64.mixed Rattle.nesting.specs.CopyOrder.copy-order-computes Rattle.nesting.specs.Rounds.rounds-compute Rattle.nesting.specs.Nest.nest-computes Rattle.nesting.specs.Text.text-computes flatMap rectangle triangle clockwise both jobOf bits room roomsOf lentOf ample roomsBits lentBits planBits jobBits drawsOf stateBits afterBits columnBits plannedBits case4 calledBits fiveCopies printed nothing fourPlates plateStrips fourStrips fourEntries roomsLeft fourStanding case4Plan exact case4Rooms case4Text starred1 starred2 starred3 starred4 starred4-fill starred4-plan starred4-text starred5 starred5-calls starred6 starred7 starred8 starred9 starred10 starred11 starred
+cases-compute = tt

@@ -1,0 +1,5 @@
+pub mod CopyOrder
+pub mod Rounds
+pub mod Nest
+pub mod Text
+pub mod Cases
