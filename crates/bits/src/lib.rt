@@ -83,7 +83,7 @@ fn bits_at(bytes: &[u8], at: usize, n: usize) -> u64
 }
 
 // The n bits at the bit position at, most significant first, or that the bytes end inside them.
-pub fn take_bits(bytes: &[u8], at: usize, n: usize) -> Taken
+fn take_bits(bytes: &[u8], at: usize, n: usize) -> Taken
     requires { ⌜ (at ≤ 1152921504606846976) × (n ≤ 64) ⌝ }
     ensures { λ r. ⌜ bits n (now (bytes .entry)) at ≡ taken r (at + n) ⌝ }
 {
@@ -93,12 +93,34 @@ pub fn take_bits(bytes: &[u8], at: usize, n: usize) -> Taken
     Taken::Bits(bits_at(bytes, at, n))
 }
 
+// The bit reader: the job's bytes and a bit position.
+pub struct BitReader<'a> {
+    bytes: &'a [u8],
+    at: usize,
+}
+
+impl<'a> BitReader<'a> {
+    pub fn new(bytes: &'a [u8], at: usize) -> BitReader<'a>
+        ensures { λ r. ⌜ (r .bytes ≡ bytes .entry) × (r .at ≡ at) ⌝ }
+    {
+        BitReader { bytes, at }
+    }
+
+    // The n bits at the reader's position, or that its bytes end inside them.
+    pub fn take(self, n: usize) -> Taken
+        requires { ⌜ (self .at ≤ 1152921504606846976) × (n ≤ 64) ⌝ }
+        ensures { λ r. ⌜ bits n (now (self .entry .bytes)) (self .entry .at) ≡ taken r (self .entry .at + n) ⌝ }
+    {
+        take_bits(self.bytes, self.at, n)
+    }
+}
+
 // Every field of a job is read through this function.
 pub fn read_field(bytes: &[u8], at: usize, width: usize) -> Taken
     requires { ⌜ (at ≤ 1152921504606846976) × (width ≤ 64) ⌝ }
     ensures { λ r. ⌜ bits width (now (bytes .entry)) at ≡ taken r (at + width) ⌝ }
 {
-    take_bits(bytes, at, width)
+    BitReader::new(bytes, at).take(width)
 }
 
 // A count, or why it is refused.
