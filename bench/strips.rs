@@ -88,6 +88,11 @@ fn side_comb(n: usize) -> Vec<P2> {
     points
 }
 
+/// Teeth to the left: as the side comb, with crossings in falling order.
+fn left_comb(n: usize) -> Vec<P2> {
+    side_comb(n).into_iter().rev().map(|[x, y]| [20.0 - x, y]).collect()
+}
+
 fn star(n: usize) -> Vec<P2> {
     let at = |i: usize| std::f64::consts::TAU * i as f64 / n as f64;
     let far = |i: usize| if i % 2 == 0 { 400.0 } else { 250.0 };
@@ -95,8 +100,8 @@ fn star(n: usize) -> Vec<P2> {
 }
 
 fn main() {
-    let shapes: [(&str, fn(usize) -> Vec<P2>); 5] =
-        [("outline", outline), ("ribbon", ribbon), ("comb", comb), ("side comb", side_comb), ("star", star)];
+    let shapes: [(&str, fn(usize) -> Vec<P2>); 6] =
+        [("outline", outline), ("ribbon", ribbon), ("comb", comb), ("side comb", side_comb), ("left comb", left_comb), ("star", star)];
     println!("shape       points  set    strips   lifted ns   proved ns  ratio");
     for (name, shape) in shapes {
         for n in [4, 32, 128, 512] {

@@ -3,10 +3,11 @@
 ghost use Prim.Native.Nat.{_+_, _*_, _≤_, _<_};
 ghost use lib.ListN.{length};
 ghost use mathlib.Core.Path.{_≡_};
-ghost use Rattle.strips.specs.Strips.{Loops};
+ghost use Rattle.trapezoid.specs.Strip.{capacity};
+ghost use Rattle.strips.specs.Strips.{Loops, trapezoids, stored};
 ghost use Rattle.job.specs.Jobs.{readJob};
 ghost use Rattle.job.specs.Meaning.{verdictOf};
-ghost use Rattle.exports.specs.Answers.{verdictNumber};
+ghost use Rattle.exports.specs.Answers.{verdictNumber, told};
 ghost use Rattle.random.specs.SplitMix64.{nextState, mixed};
 
 // The next draw, and the state moved on.
@@ -31,6 +32,7 @@ pub extern "C" fn panel_trapezoids(
     room: &mut [f64],
 ) -> usize
     requires { ⌜ (0 < n) × (2 * n ≤ length (now points)) × Loops 0 (now ends) n × (6 * n ≤ length (now es)) × (3 * n ≤ length (now rows)) × (n + 2 ≤ length (now line)) ⌝ }
+    ensures { λ r. ⌜ (r ≡ told (stored (trapezoids (now (points .entry)) n (now (ends .entry)) sheet) (now (room .entry)) 0 .answer) (capacity (now (room .entry)))) × (now (room .exit) ≡ stored (trapezoids (now (points .entry)) n (now (ends .entry)) sheet) (now (room .entry)) 0 .room) ⌝ }
 {
     let stored = strips::trapezoids(points, n, ends, sheet, es, rows, line, room, 0);
     match stored {

@@ -1,4 +1,5 @@
 pub mod Sorting
+pub mod Merging
 pub mod Rows
 pub mod Storing
 pub mod Winding

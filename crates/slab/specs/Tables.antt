@@ -1,6 +1,6 @@
 -- How the work tables lie; inner functions' contracts only. No sentence of document 01 stands here. Assumes nothing.
 use Prim.Native.Nat.{ℕ, zero, suc, _+_, _*_}
-use mathlib.Core.Bool.{true, false, cond}
+use mathlib.Core.Bool.{Bool, true, false, cond}
 use mathlib.Core.List.{List, [], _∷_}
 use lib.ListN.{getD, set}
 use lib.Dec.{ltb}
@@ -16,6 +16,12 @@ use Rattle.slab.specs.Slab.{Crossing}
 unfoldable pub down : {A : Type 0} → (ℕ → A) → ℕ → List A
 down f zero = []
 down f (suc n) = f n ∷ down f n
+
+-- two sorted lists as one: of equal ones the left list's go first
+unfoldable pub merge : {A : Type 0} → (A → A → Bool) → List A → List A → List A
+merge first [] bs = bs
+merge first (a ∷ as′) [] = a ∷ as′
+merge first (a ∷ as′) (b ∷ bs) = elim (first b a) [ true ↦ b ∷ merge first (a ∷ as′) bs | false ↦ a ∷ merge first as′ (b ∷ bs) ]
 
 unfoldable pub edgeAt : List Float → ℕ → Edge
 edgeAt es i = record { px = getD es (6 * i) nan; py = getD es (6 * i + 1) nan; qx = getD es (6 * i + 2) nan; qy = getD es (6 * i + 3) nan; lo = getD es (6 * i + 4) nan; hi = getD es (6 * i + 5) nan }

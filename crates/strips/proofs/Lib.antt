@@ -1,5 +1,5 @@
 pub mod EdgeTable
-pub mod SortedXs
+pub mod Boxes
 pub mod Slanted
 pub mod SlabWalk
 pub mod Laying

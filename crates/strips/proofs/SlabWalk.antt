@@ -14,7 +14,8 @@ use Rattle.strips.specs.declared.Rect.{Rect}
 use Rattle.strips.specs.Strips.{xOf, frame, distinctFrom, distinct, xs, between, slabs, edges, bounds, trapezoids}
 use Rattle.strips.specs.Tables.{slanted}
 use Rattle.strips.proofs.Slanted.{slabs-slanted}
-use Rattle.strips.proofs.SortedXs.{at}
+use Rattle.sorting.specs.Xs.{xAt, sides}
+use Rattle.sorting.proofs.Lines.{at}
 
 from-same : (a b : Float) (bs : List Float) → eq a b ≡ true → distinctFrom a (b ∷ bs) ≡ distinctFrom a bs
 unfolding distinctFrom
@@ -69,9 +70,9 @@ module _ (es : List Edge) (sheet : Bool) (bottom top : Float) where
     walk-end h k a p = let z : k ≡ 0 = omega arith in rw (z, down-zero f)
 
 -- ---- the whole
-pub strips-held : (pts : List Float) (n m c : ℕ) (ends : List ℕ) (sheet : Bool) (es es' line : List Float) (b : Rect) → b ≡ bounds pts n → down (at line) m ≡ sort lt (up (xOf pts) 0 n ++ frame sheet (b .left) (b .right)) → up (edgeAt es) 0 n ≡ edges pts 0 ends → up (edgeAt es') 0 c ≡ slanted (up (edgeAt es) 0 n)
+pub strips-held : (pts : List Float) (n m c : ℕ) (ends : List ℕ) (sheet : Bool) (es es' line : List Float) (b : Rect) → b ≡ bounds pts n → down (at line) m ≡ sort lt (up (xAt pts) 0 n ++ sides sheet (b .left) (b .right)) → up (edgeAt es) 0 n ≡ edges pts 0 ends → up (edgeAt es') 0 c ≡ slanted (up (edgeAt es) 0 n)
     → slabs (up (edgeAt es') 0 c) sheet (b .bottom) (b .top) (distinct (down (at line) m)) ≡ trapezoids pts n ends sheet
-unfolding trapezoids xs
+unfolding trapezoids xs xOf xAt frame sides
 strips-held pts n m c ends sheet es es' line b eb ex ee ec =
     ap (λ (l : List Edge). slabs l sheet (b .bottom) (b .top) (distinct (down (at line) m))) (ec ∙ ap slanted ee)
     ∙ (slabs-slanted (edges pts 0 ends) sheet (b .bottom) (b .top) (distinct (down (at line) m)) ∙ rw (ex, eb))

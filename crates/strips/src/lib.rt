@@ -7,11 +7,11 @@ ghost use mathlib.Core.Bool.{not};
 ghost use mathlib.Core.List.{_++_};
 ghost use Prim.Native.Nat.{ℕ, _+_, _-_, _*_, _≤_, _<_};
 ghost use lib.ListN.{length, getD};
-ghost use lib.Ieee.{nan, lt, eq};
-ghost use Rattle.slab.specs.Slab.{insert, sort, up};
+ghost use lib.Ieee.{nan, eq};
+ghost use Rattle.slab.specs.Slab.{up};
 ghost use Rattle.slab.specs.Tables.{down, edgeAt, setEdge, Held, hold};
 ghost use Rattle.strips.specs.Tables.{slanted};
-ghost use Rattle.strips.specs.Strips.{xOf, yOf, frame, distinct, widened, boundsOn, bounds, edge, after, loopEdges, edges, Loops, between, slabs, trapezoids, Stowed, stored};
+ghost use Rattle.strips.specs.Strips.{distinct, widened, bounds, edge, after, loopEdges, edges, Loops, between, slabs, trapezoids, Stowed, stored};
 
 // A bounding box, in nesting.rs's order: smallest x, smallest y, largest x, largest y.
 pub struct Rect {
@@ -64,54 +64,6 @@ pub fn bounds(points: &[f64], n: usize) -> Rect
         i += 1;
     }
     b
-}
-
-// x goes to its place among the n numbers, whose first stands last.
-fn insert_x(line: &mut [f64], n: usize, x: f64)
-    requires { ⌜ n < length (now line) ⌝ }
-    ensures { λ _. ⌜ down (λ (i : ℕ). getD (now (line .exit)) i nan) (n + 1) ≡ insert lt x (down (λ (i : ℕ). getD (now (line .entry)) i nan) n) ⌝ }
-{
-    let mut k = n;
-    while k > 0 {
-        let b = line[k - 1];
-        if b < x {
-            line[k] = b;
-        } else {
-            break;
-        }
-        k -= 1;
-    }
-    line[k] = x;
-}
-
-// The bounding x's of the sheet, sorted, first last; how many.
-fn frame_xs(sheet: bool, left: f64, right: f64, line: &mut [f64]) -> usize
-    requires { ⌜ 2 ≤ length (now line) ⌝ }
-    ensures { λ r. ⌜ (r ≤ 2) × (down (λ (i : ℕ). getD (now (line .exit)) i nan) r ≡ sort lt (frame sheet left right)) ⌝ }
-{
-    let mut m: usize = 0;
-    if sheet {
-        insert_x(line, 0, right);
-        insert_x(line, 1, left);
-        m = 2;
-    }
-    m
-}
-
-// The x's of the first n points and the sheet's bounding x's, sorted, first last; how many.
-fn sort_xs(points: &[f64], n: usize, sheet: bool, left: f64, right: f64, line: &mut [f64]) -> usize
-    requires { ⌜ (2 * n ≤ length (now points)) × (n + 2 ≤ length (now line)) ⌝ }
-    ensures { λ r. ⌜ (n ≤ r) × (r ≤ n + 2) × (down (λ (i : ℕ). getD (now (line .exit)) i nan) r ≡ sort lt (up (xOf (now (points .entry))) 0 n ++ frame sheet left right)) ⌝ }
-{
-    let mut m = frame_xs(sheet, left, right, line);
-    let mut i = n;
-    while i > 0 {
-        i -= 1;
-        let x = points[2 * i];
-        insert_x(line, m, x);
-        m += 1;
-    }
-    m
 }
 
 // The edge from point i to point j, as edge number i of the table.
@@ -302,7 +254,7 @@ fn add_strips(
     let right = b.right;
     let bottom = b.bottom;
     let top = b.top;
-    let m = sort_xs(points, n, sheet, left, right, line);
+    let m = sorting::sort_xs(points, n, sheet, left, right, line, rows);
     edges(points, n, ends, es);
     let count = drop_vertical(es, n);
     slabs(line, m, es, count, sheet, bottom, top, rows, room, from)

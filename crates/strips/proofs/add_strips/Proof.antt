@@ -38,7 +38,7 @@ same-length-4 c = search needs
 
 returns : tie.Need-returns
 returns c =
-    let a = c .before .before .before .before .before .before .before .before .before .before .before .before .before .before .before .before .before .before .before .before .before .before .before .before .before .before .before .before .args in let b = c .before .before .before .before .before .before .before .before .before .before .before .before .before .before .before .before .before .before .before .before .before .bounds in let x = c .before .before .before .before .before .before .before .before .before .before .before .before .before .before .before .before .before .before .before .sort-xs in let g = c .before .before .before .before .before .before .before .before .before .before .before .before .before .before .before .edges in let d = c .before .before .before .before .before .before .before .before .before .before .before .drop-vertical in
+    let a = c .before .before .before .before .before .before .before .before .before .before .before .before .before .before .before .before .before .before .before .before .before .before .before .before .before .before .before .before .before .before .before .args in let b = c .before .before .before .before .before .before .before .before .before .before .before .before .before .before .before .before .before .before .before .before .before .before .before .before .bounds in let x = c .before .before .before .before .before .before .before .before .before .before .before .before .before .before .before .before .before .before .before .before .before .sort-xs in let g = c .before .before .before .before .before .before .before .before .before .before .before .before .before .before .before .edges in let d = c .before .before .before .before .before .before .before .before .before .before .before .drop-vertical in
     c .before .before .before .before .slabs .ensures ∙ ap (λ (l : List Trapezoid). hold (record { room = now (a .room); count = a .from }) l)
     (strips-held (now (a .points)) (a .n) (x .result) (d .result) (now (a .ends)) (a .sheet) (g .last .1 .1 .1 .0) (d .last .0) (x .last .1 .1 .1 .1 .1 .0) (b .result) (b .ensures) (x .ensures .2) (g .ensures) (d .ensures .1))
 

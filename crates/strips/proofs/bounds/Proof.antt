@@ -3,7 +3,7 @@ use Prim.Native.Nat.{_≤_, _-_}
 use mathlib.Core.Path.{_≡_, sym, _∙_}
 use denote.Ref.{now}
 use native.Mathlib.Omega.{arith}
-use Rattle.strips.proofs.SortedXs.{bounds-start, bounds-step, bounds-end}
+use Rattle.strips.proofs.Boxes.{bounds-start, bounds-step, bounds-end}
 use Rattle.strips.specs.Strips.{boundsOn, bounds}
 use borrow.Author.Needs.{needs}
 use Rattle.strips.proofs.bounds.Statement.{statement}

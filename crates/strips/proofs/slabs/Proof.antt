@@ -8,7 +8,7 @@ use borrow.Author.Needs.{needs}
 use Rattle.slab.specs.Slab.{up}
 use Rattle.slab.specs.Tables.{down, edgeAt, Held, hold}
 use Rattle.strips.specs.Strips.{distinct, slabs, between}
-use Rattle.strips.proofs.SortedXs.{at}
+use Rattle.sorting.proofs.Lines.{at}
 use Rattle.strips.proofs.SlabWalk.{to-come, walk-start, walk-on, walk-past, walk-end}
 use Rattle.strips.proofs.slabs.Statement.{statement}
 use Rattle.strips.proofs.slabs.Tie as tie

@@ -1,4 +1,4 @@
--- `strips::insert_x` meets its contract. Assumes nothing.
+-- `sorting::insert_x` meets its contract. Assumes nothing.
 use Prim.Native.Nat.{_≤_, _-_}
 use lib.ListN.{length, length-set}
 use lib.Ieee.{lt}
@@ -9,10 +9,10 @@ use native.Mathlib.Omega.{arith}
 use Rattle.slab.proofs.Sorting.{over, over-start}
 use Rattle.slab.specs.Slab.{insert}
 use Rattle.slab.specs.Tables.{down}
-use Rattle.strips.proofs.SortedXs.{at, insert-number, insert-number-last}
+use Rattle.sorting.proofs.Lines.{at, insert-number, insert-number-last}
 use borrow.Author.Needs.{needs}
-use Rattle.strips.proofs.insert_x.Statement.{statement}
-use Rattle.strips.proofs.insert_x.Tie as tie
+use Rattle.sorting.proofs.insert_x.Statement.{statement}
+use Rattle.sorting.proofs.insert_x.Tie as tie
 
 abbrev Inv-loop : tie.InvT-loop
 Inv-loop line₀ n x k₀ line k =

@@ -1,0 +1,72 @@
+-- `exports::panel_trapezoids` meets its contract. Assumes nothing.
+use denote.Ref.{now}
+use Rattle.strips.specs.Strips.{trapezoids, stored}
+use Rattle.exports.proofs.Told.{told-count, told-none}
+use borrow.Author.Needs.{needs}
+use Rattle.exports.proofs.panel_trapezoids.Statement.{statement}
+use Rattle.exports.proofs.panel_trapezoids.Tie as tie
+
+trapezoids-requires : tie.Need-trapezoids-requires
+trapezoids-requires c κs = search needs
+
+enum-known-stored : tie.Need-enum-known-stored
+enum-known-stored c = search needs
+
+enum-told : tie.Need-enum-told
+enum-told c = search needs
+
+add-result : tie.Need-add-result
+add-result c = search needs
+
+same-length : tie.Need-same-length
+same-length c = search needs
+
+same-length-2 : tie.Need-same-length-2
+same-length-2 c = search needs
+
+same-length-3 : tie.Need-same-length-3
+same-length-3 c = search needs
+
+same-length-4 : tie.Need-same-length-4
+same-length-4 c = search needs
+
+returns : tie.Need-returns
+returns c =
+    let a = c .before .before .before .before .before .before .before .before .before .before .before .before .before .before .before .before .before .before .before .before .before .before .args in let g = c .before .before .before .before .before .before .before .before .before .before .before .trapezoids in
+    told-count (stored (trapezoids (now (a .points)) (a .n) (now (a .ends)) (a .sheet)) (now (a .room)) 0) (g .result) (now (a .room)) (g .last .1 .1 .1 .1 .1 .1 .1 .0) (c .before .stored .given .0 .0) (g .ensures) (c .before .stored .given .1)
+
+same-length-5 : tie.Need-same-length-5
+same-length-5 c = search needs
+
+same-length-6 : tie.Need-same-length-6
+same-length-6 c = search needs
+
+same-length-7 : tie.Need-same-length-7
+same-length-7 c = search needs
+
+same-length-8 : tie.Need-same-length-8
+same-length-8 c = search needs
+
+returns-2 : tie.Need-returns-2
+returns-2 c =
+    let a = c .before .before .before .before .before .before .before .before .before .before .before .before .before .before .before .before .before .before .before .before .before .args in let g = c .before .before .before .before .before .before .before .before .before .before .trapezoids in
+    told-none (stored (trapezoids (now (a .points)) (a .n) (now (a .ends)) (a .sheet)) (now (a .room)) 0) (g .result) (now (a .room)) (g .last .1 .1 .1 .1 .1 .1 .1 .0) (g .ensures) (g .kept .1 .1 .1 .1 .1 .1 .1 .0) (c .enum-told .given .1)
+
+pub panel-trapezoids-spec : {M : Type 1} → statement M
+panel-trapezoids-spec =
+    tie.close
+    (tie.spec
+    trapezoids-requires
+    enum-known-stored
+    enum-told
+    add-result
+    same-length
+    same-length-2
+    same-length-3
+    same-length-4
+    returns
+    same-length-5
+    same-length-6
+    same-length-7
+    same-length-8
+    returns-2)

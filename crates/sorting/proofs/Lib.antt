@@ -1,0 +1,3 @@
+pub mod Lines
+pub mod SortedXs
+pub mod Runs
