@@ -1,6 +1,7 @@
 #!/usr/bin/env bash
 # compare-looks.sh N SEED: N looks by the lifted Rust and by the proved functions; the last line is
 # 'N looks, D mismatches', and the exit status is not zero if D is not. compare-looks.sh time: speed.
+# compare-looks.sh sample N SEED DIR: see sample-looks.sh.
 # Needs oracle/build/lifted.rs (build.sh), rustc and the Rattle kit's rt.
 set -eu
 here=$(cd "$(dirname "${BASH_SOURCE[0]}")" && pwd)

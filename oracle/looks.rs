@@ -4,7 +4,6 @@
 //!   looks compare N SEED      N looks; prints 'N looks, D mismatches'
 //!   looks sample N SEED DIR   writes DIR/stdin and DIR/stdout for a replay program
 //!   looks time                the speed table
-use std::io::Write;
 
 /// What the lifted lines of one look name.
 struct Shape {
@@ -266,42 +265,41 @@ fn compare(n: u64, seed: u64) -> u64 {
     wrong
 }
 
-/// Scenes and looks as bytes for look_test, and the lifted answers as text.
+/// Looks as bytes for the program look_test, and the lifted answers as lines: the answer, then the
+/// refusal with a room of one interval fewer, where there is one.
 fn sample(n: u64, seed: u64, dir: &str) {
     let mut d = Draws(seed);
-    let (mut bytes, mut out, mut done, mut full) = (vec![], vec![], 0, 0);
-    let put = |bytes: &mut Vec<u8>, strips: &[f64]| {
-        bytes.push((strips.len() / 6) as u8);
-        for v in strips {
-            bytes.extend(v.to_bits().to_be_bytes());
-        }
-    };
+    let (mut bytes, mut text, mut out, mut done) = (vec![], String::new(), vec![], 0);
     while done < n {
         let z = size(&mut d);
         let copies = d.below(6) as usize;
         let s = scene(&mut d, z, copies);
-        if s.our_placed.strips.len() > 6 * 40 || s.our_sheet.strips.len() > 6 * 40 {
-            continue;
+        let mut l = a_look(&mut d, &s, z);
+        if done % 6 == 0 {
+            // strips that lie in one bucket or two
+            let width = (s.bounds[2] - s.bounds[0]) / 512.0;
+            l.shape = Shape { apart: trapezoids(&d.polygon(width), None), inset: trapezoids(&d.polygon(width), None) };
         }
-        let l = a_look(&mut d, &s, z);
         let (want, count) = lifted_look(&s, &l, &mut out);
-        if count > 255 {
+        let sets = [flat(&s.looker.sheet.pieces), flat(&s.placed.pieces), flat(&l.shape.inset), flat(&l.shape.apart)];
+        if count > 255 || sets[2].is_empty() || sets.iter().any(|strips| strips.len() > 6 * 40) {
             continue;
         }
-        for v in [s.bounds[0], s.bounds[2], l.x, l.ys.0, l.ys.1, want] {
+        if count == 0 && d.below(16) > 0 {
+            continue; // most looks have none
+        }
+        bytes.extend(sets.iter().map(|strips| (strips.len() / 6) as u8));
+        bytes.push(count as u8);
+        let head = [s.bounds[0], s.bounds[2], l.x, l.ys.0, l.ys.1];
+        for v in head.iter().chain(sets.iter().flatten()) {
             bytes.extend(v.to_bits().to_be_bytes());
         }
-        bytes.push(count as u8);
-        for strips in [&s.our_sheet.strips, &s.our_placed.strips, &flat(&l.shape.inset), &flat(&l.shape.apart)] {
-            put(&mut bytes, strips);
-        }
+        text += &if want == FULL { "full\n".to_string() } else { format!("free {:016x}\n", want.to_bits()) };
+        text += if count > 0 { "no 22\n" } else { "" };
         done += 1;
-        full += (want == FULL) as u64;
     }
-    let text = format!("{done} looks right, 0 wrong\n");
-    std::fs::File::create(format!("{dir}/stdin")).unwrap().write_all(&bytes).unwrap();
-    std::fs::File::create(format!("{dir}/stdout")).unwrap().write_all(text.as_bytes()).unwrap();
-    println!("{done} looks, {full} of them full, {} bytes", bytes.len());
+    std::fs::write(format!("{dir}/stdin"), bytes).unwrap();
+    std::fs::write(format!("{dir}/stdout"), text).unwrap();
 }
 
 include!("looks_time.rs");

@@ -1,0 +1,272 @@
+// The choice among orientations (document 01, "Filling"): the smallest x + b2 wins, then the
+// smallest y + b3, then the first listed.
+ghost use mathlib.Core.Path.{_≡_};
+ghost use Prim.Native.Nat.{ℕ, _+_, _*_, _/_, _≤_, _<_, _^_};
+ghost use lib.ListN.{length, getD};
+ghost use Rattle.look.specs.Ready.{Lookable};
+ghost use Rattle.columns.specs.Stands.{xOf, lastOf};
+ghost use Rattle.search.specs.Searching.{answerAt, tracked, searchOf};
+ghost use Rattle.choose.specs.Choosing.{boundsAt, partAt, winnerOf, winsOf, firstOf, againstOf, betterOf, insetPart, apartPart, world, Ready, chosen, orientationOf, chooseFrom};
+use columns::Columns;
+use index::Entry;
+use index::Index;
+use search::Found;
+use strips::Rect;
+
+// Where the strips of a slot lie: 16 * kind + orientation is its slot.
+pub struct Part {
+    pub apart_start: usize,
+    pub apart_count: usize,
+    pub inset_start: usize,
+    pub inset_count: usize,
+}
+
+// A place that an orientation's search found: right is x + b2, top is y + b3.
+pub struct Choice {
+    pub orientation: usize,
+    pub x: f64,
+    pub y: f64,
+    pub right: f64,
+    pub top: f64,
+}
+
+// The choice that wins, none, or that a look's intervals exceed the room.
+pub enum Winner {
+    At(Choice),
+    Nowhere,
+    Overflow,
+}
+
+// The inset bounds of a slot. Only crates of ours call it.
+pub fn bounds_at(inset_bounds: &[f64], slot: usize) -> Rect
+    requires { ⌜ 4 * slot + 4 ≤ length (now «inset_bounds») ⌝ }
+    ensures { λ r. ⌜ r ≡ boundsAt (now («inset_bounds» .entry)) slot ⌝ }
+{
+    let at = 4 * slot;
+    Rect {
+        left: inset_bounds[at],
+        bottom: inset_bounds[at + 1],
+        right: inset_bounds[at + 2],
+        top: inset_bounds[at + 3],
+    }
+}
+
+// The part of a slot. Only crates of ours call it.
+pub fn part_at(parts: &[usize], slot: usize) -> Part
+    requires { ⌜ 4 * slot + 4 ≤ length (now parts) ⌝ }
+    ensures { λ r. ⌜ r ≡ partAt (now (parts .entry)) slot ⌝ }
+{
+    let at = 4 * slot;
+    Part {
+        apart_start: parts[at],
+        apart_count: parts[at + 1],
+        inset_start: parts[at + 2],
+        inset_count: parts[at + 3],
+    }
+}
+
+// What orientation o found.
+fn winner_of(k: Columns, b: Rect, o: usize, found: Found) -> Winner
+    requires { ⌜ k .count ≤ 4000000000 ⌝ }
+    ensures { λ r. ⌜ r ≡ winnerOf k b o found ⌝ }
+{
+    match found {
+        Found::At(c, y) => {
+            let x = k.x(c);
+            Winner::At(Choice {
+                orientation: o,
+                x: x,
+                y: y,
+                right: x + b.right,
+                top: y + b.top,
+            })
+        }
+        Found::Nowhere => Winner::Nowhere,
+        Found::Overflow => Winner::Overflow,
+    }
+}
+
+// Whether a wins over b, where b is listed first.
+fn wins(a: Choice, b: Choice) -> bool
+    ensures { λ r. ⌜ r ≡ winsOf a b ⌝ }
+{
+    if a.right < b.right {
+        return true;
+    }
+    if a.right == b.right {
+        return a.top < b.top;
+    }
+    false
+}
+
+fn first_of(a: Choice, b: Choice) -> Winner
+    ensures { λ r. ⌜ r ≡ firstOf a b ⌝ }
+{
+    if wins(b, a) {
+        return Winner::At(b);
+    }
+    Winner::At(a)
+}
+
+fn against(a: Choice, next: Winner) -> Winner
+    ensures { λ r. ⌜ r ≡ againstOf a next ⌝ }
+{
+    match next {
+        Winner::At(b) => first_of(a, b),
+        Winner::Nowhere => Winner::At(a),
+        Winner::Overflow => Winner::Overflow,
+    }
+}
+
+// The better of two, the first where they are equal; a look without room is never made good.
+fn better(best: Winner, next: Winner) -> Winner
+    ensures { λ r. ⌜ r ≡ betterOf best next ⌝ }
+{
+    match best {
+        Winner::At(a) => against(a, next),
+        Winner::Nowhere => next,
+        Winner::Overflow => Winner::Overflow,
+    }
+}
+
+// The search of one orientation, with its strips in their rooms.
+fn search_part<'a>(
+    ix: Index,
+    k: Columns,
+    p: Part,
+    slot: usize,
+    apart: &'a [f64],
+    inset: &'a [f64],
+    sheet: &[f64],
+    sheet_entries: &[Entry],
+    sheet_starts: &[usize],
+    placed: &[f64],
+    placed_entries: &[Entry],
+    placed_starts: &[usize],
+    room: &mut [f64],
+    look_counts: &mut [usize],
+    next_column: &mut [usize],
+) -> Found
+    requires { ⌜ ((c : ℕ) → c ≤ lastOf k → Lookable ix (xOf k c) (k .«y_low») (k .«y_high») (insetPart p (now inset)) (apartPart p (now apart)) (now sheet) (now placed) (now «sheet_entries») (now «sheet_starts») (now «placed_entries») (now «placed_starts»)) × (k .count ≤ 4000000000) × (slot < length (now «look_counts»)) × (slot < length (now «next_column»)) × (getD (now «look_counts») slot 0 + 4000000002 < 2 ^ 64) ⌝ }
+    ensures { λ r. ⌜ tracked r (now («look_counts» .exit)) (now («next_column» .exit)) ≡ searchOf (answerAt (length (now (room .entry)) / 2) k (insetPart p (now (inset .entry))) (apartPart p (now (apart .entry))) (now (sheet .entry)) (now (placed .entry))) k slot (now («look_counts» .entry)) (now («next_column» .entry)) ⌝ }
+{
+    let insets = trapezoid::strips_of(apart, inset, true, p.inset_start, p.inset_count);
+    let aparts = trapezoid::strips_of(apart, inset, false, p.apart_start, p.apart_count);
+    search::search(
+        ix,
+        k,
+        slot,
+        insets,
+        aparts,
+        sheet,
+        sheet_entries,
+        sheet_starts,
+        placed,
+        placed_entries,
+        placed_starts,
+        room,
+        look_counts,
+        next_column,
+    )
+}
+
+// The search of orientation o, of the slot.
+fn orientation<'a>(
+    ix: Index,
+    bounds: Rect,
+    resolution: f64,
+    slot: usize,
+    o: usize,
+    inset_bounds: &[f64],
+    parts: &[usize],
+    apart: &'a [f64],
+    inset: &'a [f64],
+    sheet: &[f64],
+    sheet_entries: &[Entry],
+    sheet_starts: &[usize],
+    placed: &[f64],
+    placed_entries: &[Entry],
+    placed_starts: &[usize],
+    room: &mut [f64],
+    look_counts: &mut [usize],
+    next_column: &mut [usize],
+) -> Winner
+    requires { ⌜ Ready ix (world (length (now room) / 2) bounds resolution (now «inset_bounds») (now parts) (now apart) (now inset) (now sheet) (now placed)) (now «sheet_entries») (now «sheet_starts») (now «placed_entries») (now «placed_starts») slot × (slot < length (now «look_counts»)) × (slot < length (now «next_column»)) × (getD (now «look_counts») slot 0 + 4000000002 < 2 ^ 64) ⌝ }
+    ensures { λ r. ⌜ chosen r (now («look_counts» .exit)) (now («next_column» .exit)) ≡ orientationOf (world (length (now (room .entry)) / 2) bounds resolution (now («inset_bounds» .entry)) (now (parts .entry)) (now (apart .entry)) (now (inset .entry)) (now (sheet .entry)) (now (placed .entry))) slot o (now («look_counts» .entry)) (now («next_column» .entry)) ⌝ }
+{
+    let b = bounds_at(inset_bounds, slot);
+    let p = part_at(parts, slot);
+    let k = Columns::new(bounds, b, resolution);
+    let found = search_part(
+        ix,
+        k,
+        p,
+        slot,
+        apart,
+        inset,
+        sheet,
+        sheet_entries,
+        sheet_starts,
+        placed,
+        placed_entries,
+        placed_starts,
+        room,
+        look_counts,
+        next_column,
+    );
+    winner_of(k, b, o, found)
+}
+
+// The winner among the n orientations of a kind, whose slots start at `slot`. Only crates of ours
+// call it: the entries must be those of the strips.
+pub fn choose<'a>(
+    ix: Index,
+    bounds: Rect,
+    resolution: f64,
+    slot: usize,
+    n: usize,
+    inset_bounds: &[f64],
+    parts: &[usize],
+    apart: &'a [f64],
+    inset: &'a [f64],
+    sheet: &[f64],
+    sheet_entries: &[Entry],
+    sheet_starts: &[usize],
+    placed: &[f64],
+    placed_entries: &[Entry],
+    placed_starts: &[usize],
+    room: &mut [f64],
+    look_counts: &mut [usize],
+    next_column: &mut [usize],
+) -> Winner
+    requires { ⌜ ((o : ℕ) → o < n → Ready ix (world (length (now room) / 2) bounds resolution (now «inset_bounds») (now parts) (now apart) (now inset) (now sheet) (now placed)) (now «sheet_entries») (now «sheet_starts») (now «placed_entries») (now «placed_starts») (slot + o)) × (slot + n ≤ length (now «look_counts»)) × (slot + n ≤ length (now «next_column»)) × ((o : ℕ) → o < n → getD (now «look_counts») (slot + o) 0 + 4000000002 < 2 ^ 64) × (slot + n ≤ 1024) ⌝ }
+    ensures { λ r. ⌜ chosen r (now («look_counts» .exit)) (now («next_column» .exit)) ≡ chooseFrom (world (length (now (room .entry)) / 2) bounds resolution (now («inset_bounds» .entry)) (now (parts .entry)) (now (apart .entry)) (now (inset .entry)) (now (sheet .entry)) (now (placed .entry))) slot n 0 (chosen Winner.Nowhere (now («look_counts» .entry)) (now («next_column» .entry))) ⌝ }
+{
+    let mut best = Winner::Nowhere;
+    let mut o = 0;
+    while o < n {
+        let next = orientation(
+            ix,
+            bounds,
+            resolution,
+            slot + o,
+            o,
+            inset_bounds,
+            parts,
+            apart,
+            inset,
+            sheet,
+            sheet_entries,
+            sheet_starts,
+            placed,
+            placed_entries,
+            placed_starts,
+            room,
+            look_counts,
+            next_column,
+        );
+        best = better(best, next);
+        o += 1;
+    }
+    best
+}

@@ -1,0 +1,3 @@
+pub mod Steps
+pub mod Same
+pub mod Sizes

@@ -1,0 +1,4 @@
+pub mod SameSearch
+pub mod SameChoice
+pub mod SameCopy
+pub mod SameCore

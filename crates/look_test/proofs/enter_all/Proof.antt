@@ -1,0 +1,49 @@
+-- `look_test::enter_all` meets its contract. Assumes nothing.
+use native.Mathlib.Omega.{arith}
+use mathlib.Core.Path.{_∙_}
+use Rattle.index.proofs.NewIndex.{none-laid}
+use Rattle.look_test.proofs.Tested.{capacity-room, same-laid}
+use borrow.Author.Needs.{needs}
+use Rattle.look_test.proofs.enter_all.Statement.{statement}
+use Rattle.look_test.proofs.enter_all.Tie as tie
+
+clear-requires : tie.Need-clear-requires
+clear-requires c κs = search needs
+
+capacity-requires : tie.Need-capacity-requires
+capacity-requires c κs = search needs
+
+enter-copy-requires : tie.Need-enter-copy-requires
+enter-copy-requires c κs =
+    let g = c .before .before .before .before .before .before .before .before .before .before .before .before .args in
+    let p = c .before .before .before .before .before .before .before .before .before .before .before .before .pre in
+    let cap = c .before .before .before .capacity in
+    let z = c .before .before .before .before .before .before .clear in
+    let room = capacity-room (g .standing .now) in
+    (omega arith, omega (arith, cap .ensures), omega (arith, cap .ensures), p .2, none-laid (g .ix) (g .standing .now) (g .entries .now) _ (z .kept .0 ∙ p .1) (z .ensures))
+
+same-length : tie.Need-same-length
+same-length c = search needs
+
+same-length-2 : tie.Need-same-length-2
+same-length-2 c = search needs
+
+same-length-3 : tie.Need-same-length-3
+same-length-3 c = search needs
+
+returns : tie.Need-returns
+returns c =
+    let g = c .before .before .before .before .before .before .before .before .before .before .before .before .before .before .before .before .before .before .before .args in
+    λ e. same-laid (g .ix) (g .standing .now) _ _ _ _ (c .before .before .before .before .before .before .before .before .before .before .capacity .ensures) (c .before .before .before .before .before .before .enter-copy .ensures .1 e)
+
+pub enter-all-spec : {M : Type 1} → statement M
+enter-all-spec =
+    tie.close
+    (tie.spec
+    clear-requires
+    capacity-requires
+    enter-copy-requires
+    same-length
+    same-length-2
+    same-length-3
+    returns)

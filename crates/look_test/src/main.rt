@@ -1,0 +1,385 @@
+// Replays stored looks: each is made twice, with a room of exactly its counted intervals and with one
+// fewer, and its two answers are printed. A look is a head of 45 bytes (the number of strips of the
+// sheet, of the placed copies, inset and apart, and of intervals, one byte each; then the sheet's
+// left and right end, the column's x, y_low and y_high by their bits), then all strips by their bits.
+// `se` and `ss` are the sheet's entries and starts, `pe` and `ps` those of the placed strips `put`.
+// The stored answers are those of the lifted Rust (oracle/sample-looks.sh), never of this code.
+ghost use mathlib.Core.Path.{_≡_};
+ghost use mathlib.Core.Bool.{true};
+ghost use Prim.Native.Nat.{ℕ, _+_, _*_, _≤_, _<_};
+ghost use lib.ListN.{length, getD};
+ghost use Rattle.index.specs.Buckets.{buckets};
+ghost use Rattle.index.specs.Listing.{Bounded};
+ghost use Rattle.look.specs.Ready.{BoundedStrips, Lookable};
+ghost use Rattle.look_test.specs.Fair.{FairColumn, FairStrips, Entered};
+use height::Look;
+use index::Entry;
+use index::Index;
+use look::Answer;
+
+fn wide(x: u8) -> u64
+    ensures { λ r. ⌜ r < 256 ⌝ }
+{
+    x as u64
+}
+
+// Four bytes, most significant first.
+fn four(b: &[u8], at: usize) -> u64
+    requires { ⌜ at + 4 ≤ length (now b) ⌝ }
+    ensures { λ r. ⌜ r < 4294967296 ⌝ }
+{
+    let w = wide(b[at]);
+    let x = wide(b[at + 1]);
+    let y = wide(b[at + 2]);
+    let z = wide(b[at + 3]);
+    w * 16777216 + x * 65536 + y * 256 + z
+}
+
+// The double of eight bytes; 0 where they are no finite one's.
+fn double(b: &[u8], at: usize) -> f64
+    requires { ⌜ at + 8 ≤ length (now b) ⌝ }
+{
+    let n = four(b, at) * 4294967296 + four(b, at + 4);
+    let d = numbers::from_bits(n);
+    match d {
+        numbers::Double::Finite(x) => x,
+        numbers::Double::NotFinite => 0.0,
+    }
+}
+
+// The next double of the input.
+fn next_double() -> f64 {
+    let mut eight = [0u8; 8];
+    io::read_full(0, &mut eight);
+    double(&eight, 0)
+}
+
+// The next n doubles of the input.
+fn read_doubles(n: usize, out: &mut [f64])
+    requires { ⌜ n ≤ length (now out) ⌝ }
+{
+    let mut i = 0;
+    while i < n {
+        out[i] = next_double();
+        i += 1;
+    }
+}
+
+// Whether x is at most 1,000,000 either way.
+fn bounded(x: f64) -> bool
+    ensures { λ r. ⌜ (r ≡ true → Bounded 1000000 x) ⌝ }
+{
+    if -1000000.0 <= x {
+        return x <= 1000000.0;
+    }
+    false
+}
+
+// Whether all numbers of strips are.
+fn all_bounded(strips: &[f64]) -> bool
+    ensures { λ r. ⌜ (r ≡ true → BoundedStrips (now (strips .entry))) ⌝ }
+{
+    let mut i = 0;
+    while i < strips.len() {
+        if bounded(strips[i]) {
+            i += 1;
+        } else {
+            return false;
+        }
+    }
+    true
+}
+
+fn fair_column(x0: f64, x1: f64, x: f64, low: f64, high: f64) -> bool
+    ensures { λ r. ⌜ (r ≡ true → FairColumn x0 x1 x low high) ⌝ }
+{
+    if bounded(x0) {
+        if bounded(x1) {
+            if bounded(x) {
+                if bounded(low) {
+                    return bounded(high);
+                }
+            }
+        }
+    }
+    false
+}
+
+fn fair_strips(sheet: &[f64], placed: &[f64], inset: &[f64], apart: &[f64]) -> bool
+    ensures { λ r. ⌜ (r ≡ true → FairStrips (now (sheet .entry)) (now (placed .entry)) (now (inset .entry)) (now (apart .entry))) ⌝ }
+{
+    if all_bounded(sheet) {
+        if all_bounded(placed) {
+            if all_bounded(inset) {
+                return all_bounded(apart);
+            }
+        }
+    }
+    false
+}
+
+// Empties all buckets.
+fn clear(starts: &mut [usize])
+    ensures { λ _. ⌜ ((b : ℕ) → getD (now (starts .exit)) b 0 ≡ 0) ⌝ }
+{
+    let n = starts.len();
+    let mut b = 0;
+    while b < n {
+        starts[b] = 0;
+        b += 1;
+    }
+}
+
+// Enters all strips into empty buckets; whether their entries fit.
+fn enter_all(
+    ix: Index,
+    standing: &[f64],
+    entries: &mut [Entry],
+    starts: &mut [usize],
+    gains: &mut [usize],
+) -> bool
+    requires { ⌜ (length (now standing) ≤ 6120) × (length (now starts) ≡ buckets + 1) × (length (now gains) ≡ buckets) ⌝ }
+    ensures { λ r. ⌜ (r ≡ true → Entered ix (now (standing .entry)) (now (entries .exit)) (now (starts .exit))) ⌝ }
+{
+    clear(starts);
+    let n = trapezoid::capacity(standing);
+    enter::enter_copy(ix, standing, 0, n, entries, starts, gains)
+}
+
+// The same for the sheet and for the placed copies.
+fn enter_both(
+    ix: Index,
+    sheet: &[f64],
+    placed: &[f64],
+    se: &mut [Entry],
+    ss: &mut [usize],
+    pe: &mut [Entry],
+    ps: &mut [usize],
+    gains: &mut [usize],
+) -> bool
+    requires { ⌜ (length (now sheet) ≤ 6120) × (length (now placed) ≤ 6120) × (length (now ss) ≡ buckets + 1) × (length (now ps) ≡ buckets + 1) × (length (now gains) ≡ buckets) ⌝ }
+    ensures { λ r. ⌜ (r ≡ true → Entered ix (now (sheet .entry)) (now (se .exit)) (now (ss .exit)) × Entered ix (now (placed .entry)) (now (pe .exit)) (now (ps .exit))) ⌝ }
+{
+    if enter_all(ix, sheet, se, ss, gains) {
+        return enter_all(ix, placed, pe, ps, gains);
+    }
+    false
+}
+
+// The bits of x; 0 for a NaN.
+fn bits(x: f64) -> u64 {
+    if x == x {
+        return f64::to_bits(x);
+    }
+    0
+}
+
+fn show_free(h: f64) {
+    io::write_all(1, b"free ");
+    io::print_hex(1, bits(h), 16);
+    io::write_all(1, b"\n");
+}
+
+fn show_full() {
+    io::write_all(1, b"full\n");
+}
+
+fn show_look(l: Look) {
+    match l {
+        Look::Free(h) => show_free(h),
+        Look::Full => show_full(),
+    }
+}
+
+fn show_refusal() {
+    io::write_all(1, b"no 22\n");
+}
+
+fn show(a: Answer) {
+    match a {
+        Answer::NoRoom => show_refusal(),
+        Answer::Seen(l) => show_look(l),
+    }
+}
+
+// What no stored look is: numbers too large, or entries that do not fit.
+fn show_bad() {
+    io::write_all(1, b"bad\n");
+}
+
+// A look with the whole room, then with one interval fewer.
+fn look_twice(
+    ix: Index,
+    x: f64,
+    lo: f64,
+    hi: f64,
+    inset: &[f64],
+    apart: &[f64],
+    sheet: &[f64],
+    se: &[Entry],
+    ss: &[usize],
+    put: &[f64],
+    pe: &[Entry],
+    ps: &[usize],
+    out: &mut [f64],
+)
+    requires { ⌜ Lookable ix x lo hi (now inset) (now apart) (now sheet) (now put) (now se) (now ss) (now pe) (now ps) ⌝ }
+{
+    let a = look::look_at(ix, x, lo, hi, inset, apart, sheet, se, ss, put, pe, ps, out);
+    show(a);
+    let n = out.len();
+    if n > 0 {
+        let m = n - 1;
+        let b = look::look_at(
+            ix,
+            x,
+            lo,
+            hi,
+            inset,
+            apart,
+            sheet,
+            se,
+            ss,
+            put,
+            pe,
+            ps,
+            &mut out[..m],
+        );
+        show(b);
+    }
+}
+
+// The answers to one look.
+fn replay(
+    head: &[u8],
+    sheet: &[f64],
+    put: &[f64],
+    inset: &[f64],
+    apart: &[f64],
+    se: &mut [Entry],
+    ss: &mut [usize],
+    pe: &mut [Entry],
+    ps: &mut [usize],
+    gains: &mut [usize],
+    out: &mut [f64],
+)
+    requires { ⌜ (45 ≡ length (now head)) × (length (now sheet) ≤ 6120) × (length (now put) ≤ 6120) × (length (now ss) ≡ buckets + 1) × (length (now ps) ≡ buckets + 1) × (length (now gains) ≡ buckets) ⌝ }
+{
+    let x0 = double(head, 5);
+    let x1 = double(head, 13);
+    let x = double(head, 21);
+    let lo = double(head, 29);
+    let hi = double(head, 37);
+    if fair_column(x0, x1, x, lo, hi) {
+        if fair_strips(sheet, put, inset, apart) {
+            let ix = Index::new(x0, x1);
+            if enter_both(ix, sheet, put, se, ss, pe, ps, gains) {
+                look_twice(ix, x, lo, hi, inset, apart, sheet, se, ss, put, pe, ps, out);
+                return;
+            }
+            show_bad();
+            return;
+        }
+    }
+    show_bad();
+}
+
+// A count of the head.
+fn count(head: &[u8], at: usize) -> usize
+    requires { ⌜ at < length (now head) ⌝ }
+    ensures { λ r. ⌜ r ≤ 255 ⌝ }
+{
+    wide(head[at]) as usize
+}
+
+// How many numbers a head's strips have.
+fn numbers_of(head: &[u8]) -> usize
+    requires { ⌜ 45 ≡ length (now head) ⌝ }
+    ensures { λ r. ⌜ r ≤ 6120 ⌝ }
+{
+    6 * (count(head, 0) + count(head, 1) + count(head, 2) + count(head, 3))
+}
+
+// The look of a head and of all its strips.
+fn replay_parts(
+    head: &[u8],
+    strips: &[f64],
+    se: &mut [Entry],
+    ss: &mut [usize],
+    pe: &mut [Entry],
+    ps: &mut [usize],
+    gains: &mut [usize],
+    room: &mut [f64],
+)
+    requires { ⌜ (45 ≡ length (now head)) × (6120 ≡ length (now strips)) × (length (now ss) ≡ buckets + 1) × (length (now ps) ≡ buckets + 1) × (length (now gains) ≡ buckets) × (510 ≡ length (now room)) ⌝ }
+{
+    let a = 6 * count(head, 0);
+    let b = a + 6 * count(head, 1);
+    let c = b + 6 * count(head, 2);
+    let d = c + 6 * count(head, 3);
+    let n = 2 * count(head, 4);
+    let sheet = &strips[..a];
+    let placed = &strips[a..b];
+    let inset = &strips[b..c];
+    let apart = &strips[c..d];
+    replay(
+        head,
+        sheet,
+        placed,
+        inset,
+        apart,
+        se,
+        ss,
+        pe,
+        ps,
+        gains,
+        &mut room[..n],
+    );
+}
+
+// One look of the input, and one turn fewer; none where the input ends.
+fn turn(
+    left: u64,
+    strips: &mut [f64],
+    se: &mut [Entry],
+    ss: &mut [usize],
+    pe: &mut [Entry],
+    ps: &mut [usize],
+    gains: &mut [usize],
+    room: &mut [f64],
+) -> u64
+    requires { ⌜ (0 < left) × (6120 ≡ length (now strips)) × (length (now ss) ≡ buckets + 1) × (length (now ps) ≡ buckets + 1) × (length (now gains) ≡ buckets) × (510 ≡ length (now room)) ⌝ }
+    ensures { λ r. ⌜ r < left ⌝ }
+{
+    let mut head = [0u8; 45];
+    let got = io::read_full(0, &mut head);
+    if got < 45 {
+        return 0;
+    }
+    read_doubles(numbers_of(&head), strips);
+    replay_parts(&head, strips, se, ss, pe, ps, gains, room);
+    left - 1
+}
+
+fn main() {
+    let mut strips = [0.0f64; 6120];
+    let mut se = [0u32; 130560];
+    let mut ss = [0usize; 513];
+    let mut pe = [0u32; 130560];
+    let mut ps = [0usize; 513];
+    let mut gains = [0usize; 512];
+    let mut room = [0.0f64; 510];
+    let mut left: u64 = 1000000;
+    while left > 0 {
+        left = turn(
+            left,
+            &mut strips,
+            &mut se,
+            &mut ss,
+            &mut pe,
+            &mut ps,
+            &mut gains,
+            &mut room,
+        );
+    }
+}

@@ -1,0 +1,172 @@
+// The column search (document 01, "Filling"): the column step, and the search of one orientation
+// from its remembered column.
+ghost use mathlib.Core.Path.{_≡_};
+ghost use Prim.Native.Nat.{ℕ, _+_, _-_, _/_, _≤_, _<_, _^_};
+ghost use lib.ListN.{length, getD, set};
+ghost use Rattle.look.specs.Ready.{Lookable};
+ghost use Rattle.columns.specs.Stands.{xOf, lastOf};
+ghost use Rattle.search.specs.Searching.{answerAt, looked, searchFrom, Within, nextOf, tracked, searchOf};
+use columns::Columns;
+use height::Look;
+use index::Entry;
+use index::Index;
+use look::Answer;
+
+// The column that a search yields, with its free height; or that a look's intervals exceed the room.
+pub enum Found {
+    At(usize, f64),
+    Nowhere,
+    Overflow,
+}
+
+// One look at column c, and one more in its orientation's look count, which nothing else writes.
+fn column_step(
+    ix: Index,
+    k: Columns,
+    c: usize,
+    slot: usize,
+    inset: &[f64],
+    apart: &[f64],
+    sheet: &[f64],
+    sheet_entries: &[Entry],
+    sheet_starts: &[usize],
+    placed: &[f64],
+    placed_entries: &[Entry],
+    placed_starts: &[usize],
+    room: &mut [f64],
+    look_counts: &mut [usize],
+) -> Answer
+    requires { ⌜ Lookable ix (xOf k c) (k .«y_low») (k .«y_high») (now inset) (now apart) (now sheet) (now placed) (now «sheet_entries») (now «sheet_starts») (now «placed_entries») (now «placed_starts») × (k .count ≤ 4000000000) × (slot < length (now «look_counts»)) × (getD (now «look_counts») slot 0 + 1 < 2 ^ 64) ⌝ }
+    ensures { λ r. ⌜ (r ≡ answerAt (length (now (room .entry)) / 2) k (now (inset .entry)) (now (apart .entry)) (now (sheet .entry)) (now (placed .entry)) c) × (now («look_counts» .exit) ≡ set (now («look_counts» .entry)) slot (getD (now («look_counts» .entry)) slot 0 + 1)) ⌝ }
+{
+    look_counts[slot] = look_counts[slot] + 1;
+    look::look_at(
+        ix,
+        k.x(c),
+        k.y_low,
+        k.y_high,
+        inset,
+        apart,
+        sheet,
+        sheet_entries,
+        sheet_starts,
+        placed,
+        placed_entries,
+        placed_starts,
+        room,
+    )
+}
+
+// The first column from `from` to `last` with a free height.
+fn column_search(
+    ix: Index,
+    k: Columns,
+    from: usize,
+    last: usize,
+    slot: usize,
+    inset: &[f64],
+    apart: &[f64],
+    sheet: &[f64],
+    sheet_entries: &[Entry],
+    sheet_starts: &[usize],
+    placed: &[f64],
+    placed_entries: &[Entry],
+    placed_starts: &[usize],
+    room: &mut [f64],
+    look_counts: &mut [usize],
+) -> Found
+    requires { ⌜ ((c : ℕ) → from ≤ c → c ≤ last → Lookable ix (xOf k c) (k .«y_low») (k .«y_high») (now inset) (now apart) (now sheet) (now placed) (now «sheet_entries») (now «sheet_starts») (now «placed_entries») (now «placed_starts»)) × (k .count ≤ 4000000000) × (last ≤ 4000000001) × (slot < length (now «look_counts»)) × (getD (now «look_counts») slot 0 + (last + 1 - from) < 2 ^ 64) ⌝ }
+    ensures { λ r. ⌜ (looked r (now («look_counts» .exit)) ≡ searchFrom (answerAt (length (now (room .entry)) / 2) k (now (inset .entry)) (now (apart .entry)) (now (sheet .entry)) (now (placed .entry))) slot (last + 1 - from) from (now («look_counts» .entry))) × Within last r ⌝ }
+{
+    let mut c = from;
+    let found = loop {
+        if last < c {
+            break Found::Nowhere;
+        }
+        match column_step(
+            ix,
+            k,
+            c,
+            slot,
+            inset,
+            apart,
+            sheet,
+            sheet_entries,
+            sheet_starts,
+            placed,
+            placed_entries,
+            placed_starts,
+            room,
+            look_counts,
+        ) {
+            Answer::NoRoom => {
+                break Found::Overflow;
+            }
+            Answer::Seen(look) => match look {
+                Look::Free(y) => {
+                    break Found::At(c, y);
+                }
+                Look::Full => {
+                    c += 1;
+                }
+            },
+        }
+    };
+    found
+}
+
+// What is remembered of a search: 0 for none, else one more than the column.
+fn next_of(found: Found, last: usize) -> usize
+    requires { ⌜ Within last found × (last ≤ 4000000001) ⌝ }
+    ensures { λ r. ⌜ r ≡ nextOf found ⌝ }
+{
+    match found {
+        Found::At(c, _) => c + 1,
+        Found::Nowhere => 0,
+        Found::Overflow => 0,
+    }
+}
+
+// The search of one orientation, from its remembered column. Only crates of ours call it: the
+// entries must be those of the strips.
+pub fn search(
+    ix: Index,
+    k: Columns,
+    slot: usize,
+    inset: &[f64],
+    apart: &[f64],
+    sheet: &[f64],
+    sheet_entries: &[Entry],
+    sheet_starts: &[usize],
+    placed: &[f64],
+    placed_entries: &[Entry],
+    placed_starts: &[usize],
+    room: &mut [f64],
+    look_counts: &mut [usize],
+    next_column: &mut [usize],
+) -> Found
+    requires { ⌜ ((c : ℕ) → c ≤ lastOf k → Lookable ix (xOf k c) (k .«y_low») (k .«y_high») (now inset) (now apart) (now sheet) (now placed) (now «sheet_entries») (now «sheet_starts») (now «placed_entries») (now «placed_starts»)) × (k .count ≤ 4000000000) × (slot < length (now «look_counts»)) × (slot < length (now «next_column»)) × (getD (now «look_counts») slot 0 + 4000000002 < 2 ^ 64) ⌝ }
+    ensures { λ r. ⌜ tracked r (now («look_counts» .exit)) (now («next_column» .exit)) ≡ searchOf (answerAt (length (now (room .entry)) / 2) k (now (inset .entry)) (now (apart .entry)) (now (sheet .entry)) (now (placed .entry))) k slot (now («look_counts» .entry)) (now («next_column» .entry)) ⌝ }
+{
+    let last = k.last();
+    let from = k.start(last, next_column[slot]);
+    let found = column_search(
+        ix,
+        k,
+        from,
+        last,
+        slot,
+        inset,
+        apart,
+        sheet,
+        sheet_entries,
+        sheet_starts,
+        placed,
+        placed_entries,
+        placed_starts,
+        room,
+        look_counts,
+    );
+    next_column[slot] = next_of(found, last);
+    found
+}

@@ -1,0 +1,211 @@
+-- Storing a whole copy: 20, 21, or what is left. Assumes nothing.
+use Prim.Native.Nat.{ℕ, zero, suc, _+_, _-_, _*_, _/_, _<_, _≤_}
+use native.Mathlib.Omega.{arith}
+use native.Mathlib.Numerals.{add-one}
+use mathlib.Core.Path.{_≡_, refl, sym, ap, _∙_, subst, subst⁻¹}
+use mathlib.Core.Bool.{Bool, true, false}
+use mathlib.Core.List.{List, _++_}
+use lib.ListN.{length, getD, take, drop}
+use lib.Dec.{ltb}
+use lib.Ieee.{Float}
+use borrow.Author.Tests.{lt-ltb, le-ltb}
+use Rattle.numbers.specs.Numbers.{_⊕_}
+use Rattle.trapezoid.specs.declared.Trapezoid.{Trapezoid}
+use Rattle.trapezoid.specs.Strip.{stripAt, setStrip, capacity, movedBy}
+use Rattle.index.specs.declared.Index.{Index}
+use Rattle.index.specs.Buckets.{buckets, bucketIn, entriesOf}
+use Rattle.index.proofs.Steps.{bucket-top}
+use Rattle.index.specs.Listing.{Laid}
+use Rattle.index.proofs.NewIndex.{laid-after}
+use Rattle.enter.specs.EntryRoom.{entriesIn, startsOf, Rooms, Entering, enterOf}
+use Rattle.enter.specs.Gaps.{rooms, entering}
+use Rattle.enter.proofs.Starts.{enter-fits}
+use Rattle.filling.specs.Rooms.{laid}
+use Rattle.store.specs.declared.Stored.{Stored}
+use Rattle.store.specs.declared.Stored.the-variants.{NoStrips, NoEntries, Done}
+use Rattle.store.specs.Storing.{movedTo, widthAt, widthsTo, Left, left, together, storeOf}
+use Rattle.store.proofs.Strips.{after-length, after-before, after-strip, strips-count, after-laid, strips-same}
+use Rattle.store.proofs.Widths.{entries-same, starts-same, entries-more}
+
+pub few-strips : (l : List Float) → length l < 4294967296 → capacity l < 4294967296
+unfolding capacity
+few-strips l h = let q : length l / 6 < 4294967296 = omega arith in q
+
+pub widths-start : (ix : Index) (apart : List Float) (x : Float) → 0 ≡ widthsTo ix apart x 0
+unfolding widthsTo
+widths-start ix apart x = refl
+
+pub widths-next : (ix : Index) (apart : List Float) (x : Float) (j a w : ℕ) → a ≡ widthsTo ix apart x j → w ≡ widthAt ix (stripAt apart j) x → a + w ≡ widthsTo ix apart x (suc j)
+unfolding widthsTo
+widths-next ix apart x j a w e f = rw (e, f)
+
+module _ (ix : Index) (apart : List Float) (x y : Float) (n : ℕ) (p : List Float) (e s : List ℕ) (L : Laid ix p n e s) where
+  abbrev k : ℕ
+  k = capacity apart
+
+  abbrev strips : List Float
+  strips = together apart x y n p
+
+  count : capacity strips ≡ n + k
+  count = strips-count apart x y n p (L .room)
+
+  test-strips : (b : Bool) → ltb (capacity p) (n + k) ≡ b → ltb (capacity p) (capacity strips) ≡ b
+  test-strips b q = ap (ltb (capacity p)) count ∙ q
+
+  pub store-short : capacity p < n + k → left NoStrips p e s ≡ storeOf ix apart x y n p e s
+  unfolding storeOf
+  store-short h = rw (test-strips true (lt-ltb (capacity p) (n + k) h), storeOf)
+
+  module _ (fits : n + k ≤ capacity p) where
+    pub six-in : 6 * (n + k) ≤ length p
+    unfolding capacity
+    six-in = let f : n + k ≤ length p / 6 = fits in omega arith
+
+    abbrev p' : List Float
+    p' = movedTo apart x y n p k
+
+    pub laid-still : Laid ix p' n e s
+    laid-still = laid-after ix p p' n e s L (λ i m. sym (after-before apart x y n p k i m)) (let l = after-length apart x y n p k in let r = L .room in omega arith)
+
+    entries-are : entriesOf ix strips (capacity strips) ≡ entriesOf ix p' (n + k)
+    entries-are = ap (entriesOf ix strips) count ∙ entries-same ix strips p' (n + k) (strips-same apart x y n p six-in)
+
+    starts-are : startsOf ix strips (capacity strips) ≡ startsOf ix p' (n + k)
+    starts-are = ap (startsOf ix strips) count ∙ starts-same ix strips p' (n + k) (strips-same apart x y n p six-in)
+
+    total : length (entriesOf ix p' (n + k)) ≡ getD s buckets 0 + widthsTo ix apart x k
+    total = entries-more ix apart x y p' n k (λ i l. after-strip apart x y n p k i l six-in) e s laid-still
+
+    pub store-full : length e - getD s buckets 0 < widthsTo ix apart x k → left NoEntries p e s ≡ storeOf ix apart x y n p e s
+    unfolding storeOf
+    store-full h =
+        rw (
+          test-strips false (le-ltb (capacity p) (n + k) fits),
+          lt-ltb (length e) (length (entriesOf ix strips (capacity strips))) (let t = total in let q = ap length entries-are in omega arith),
+          storeOf,
+        )
+
+    module _ (room : widthsTo ix apart x k ≤ length e - getD s buckets 0) where
+      all-in : length (entriesOf ix p' (n + k)) ≤ length e
+      all-in = let t = total in let w = L .within buckets (omega arith) in omega arith
+
+      pub six-still : 6 * (n + k) ≤ length p'
+      six-still = let l = after-length apart x y n p k in let q = six-in in omega arith
+
+      store-fits : left Done (laid strips p) (laid (entriesOf ix strips (capacity strips)) e) (startsOf ix strips (capacity strips)) ≡ storeOf ix apart x y n p e s
+      unfolding storeOf
+      store-fits =
+          rw (
+            test-strips false (le-ltb (capacity p) (n + k) fits),
+            le-ltb (length e) (length (entriesOf ix strips (capacity strips))) (let a = all-in in let q = ap length entries-are in omega arith),
+            storeOf,
+          )
+
+      entries-laid : entriesIn ix p' (n + k) e ≡ laid (entriesOf ix strips (capacity strips)) e
+      unfolding entriesIn laid
+      entries-laid = ap (λ (l : List ℕ). l ++ drop (length l) e) (sym entries-are)
+
+      pub store-done : (r : Bool) (q : List Float) (e' s' : List ℕ) → q ≡ p' → entering r e' s' ≡ enterOf ix q (n + k) (rooms e s) → (left Done q e' s' ≡ storeOf ix apart x y n p e s) × (r ≡ true)
+      store-done r q e' s' E h =
+          let t : entering r e' s' ≡ record { fits = true; after = record { entries = entriesIn ix p' (n + k) e; starts = startsOf ix p' (n + k) } } = h ∙ (ap (λ (z : List Float). enterOf ix z (n + k) (rooms e s)) E ∙ sym (enter-fits ix p' (n + k) (rooms e s) all-in)) in (
+            ap (λ (z : Entering). left Done q (z .after .entries) (z .after .starts)) t
+                ∙ (ap (λ (z : List Float). left Done z (entriesIn ix p' (n + k) e) (startsOf ix p' (n + k))) (E ∙ after-laid apart x y n p six-in)
+                ∙ (ap (λ (z : List ℕ). left Done (laid strips p) z (startsOf ix p' (n + k))) entries-laid
+                ∙ (ap (λ (z : List ℕ). left Done (laid strips p) (laid (entriesOf ix strips (capacity strips)) e) z) (sym starts-are)
+                ∙ store-fits))),
+            ap (λ (z : Entering). z .fits) t,
+          )
+
+      pub done-is : (k' : ℕ) (r : Bool) (q : List Float) (e' s' : List ℕ) → k' ≡ k → q ≡ p' → entering r e' s' ≡ enterOf ix q (n + k') (rooms e s) → (r ≡ true → Laid ix q (n + k') e' s')
+          → (left Done q e' s' ≡ storeOf ix apart x y n p e s) × Laid ix q (n + k) e' s'
+      done-is k' r q e' s' d E h l =
+          let t = store-done r q e' s' E (h ∙ ap (λ (z : ℕ). enterOf ix q (n + z) (rooms e s)) d) in
+          (t .0, subst (λ (z : ℕ). Laid ix q (n + z) e' s') d (l (t .1)))
+
+    pub six-after : (k' : ℕ) (q : List Float) → k' ≡ k → q ≡ p' → 6 * (n + k') ≤ length q
+    six-after k' q d E = let l = ap length E ∙ after-length apart x y n p k in let g = six-in in omega arith
+
+    pub number-after : (k' : ℕ) → k' ≡ k → length p < 4294967296 → n + k' ≤ 4294967296
+    number-after k' d h = let g = six-in in omega arith
+
+    pub laid-on : (q : List Float) → q ≡ p' → Laid ix q n e s
+    laid-on q E = subst⁻¹ (λ (z : List Float). Laid ix z n e s) E laid-still
+
+    pub full-is : (more : ℕ) → more ≡ widthsTo ix apart x k → length e - getD s buckets 0 < more → left NoEntries p e s ≡ storeOf ix apart x y n p e s
+    full-is more d h = store-full (subst (λ (z : ℕ). length e - getD s buckets 0 < z) d h)
+
+  pub short-is : (cap k' : ℕ) → cap ≡ capacity p → k' ≡ k → cap < n + k' → left NoStrips p e s ≡ storeOf ix apart x y n p e s
+  short-is cap k' a b h = store-short (omega arith)
+
+  pub fits-is : (cap k' : ℕ) → cap ≡ capacity p → k' ≡ k → n + k' ≤ cap → n + k ≤ capacity p
+  fits-is cap k' a b h = omega arith
+
+  pub sum-fits : (k' : ℕ) → k' ≡ k → length p < 4294967296 → length apart < 4294967296 → n + k' < 18446744073709551616
+  sum-fits k' d h g = let f = few-strips apart g in let r = L .room in omega arith
+
+-- ---- the loops
+pub in-room : (l : List Float) (j c : ℕ) → c ≡ capacity l → j < c → 6 * j + 6 ≤ length l
+unfolding capacity
+in-room l j c e h = let q : c ≡ length l / 6 = e in omega arith
+
+pub moved-next : (apart : List Float) (x y : Float) (n : ℕ) (p : List Float) (j : ℕ) (q r : List Float) (u v : Trapezoid) → q ≡ movedTo apart x y n p j → u ≡ stripAt apart j → v ≡ movedBy u x y → r ≡ setStrip q (n + j) v
+    → r ≡ movedTo apart x y n p (j + 1)
+unfolding movedTo
+moved-next apart x y n p j q r u v e d f g =
+    g
+    ∙ (ap (λ (z : List Float). setStrip z (n + j) v) e
+    ∙ (ap (setStrip (movedTo apart x y n p j) (n + j)) (f ∙ ap (λ (z : Trapezoid). movedBy z x y) d) ∙ ap (movedTo apart x y n p) (sym (add-one j))))
+
+pub moved-start : (apart : List Float) (x y : Float) (n : ℕ) (p : List Float) → p ≡ movedTo apart x y n p 0
+unfolding movedTo
+moved-start apart x y n p = refl
+
+pub moved-length : (apart : List Float) (x y : Float) (n : ℕ) (p : List Float) (j : ℕ) (q : List Float) → q ≡ movedTo apart x y n p j → length q ≡ length p
+moved-length apart x y n p j q e = ap length e ∙ after-length apart x y n p j
+
+pub moved-end : (apart : List Float) (x y : Float) (n : ℕ) (p q : List Float) (j c : ℕ) → c ≡ capacity apart → j ≤ capacity apart → c ≤ j → q ≡ movedTo apart x y n p j → q ≡ movedTo apart x y n p (capacity apart)
+moved-end apart x y n p q j c d l h e = e ∙ ap (movedTo apart x y n p) (let z : j ≡ capacity apart = omega arith in z)
+
+pub widths-end : (ix : Index) (apart : List Float) (x : Float) (a j c : ℕ) → c ≡ capacity apart → j ≤ capacity apart → c ≤ j → a ≡ widthsTo ix apart x j → a ≡ widthsTo ix apart x (capacity apart)
+widths-end ix apart x a j c d l h e = e ∙ ap (widthsTo ix apart x) (let z : j ≡ capacity apart = omega arith in z)
+
+-- the strips counted so far, and how many entries they have at most
+pub record Counting (ix : Index) (apart : List Float) (x : Float) (n j : ℕ) : Type 0 where
+  pub upto : j ≤ capacity apart
+  pub small : n ≤ 512 * j
+  pub same : n ≡ widthsTo ix apart x j
+
+pub counting-start : (ix : Index) (apart : List Float) (x : Float) → Counting ix apart x 0 0
+counting-start ix apart x = record { upto = omega arith; small = omega arith; same = widths-start ix apart x }
+
+pub counting-next : (ix : Index) (apart : List Float) (x : Float) (n j c w : ℕ) (q : Trapezoid) → Counting ix apart x n j → c ≡ capacity apart → j < c → q ≡ stripAt apart j → (w ≡ widthAt ix q x) × (w ≤ buckets) → Counting ix apart x (n + w) (j + 1)
+counting-next ix apart x n j c w q g e h d f =
+    record {
+      upto = omega arith;
+      small = (let a = g .small in let b = f .1 in omega arith);
+      same = widths-next ix apart x j n w (g .same) (f .0 ∙ ap (λ (z : Trapezoid). widthAt ix z x) d) ∙ ap (widthsTo ix apart x) (sym (add-one j));
+    }
+
+pub counting-fits : (ix : Index) (apart : List Float) (x : Float) (n j c w : ℕ) → Counting ix apart x n j → length apart < 4294967296 → c ≡ capacity apart → j < c → w ≤ buckets → n + w < 18446744073709551616
+counting-fits ix apart x n j c w g l e h b = let a = g .small in let f = few-strips apart l in omega arith
+
+-- ---- one strip's width
+pub width-none : (ix : Index) (q : Trapezoid) (x : Float) (l f : ℕ) → f ≡ bucketIn ix (q .x0 ⊕ x) → l ≡ bucketIn ix (q .x1 ⊕ x) → l < f → (0 ≡ widthAt ix q x) × (0 ≤ buckets)
+unfolding widthAt
+width-none ix q x l f d e h = (go (bucketIn ix (q .x1 ⊕ x)) (bucketIn ix (q .x0 ⊕ x)) e d, omega arith)
+  where
+    go : (a b : ℕ) → l ≡ a → f ≡ b → 0 ≡ a + 1 - b
+    go a b p r = omega arith
+
+pub width-some : (ix : Index) (q : Trapezoid) (x : Float) (l f : ℕ) → f ≡ bucketIn ix (q .x0 ⊕ x) → l ≡ bucketIn ix (q .x1 ⊕ x) → (l + 1 - f ≡ widthAt ix q x) × (l + 1 - f ≤ buckets)
+unfolding widthAt
+width-some ix q x l f d e = (go (bucketIn ix (q .x1 ⊕ x)) (bucketIn ix (q .x0 ⊕ x)) e d, few (bucketIn ix (q .x1 ⊕ x)) e (bucket-top ix (q .x1 ⊕ x)))
+  where
+    go : (a b : ℕ) → l ≡ a → f ≡ b → l + 1 - f ≡ a + 1 - b
+    go a b p r = omega arith
+
+    few : (a : ℕ) → l ≡ a → a ≤ 511 → l + 1 - f ≤ 512
+    few a p r = omega arith
+
+pub bucket-next : (ix : Index) (x : Float) (l : ℕ) → l ≡ bucketIn ix x → l + 1 < 18446744073709551616
+bucket-next ix x l e = let t = bucket-top ix x in omega arith

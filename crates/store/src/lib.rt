@@ -1,0 +1,91 @@
+// Storing a placed copy (document 01, "Filling"): its apart strips are moved and entered; 20 and 21
+// are tested for the whole copy before the first write.
+ghost use mathlib.Core.Path.{_≡_};
+ghost use Prim.Native.Nat.{_+_, _*_, _≤_, _<_};
+ghost use lib.ListN.{length};
+ghost use Rattle.trapezoid.specs.Strip.{capacity};
+ghost use Rattle.index.specs.Buckets.{buckets};
+ghost use Rattle.index.specs.Listing.{Laid};
+ghost use Rattle.store.specs.Storing.{movedTo, widthAt, widthsTo, left, storeOf, Entered};
+use index::Entry;
+use index::Index;
+use trapezoid::Trapezoid;
+
+// Refusal 20, refusal 21, or that the copy is stored.
+pub enum Stored {
+    NoStrips,
+    NoEntries,
+    Done,
+}
+
+// The apart strips, moved, go into the room from number n on.
+fn store_moved(apart: &[f64], x: f64, y: f64, placed: &mut [f64], n: usize)
+    requires { ⌜ 6 * (n + capacity (now apart)) ≤ length (now placed) ⌝ }
+    ensures { λ _. ⌜ now (placed .exit) ≡ movedTo (now (apart .entry)) x y n (now (placed .entry)) (capacity (now (apart .entry))) ⌝ }
+{
+    let count = trapezoid::capacity(apart);
+    let mut j = 0;
+    while j < count {
+        let q = trapezoid::load(apart, j);
+        trapezoid::store(placed, n + j, q.moved(x, y));
+        j += 1;
+    }
+}
+
+// How many buckets the strip q, moved by x, is entered in.
+fn width_at(ix: Index, q: Trapezoid, x: f64) -> usize
+    ensures { λ r. ⌜ (r ≡ widthAt ix q x) × (r ≤ buckets) ⌝ }
+{
+    let first = ix.bucket(q.x0 + x);
+    let last = ix.bucket(q.x1 + x);
+    if last < first {
+        return 0;
+    }
+    last + 1 - first
+}
+
+// How many entries the apart strips, moved by x, have.
+fn entries_of(ix: Index, apart: &[f64], x: f64) -> usize
+    requires { ⌜ length (now apart) < 4294967296 ⌝ }
+    ensures { λ r. ⌜ r ≡ widthsTo ix (now (apart .entry)) x (capacity (now (apart .entry))) ⌝ }
+{
+    let count = trapezoid::capacity(apart);
+    let mut n: usize = 0;
+    let mut j = 0;
+    while j < count {
+        let q = trapezoid::load(apart, j);
+        n += width_at(ix, q, x);
+        j += 1;
+    }
+    n
+}
+
+// A copy's strips, moved, go after the n placed strips, and into the entries. `gains` is a table of
+// work. Only crates of ours call it: the entries must be those of the placed strips.
+pub fn store_copy(
+    ix: Index,
+    apart: &[f64],
+    x: f64,
+    y: f64,
+    placed: &mut [f64],
+    n: usize,
+    entries: &mut [Entry],
+    starts: &mut [usize],
+    gains: &mut [usize],
+) -> Stored
+    requires { ⌜ Laid ix (now placed) n (now entries) (now starts) × (length (now placed) < 4294967296) × (length (now apart) < 4294967296) × (length (now gains) ≡ buckets) ⌝ }
+    ensures { λ r. ⌜ (left r (now (placed .exit)) (now (entries .exit)) (now (starts .exit)) ≡ storeOf ix (now (apart .entry)) x y n (now (placed .entry)) (now (entries .entry)) (now (starts .entry))) × Entered ix n (capacity (now (apart .entry))) (now (placed .exit)) (now (entries .exit)) (now (starts .exit)) r ⌝ }
+{
+    let k = trapezoid::capacity(apart);
+    if trapezoid::capacity(placed) < n + k {
+        return Stored::NoStrips;
+    }
+    let held = starts[Index::BUCKETS];
+    let more = entries_of(ix, apart, x);
+    if entries.len() - held < more {
+        return Stored::NoEntries;
+    }
+    store_moved(apart, x, y, placed, n);
+    enter::enter_copy(ix, placed, n, n + k, entries, starts, gains);
+    Stored::Done
+}
