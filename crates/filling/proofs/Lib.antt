@@ -10,6 +10,10 @@ pub mod Begin
 pub mod Runs
 pub mod Demand3
 pub mod Numbers31
+pub mod WithinBoundsNumbers
+pub mod WithinBoundsPlaces
+pub mod WithinBoundsStrips
+pub mod WithinBounds
 pub mod Never31
 pub mod Refused
 pub mod EntryWalk

@@ -1,4 +1,4 @@
--- After an accepted start no call is refused with 31, if every accepted job's numbers are within 31's bounds. Assumes nothing.
+-- After an accepted start no call is refused with 31. Assumes nothing.
 use mathlib.Core.Path.{_≡_, refl, sym, ap, ap₂, subst, _∙_}
 use mathlib.Core.Logic.{_⊎_, inl, inr, _≢_}
 use mathlib.Core.Bool.{Bool, true, false, not, _&&_}
@@ -41,7 +41,8 @@ use Rattle.filling.proofs.Steps.{Linked, Took, refused≢accepted, late
 use Rattle.filling.proofs.Begin.{first-order, first-standing, first-without, first-parts, first-counts, rearranged-length, Begun, begun, Started, start-accepted}
 use Rattle.filling.proofs.Runs.{step-consistent, call-outcome, step-keeps}
 use Rattle.filling.proofs.Demand3.{Fit, fresh, closed, reached, spent, Tracked, Paired, Kept, took-keeps, first-kept}
-use Rattle.filling.proofs.Numbers31.{WithinBounds, JobsWithinBounds, Fine, summed, layout-fits, left-bounded, Goods, row-good, fine-none, fine-placed}
+use Rattle.filling.proofs.Numbers31.{WithinBounds, Fine, summed, layout-fits, left-bounded, Goods, row-good, fine-none, fine-placed}
+use Rattle.filling.proofs.WithinBounds.{jobs-within}
 
 -- ---- tracks
 
@@ -350,14 +351,15 @@ given-job bytes order l v = go (readJob bytes) refl v
     go (accepted j) d v = (j, d)
 
 -- after an accepted start, whatever list of calls with whatever interval rooms: none is refused with 31
-pub never-31 : JobsWithinBounds → (bytes order : List ℕ) (l : Lent) → startOf bytes order l .verdict ≡ Accepted → (calls : List Call)
+pub never-31 : (bytes order : List ℕ) (l : Lent) → startOf bytes order l .verdict ≡ Accepted → (calls : List Call)
     → List·Memᴰ (Refused Why.Inconsistent) (afterCalls bytes calls (startOf bytes order l .state) (startOf bytes order l .lent .rooms) .verdicts) → ⊥
-never-31 b bytes order l v calls m =
+never-31 bytes order l v calls m =
     let g = given-job bytes order l v in
     let j = g .0 in
     let e = g .1 in
+    let b = jobs-within bytes j e in
     let a = start-accepted bytes order l j e v in
     let z = sized bytes j e in
     let r = begun j order l (a .verdict-is) .rearranges in
-    let h : Own j order (startOf bytes order l .state) (startOf bytes order l .lent .rooms) (plainStart (plannerOf j) order) = rw (a .state-is, a .rooms-is) (own-start j z (b bytes j e) order l (a .verdict-is)) in
-    run-not bytes j e (b bytes j e) order r calls (startOf bytes order l .state) (startOf bytes order l .lent .rooms) (plainStart (plannerOf j) order) h m
+    let h : Own j order (startOf bytes order l .state) (startOf bytes order l .lent .rooms) (plainStart (plannerOf j) order) = rw (a .state-is, a .rooms-is) (own-start j z b order l (a .verdict-is)) in
+    run-not bytes j e b order r calls (startOf bytes order l .state) (startOf bytes order l .lent .rooms) (plainStart (plannerOf j) order) h m

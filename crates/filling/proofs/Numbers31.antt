@@ -1,5 +1,5 @@
--- The numbers that 31 judges, along every copy taken, if an accepted job's own are within its bounds: the planner's, a copy's at each free place of a
--- column, and sums of areas. Assumes nothing.
+-- The numbers that 31 judges, along every copy taken, if a job's own are within its bounds (WithinBounds.antt): the planner's, a copy's at each free place of
+-- a column, and sums of areas. Assumes nothing.
 use mathlib.Core.Path.{_≡_, refl, sym, ap, subst, _∙_}
 use mathlib.Core.Logic.{_⊎_, inl, inr}
 use mathlib.Core.Bool.{Bool, true, false, not, _&&_, cond}
@@ -14,7 +14,7 @@ use Rattle.numbers.specs.Numbers.{_⊕_, larger, fromInt, posZero}
 use Rattle.trapezoid.specs.Strip.{stripAt, capacity}
 use Rattle.index.specs.Buckets.{upFrom}
 use Rattle.height.specs.declared.Look.the-variants.{Free}
-use Rattle.job.specs.Jobs.{Job, Answer, accepted, readJob}
+use Rattle.job.specs.Jobs.{Job}
 use Rattle.filling.specs.declared.State.{State}
 use Rattle.filling.specs.declared.Layout.{Layout}
 use Rattle.filling.specs.Columns.{columnAt}
@@ -51,10 +51,6 @@ pub record WithinBounds (p : Planner) : Type 0 where
   pub right : (k o : ℕ) (x y : Float) → Yielded p (shapeOf p k o) x y → bounded (x ⊕ shapeOf p k o .bounds .right) ≡ true
   pub sums-low : (cs : List Copy) → length cs ≤ 4096 → le posZero (summed p posZero cs) ≡ true
   pub sums-high : (cs : List Copy) → length cs ≤ 4096 → le (summed p posZero cs) (fromInt 10_000_000_000_000_000) ≡ true
-
--- the one premise, of every accepted job
-abbrev pub JobsWithinBounds : Type 0
-JobsWithinBounds = (bytes : List ℕ) (j : Job) → readJob bytes ≡ accepted j → WithinBounds (plannerOf j)
 
 -- ---- lists
 

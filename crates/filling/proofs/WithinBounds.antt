@@ -1,0 +1,133 @@
+-- An accepted job's numbers are within the bounds that 31 tests. Assumes nothing.
+use mathlib.Core.Path.{_≡_, refl, sym, subst}
+use mathlib.Core.Bool.{true}
+use mathlib.Core.List.{List, [], _∷_, map}
+use Prim.Native.Nat.{ℕ, zero, suc, _+_, _*_, _≤_}
+use native.Mathlib.Nat.{le-trans, le-refl}
+use native.Mathlib.Omega.{arith}
+use lib.Dec.{lit≤}
+use lib.ListN.{length, getD}
+use lib.Ieee.{Float, binary64}
+use Rattle.numbers.specs.Numbers.{_⊕_, posZero}
+use Rattle.numbers.proofs.Ranges.{zero-num, zero-key}
+use Rattle.numbers.proofs.Literals.{milli}
+use Rattle.numbers.proofs.Doubles.{k, o, Finite, Upto, Small, finite, add-upto, add-number}
+use Rattle.trapezoid.proofs.Sizes.{small-more}
+use Rattle.strips.proofs.Sizes.{Framed}
+use Rattle.bits.proofs.Accepted.{UpFrom}
+use Rattle.kinds.specs.Kinds.{Orientation, Kind}
+use Rattle.kinds.proofs.Accepted.{Every, GoodSets, GoodKind}
+use Rattle.job.specs.Jobs.{Job, accepted, readJob}
+use Rattle.job.proofs.Accepted.{GoodJob, job-good}
+use Rattle.filling.specs.Shapes.{Planner, plannerOf, Copy, shapeFor, noShape, shapeOf, setBounds}
+use Rattle.filling.specs.Consistent.{every, bounded, plannerFits, shapeFits}
+use Rattle.filling.proofs.Numbers31.{Yielded, summed, WithinBounds}
+use Rattle.filling.proofs.WithinBoundsNumbers.{small-bounded, resolution-fits, zero-small, sum-grows, area-low, area-high}
+use Rattle.filling.proofs.WithinBoundsPlaces.{place-small}
+use Rattle.filling.proofs.WithinBoundsStrips.{set-framed, set-fits, frame-fits, FineShape, shape-fine, shape-fits, lacking-fine}
+
+-- ---- shapes by kind and orientation
+
+row-fits : (os : List Orientation) → Every GoodSets os → every shapeFits (map shapeFor os) ≡ true
+unfolding every
+row-fits [] h = refl
+row-fits (t ∷ os) h = rw (shape-fits t (h .0), row-fits os (h .1))
+
+rows-fit : (ks : List Kind) → Every GoodKind ks → every (every shapeFits) (map (λ k. map shapeFor (k .orientations)) ks) ≡ true
+unfolding every
+rows-fit [] h = refl
+rows-fit (k ∷ ks) h = rw (row-fits (k .orientations) (h .0 .sets), rows-fit ks (h .1))
+
+row-fine : (os : List Orientation) → Every GoodSets os → (o : ℕ) → FineShape (getD (map shapeFor os) o noShape)
+row-fine [] h o = lacking-fine
+row-fine (t ∷ os) h zero = shape-fine t (h .0)
+row-fine (t ∷ os) h (suc o) = row-fine os (h .1) o
+
+rows-fine : (ks : List Kind) → Every GoodKind ks → (i o : ℕ) → FineShape (getD (getD (map (λ k. map shapeFor (k .orientations)) ks) i []) o noShape)
+rows-fine [] h i o = lacking-fine
+rows-fine (k ∷ ks) h zero o = row-fine (k .orientations) (h .0 .sets) o
+rows-fine (k ∷ ks) h (suc i) o = rows-fine ks (h .1) i o
+
+-- ---- areas
+
+-- an area of a kind, or of none
+area-at : (ks : List Kind) → Every GoodKind ks → (i : ℕ) → UpFrom posZero 1000000000000 (getD (map (λ k. k .area) ks) i posZero)
+area-at [] h i = record { num = zero-num binary64; low = le-refl (k posZero); high = (let z : Small 1000000000000 posZero = small-more zero-small (lit≤ tt) in z .bound) }
+area-at (k ∷ ks) h zero = h .0 .area
+area-at (k ∷ ks) h (suc i) = area-at ks (h .1) i
+
+-- a sum of at most 4,096 areas, each at most 1e12
+pub record Sum (x : Float) : Type 0 where
+  pub fine : Finite x
+  pub low : o ≤ k x
+  pub high : Upto 4096000000000000 x
+
+module _ (p : Planner) (h : (i : ℕ) → UpFrom posZero 1000000000000 (getD (p .areas) i posZero)) where
+  summed-within : (cs : List Copy) (m : ℕ) (a : Float) → Small m a → o ≤ k a → m + 1000000000000 * length cs ≤ 4096000000000000 → Sum (summed p a cs)
+  unfolding summed
+  summed-within [] m a S l b = let w : Small 4096000000000000 a = small-more S (omega arith) in record { fine = finite (S .num); low = l; high = w .bound }
+  summed-within (c ∷ cs) m a S l b =
+      let A = h (c .kind) in
+      let r = add-upto (finite (S .num)) (finite (A .num)) (S .bound) (A .high) (le-trans (step m (length cs) b) (lit≤ tt)) in
+      let f : o ≤ k (getD (p .areas) (c .kind) posZero) = subst (λ (n : ℕ). n ≤ k (getD (p .areas) (c .kind) posZero)) (zero-key binary64) (A .low) in
+      summed-within cs (m + 1000000000000) (a ⊕ getD (p .areas) (c .kind) posZero) (record { num = add-number (S .num) (finite (A .num)) (r .0); bound = r .1 }) (sum-grows (finite (S .num)) (finite (A .num)) l f) (next m (length cs) b)
+    where
+      step : (m n : ℕ) → m + 1000000000000 * suc n ≤ 4096000000000000 → m + 1000000000000 ≤ 4096000000000000
+      step m n b = omega arith
+
+      next : (m n : ℕ) → m + 1000000000000 * suc n ≤ 4096000000000000 → m + 1000000000000 + 1000000000000 * n ≤ 4096000000000000
+      next m n b = omega arith
+
+  sums : (cs : List Copy) → length cs ≤ 4096 → Sum (summed p posZero cs)
+  sums cs l = summed-within cs 0 posZero zero-small (native.Mathlib.Nat.le-of-eq (sym (zero-key binary64))) (omega arith)
+
+-- ---- an accepted job
+
+module _ (j : Job) (g : GoodJob j) where
+  abbrev P : Planner
+  P = plannerOf j
+
+  framed : Framed (P .bounds)
+  unfolding plannerOf
+  framed = set-framed (j .sheet) (g .sheetPoints) (g .sheet)
+
+  resolution-in : UpFrom milli 10000 (P .resolution)
+  unfolding plannerOf
+  resolution-in = g .header .resolution
+
+  planner-fits : plannerFits P ≡ true
+  unfolding plannerOf plannerFits
+  planner-fits = rw (resolution-fits (g .header .resolution), set-fits (j .sheet) (g .sheetPoints) (g .sheet) true, frame-fits (setBounds (j .sheet)) (set-framed (j .sheet) (g .sheetPoints) (g .sheet)), rows-fit (j .kinds) (g .kinds))
+
+  shape : (i o : ℕ) → FineShape (shapeOf P i o)
+  unfolding plannerOf shapeOf
+  shape i o = rows-fine (j .kinds) (g .kinds) i o
+
+  area : (i : ℕ) → UpFrom posZero 1000000000000 (getD (P .areas) i posZero)
+  unfolding plannerOf
+  area i = area-at (j .kinds) (g .kinds) i
+
+  place : (i o : ℕ) (x y : Float) → Yielded P (shapeOf P i o) x y → Small 610000 x × Small 200000 y
+  place i o x y Y = place-small P (shapeOf P i o) resolution-in framed (shape i o .frame) x y Y
+
+  right-bounded : (i o : ℕ) (x y : Float) → Yielded P (shapeOf P i o) x y → bounded (x ⊕ shapeOf P i o .bounds .right) ≡ true
+  right-bounded i o x y Y =
+      let X = place i o x y Y .0 in
+      let R = shape i o .frame .right in
+      let r = add-upto (finite (X .num)) (finite (R .num)) (X .bound) (R .bound) (lit≤ tt) in
+      let S : Small 710000 (x ⊕ shapeOf P i o .bounds .right) = record { num = add-number (X .num) (finite (R .num)) (r .0); bound = r .1 } in
+      small-bounded S (lit≤ tt)
+
+  pub job-within : WithinBounds P
+  job-within =
+      record {
+        own = planner-fits;
+        strips = λ i o x y Y. shape i o .moved x y (place i o x y Y .0) (place i o x y Y .1);
+        right = right-bounded;
+        sums-low = λ cs l. (let s = sums P area cs l in area-low (s .fine) (s .low));
+        sums-high = λ cs l. (let s = sums P area cs l in area-high (s .fine) (s .high));
+      }
+
+-- what 31 judges by: every number of an accepted job, and of its strips wherever a search can place them
+pub jobs-within : (bytes : List ℕ) (j : Job) → readJob bytes ≡ accepted j → WithinBounds (plannerOf j)
+jobs-within bytes j e = job-within j (job-good bytes j e .good)
