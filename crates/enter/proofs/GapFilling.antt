@@ -290,14 +290,14 @@ module _ (ix : Index) (standing : List Float) (m n : ℕ) (h : m ≤ n) (e₀ st
       let b = laid-starts ix standing m e₀ st L buckets (omega arith) in
       subst (λ (k : ℕ). startOf ix standing k buckets ≡ getD st buckets 0 + before g buckets) whole (omega arith)
 
-  pub copy-blocks : (e s : List ℕ) → Opened st g e₀ 0 e s → Blocks (startOf ix standing n) (entered ix standing m) e s
+  pub copy-blocks : (e s : List ℕ) → Opened buckets st g e₀ 0 e s → Blocks (startOf ix standing n) (entered ix standing m) e s
   copy-blocks e s O = subst (λ (k : ℕ). Blocks (startOf ix standing k) (entered ix standing m) e s) whole (opened-blocks ix standing m (n - m) g e₀ st e s L C O)
 
-  pub copy-laid : (e s e' s' : List ℕ) → 6 * n ≤ length standing → getD st buckets 0 + before g buckets ≤ length e₀ → Opened st g e₀ 0 e s → length e' ≡ length e
+  pub copy-laid : (e s e' s' : List ℕ) → 6 * n ≤ length standing → getD st buckets 0 + before g buckets ≤ length e₀ → Opened buckets st g e₀ 0 e s → length e' ≡ length e
       → Blocks (startOf ix standing n) (entered ix standing n) e' s' → Laid ix standing n e' s'
   copy-laid e s e' s' w f O q B = blocks-laid ix standing n e' s' w (let a = all-entries in let b = O .size in omega arith) B
 
-  pub copy-entered : (e s e' s' : List ℕ) → 6 * n ≤ length standing → getD st buckets 0 + before g buckets ≤ length e₀ → Opened st g e₀ 0 e s → length e' ≡ length e
+  pub copy-entered : (e s e' s' : List ℕ) → 6 * n ≤ length standing → getD st buckets 0 + before g buckets ≤ length e₀ → Opened buckets st g e₀ 0 e s → length e' ≡ length e
       → Blocks (startOf ix standing n) (entered ix standing n) e' s' → ((j : ℕ) → startOf ix standing n buckets ≤ j → getD e' j 0 ≡ getD e j 0) → entering true e' s' ≡ enterOf ix standing n (rooms e₀ st)
   copy-entered e s e' s' w f O q B r =
       let K = copy-laid e s e' s' w f O q B in

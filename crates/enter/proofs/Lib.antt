@@ -2,3 +2,4 @@ pub mod Starts
 pub mod NewEntries
 pub mod Opening
 pub mod GapFilling
+pub mod Tail

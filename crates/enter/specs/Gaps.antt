@@ -42,15 +42,23 @@ unfoldable pub before : List ℕ → ℕ → ℕ
 before gains zero = 0
 before gains (suc b) = before gains b + getD gains b 0
 
--- ---- the buckets from b on are moved up: st and e₀ are what starts and entries were
-pub record Opened (st gains e₀ : List ℕ) (b : ℕ) (e s : List ℕ) : Type 0 where
+-- ---- the starts from `from` to below b are larger by `by`
+pub record Shifted (from by : ℕ) (st : List ℕ) (b : ℕ) (s : List ℕ) : Type 0 where
+  pub size : length s ≡ length st
+  pub early : (c : ℕ) → c < from → getD s c 0 ≡ getD st c 0
+  pub done : (c : ℕ) → from ≤ c → c < b → getD s c 0 ≡ getD st c 0 + by
+  pub todo : (c : ℕ) → b ≤ c → getD s c 0 ≡ getD st c 0
+
+-- ---- the buckets from b to below `top` are moved up: st and e₀ are what starts and entries were
+pub record Opened (top : ℕ) (st gains e₀ : List ℕ) (b : ℕ) (e s : List ℕ) : Type 0 where
   pub size : length e ≡ length e₀
   pub table : length s ≡ length st
   pub old : (c : ℕ) → c ≤ b → getD s c 0 ≡ getD st c 0
-  pub new : (c : ℕ) → b ≤ c → c < buckets → getD s (c + 1) 0 ≡ getD st (c + 1) 0 + before gains c
-  pub moved : (c : ℕ) → b ≤ c → c < buckets → (j : ℕ) → getD st c 0 ≤ j → j < getD st (c + 1) 0 → getD e (j + before gains c) 0 ≡ getD e₀ j 0
+  pub new : (c : ℕ) → b ≤ c → c < top → getD s (c + 1) 0 ≡ getD st (c + 1) 0 + before gains c
+  pub above : (c : ℕ) → top < c → getD s c 0 ≡ getD st c 0
+  pub moved : (c : ℕ) → b ≤ c → c < top → (j : ℕ) → getD st c 0 ≤ j → j < getD st (c + 1) 0 → getD e (j + before gains c) 0 ≡ getD e₀ j 0
   pub kept : (j : ℕ) → j < getD st b 0 → getD e j 0 ≡ getD e₀ j 0
-  pub rest : (j : ℕ) → getD st buckets 0 + before gains buckets ≤ j → getD e j 0 ≡ getD e₀ j 0
+  pub rest : (j : ℕ) → getD st top 0 + before gains top ≤ j → getD e j 0 ≡ getD e₀ j 0
 
 -- ---- filling the gaps: bucket b begins at `at b`, holds `list b`, and ends where its next start stands
 pub record Blocks (at : ℕ → ℕ) (list : ℕ → List ℕ) (e s : List ℕ) : Type 0 where

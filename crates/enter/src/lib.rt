@@ -1,12 +1,12 @@
 // Entering a copy's strips into the buckets' entries: in place, in one pass from the back.
 ghost use mathlib.Core.Path.{_≡_};
 ghost use mathlib.Core.Bool.{true};
-ghost use Prim.Native.Nat.{ℕ, _+_, _-_, _*_, _≤_, _<_};
+ghost use Prim.Native.Nat.{ℕ, _+_, _-_, _*_, _≤_, _<_, max};
 ghost use lib.ListN.{length, getD, set};
 ghost use Rattle.index.specs.Buckets.{buckets, entered};
 ghost use Rattle.index.specs.Listing.{Laid};
 ghost use Rattle.enter.specs.EntryRoom.{startOf, enterOf};
-ghost use Rattle.enter.specs.Gaps.{Moved, before, Opened, Blocks, filled, rooms, entering, newIn, one, Counted};
+ghost use Rattle.enter.specs.Gaps.{Moved, before, Opened, Blocks, filled, rooms, entering, newIn, one, Counted, Shifted};
 use index::Entry;
 use index::Index;
 
@@ -18,8 +18,29 @@ pub fn set_entry(entries: &mut [Entry], e: usize, number: usize)
     entries[e] = number as Entry;
 }
 
-// Moves the entries from `from` to below `to` up by `by`, the last first.
-fn move_up(s: &mut [Entry], from: usize, to: usize, by: usize)
+// Moves the entries from `from` to below `to` up by `by`, four at once, the last first; answers where
+// those begin that are left.
+fn move_fours(s: &mut [Entry], from: usize, to: usize, by: usize) -> usize
+    requires { ⌜ (from ≤ to) × (to + by ≤ length (now s)) ⌝ }
+    ensures { λ r. ⌜ (from ≤ r) × (r ≤ to) × Moved r to by (now (s .entry)) (now (s .exit)) ⌝ }
+{
+    let mut j = to;
+    while j - from >= 4 {
+        j -= 4;
+        let a = s[j];
+        let b = s[j + 1];
+        let c = s[j + 2];
+        let d = s[j + 3];
+        s[j + 3 + by] = d;
+        s[j + 2 + by] = c;
+        s[j + 1 + by] = b;
+        s[j + by] = a;
+    }
+    j
+}
+
+// Moves the entries from `from` to below `to` up by `by`, one by one, the last first.
+fn move_ones(s: &mut [Entry], from: usize, to: usize, by: usize)
     requires { ⌜ (from ≤ to) × (to + by ≤ length (now s)) ⌝ }
     ensures { λ _. ⌜ Moved from to by (now (s .entry)) (now (s .exit)) ⌝ }
 {
@@ -27,6 +48,28 @@ fn move_up(s: &mut [Entry], from: usize, to: usize, by: usize)
     while j > from {
         j -= 1;
         s[j + by] = s[j];
+    }
+}
+
+// Moves the entries from `from` to below `to` up by `by`, the last first.
+fn move_up(s: &mut [Entry], from: usize, to: usize, by: usize)
+    requires { ⌜ (from ≤ to) × (to + by ≤ length (now s)) ⌝ }
+    ensures { λ _. ⌜ Moved from to by (now (s .entry)) (now (s .exit)) ⌝ }
+{
+    let j = move_fours(s, from, to, by);
+    move_ones(s, from, j, by);
+}
+
+// Adds `by` to the starts from number `from` on.
+fn shift(starts: &mut [usize], from: usize, by: usize)
+    requires { ⌜ (from ≤ length (now starts)) × ((c : ℕ) → from ≤ c → c < length (now starts) → getD (now starts) c 0 + by < 18446744073709551616) ⌝ }
+    ensures { λ _. ⌜ Shifted from by (now (starts .entry)) (length (now (starts .entry))) (now (starts .exit)) ⌝ }
+{
+    let n = starts.len();
+    let mut b = from;
+    while b < n {
+        starts[b] = starts[b] + by;
+        b += 1;
     }
 }
 
@@ -65,12 +108,29 @@ fn width_of(lo: usize, hi: usize) -> usize
     0
 }
 
+// The larger of two.
+fn later(a: usize, b: usize) -> usize
+    ensures { λ r. ⌜ r ≡ max a b ⌝ }
+{
+    if a < b {
+        return b;
+    }
+    a
+}
+
+// How many new entries there are, and from which bucket on there are none.
+struct Counts {
+    more: usize,
+    end: usize,
+}
+
 // Counts the new entries of the strips from `from` to below `to`, bucket by bucket and all.
-fn count(ix: Index, standing: &[f64], from: usize, to: usize, gains: &mut [usize]) -> usize
+fn count(ix: Index, standing: &[f64], from: usize, to: usize, gains: &mut [usize]) -> Counts
     requires { ⌜ (from ≤ to) × (6 * to ≤ length (now standing)) × (to ≤ 4294967296) × (length (now gains) ≡ buckets) × ((b : ℕ) → b < buckets → getD (now gains) b 0 ≡ 0) ⌝ }
-    ensures { λ r. ⌜ Counted ix (now (standing .entry)) (to - from) from (now (gains .exit)) × (r ≡ before (now (gains .exit)) buckets) ⌝ }
+    ensures { λ r. ⌜ Counted ix (now (standing .entry)) (to - from) from (now (gains .exit)) × (r .more ≡ before (now (gains .exit)) buckets) × (r .end ≤ buckets) × ((b : ℕ) → r .end ≤ b → b < buckets → getD (now (gains .exit)) b 0 ≡ 0) ⌝ }
 {
     let mut n: usize = 0;
+    let mut end: usize = 0;
     let mut i = from;
     while i < to {
         let p = trapezoid::load(standing, i);
@@ -78,18 +138,19 @@ fn count(ix: Index, standing: &[f64], from: usize, to: usize, gains: &mut [usize
         let hi = ix.bucket(p.x1);
         count_strip(gains, lo, hi);
         n += width_of(lo, hi);
+        end = later(end, hi + 1);
         i += 1;
     }
-    n
+    Counts { more: n, end: end }
 }
 
-// Moves each bucket up by the new entries before it, from the last bucket to the first that has new
-// ones before it: the new entries of a bucket then have room at its end, where its next start stands.
-fn open_gaps(entries: &mut [Entry], starts: &mut [usize], gains: &[usize], more: usize)
-    requires { ⌜ (length (now starts) ≡ buckets + 1) × ((b c : ℕ) → b ≤ c → c < buckets + 1 → getD (now starts) b 0 ≤ getD (now starts) c 0) × (length (now gains) ≡ buckets) × (more ≡ before (now gains) buckets) × (getD (now starts) buckets 0 + more ≤ length (now entries)) ⌝ }
-    ensures { λ _. ⌜ Opened (now (starts .entry)) (now (gains .entry)) (now (entries .entry)) 0 (now (entries .exit)) (now (starts .exit)) ⌝ }
+// Moves each bucket before `end` up by the new entries before it, from the last to the first that has
+// new ones before it: the new entries of a bucket then have room at its end, where its next start stands.
+fn open_gaps(entries: &mut [Entry], starts: &mut [usize], gains: &[usize], more: usize, end: usize)
+    requires { ⌜ (length (now starts) ≡ buckets + 1) × (end ≤ buckets) × ((b c : ℕ) → b ≤ c → c < end + 1 → getD (now starts) b 0 ≤ getD (now starts) c 0) × (length (now gains) ≡ buckets) × (more ≡ before (now gains) end) × (getD (now starts) end 0 + more ≤ length (now entries)) ⌝ }
+    ensures { λ _. ⌜ Opened end (now (starts .entry)) (now (gains .entry)) (now (entries .entry)) 0 (now (entries .exit)) (now (starts .exit)) ⌝ }
 {
-    let mut b = Index::BUCKETS;
+    let mut b = end;
     let mut left = more;
     while left > 0 {
         b -= 1;
@@ -99,6 +160,18 @@ fn open_gaps(entries: &mut [Entry], starts: &mut [usize], gains: &[usize], more:
         move_up(entries, from, to, left);
         starts[b + 1] = to + left;
     }
+}
+
+// Moves all buckets up so: those from `end` on, which have no new entries, as one block.
+fn open_all(entries: &mut [Entry], starts: &mut [usize], gains: &[usize], more: usize, end: usize)
+    requires { ⌜ (length (now starts) ≡ buckets + 1) × ((b c : ℕ) → b ≤ c → c < buckets + 1 → getD (now starts) b 0 ≤ getD (now starts) c 0) × (length (now gains) ≡ buckets) × (more ≡ before (now gains) buckets) × (getD (now starts) buckets 0 + more ≤ length (now entries)) × (end ≤ buckets) × ((b : ℕ) → end ≤ b → b < buckets → getD (now gains) b 0 ≡ 0) ⌝ }
+    ensures { λ _. ⌜ Opened buckets (now (starts .entry)) (now (gains .entry)) (now (entries .entry)) 0 (now (entries .exit)) (now (starts .exit)) ⌝ }
+{
+    let from = starts[end];
+    let to = starts[Index::BUCKETS];
+    move_up(entries, from, to, more);
+    shift(starts, end + 1, more);
+    open_gaps(entries, starts, gains, more, end);
 }
 
 // Puts a strip's number at the end of each of the buckets lo to hi.
@@ -150,10 +223,10 @@ pub fn enter_copy(
     ensures { λ r. ⌜ (entering r (now (entries .exit)) (now (starts .exit)) ≡ enterOf ix (now (standing .entry)) to (rooms (now (entries .entry)) (now (starts .entry)))) × (r ≡ true → Laid ix (now (standing .entry)) to (now (entries .exit)) (now (starts .exit))) ⌝ }
 {
     clear(gains);
-    let more = count(ix, standing, from, to, gains);
+    let new = count(ix, standing, from, to, gains);
     let held = starts[Index::BUCKETS];
-    if more <= entries.len() - held {
-        open_gaps(entries, starts, gains, more);
+    if new.more <= entries.len() - held {
+        open_all(entries, starts, gains, new.more, new.end);
         fill(ix, standing, from, to, entries, starts);
         return true;
     }

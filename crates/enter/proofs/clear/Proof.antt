@@ -30,36 +30,28 @@ Inv-loop gains₀ n b₀ gains b = (n ≡ length gains₀) × (length gains ≡ 
 abbrev μ-loop : tie.MeasureT-loop
 μ-loop gains₀ n b₀ gains b = n - b
 
--- src/lib.rt:40:5
 loop-holds : tie.Need-loop-holds Inv-loop μ-loop
 loop-holds c = (refl, refl, λ d h. absurd (none d h))
 
--- src/lib.rt:41:9
 mul-gains : tie.Need-mul-gains Inv-loop μ-loop
 mul-gains c = omega arith
 
--- src/lib.rt:41:9
 slice-write-gains : tie.Need-slice-write-gains Inv-loop μ-loop
 slice-write-gains c = omega arith
 
--- src/lib.rt:42:9
 add-b : tie.Need-add-b Inv-loop μ-loop
 add-b c = omega arith
 
--- src/lib.rt:40:5
 loop-less : tie.Need-loop-less Inv-loop μ-loop
 loop-less c = omega arith
 
--- src/lib.rt:40:5
 loop-again : tie.Need-loop-again Inv-loop μ-loop
 loop-again c = let l = c .before .loop in
     (l .inv .0, length-set (l .gains) (l .b) 0 ∙ l .inv .1, cleared-step (l .gains) (l .b) (omega (arith, l .inv .1)) (l .inv .2))
 
--- src/lib.rt:35:1
 same-length : tie.Need-same-length Inv-loop μ-loop
 same-length c = c .before .loop .inv .1
 
--- src/lib.rt:35:1
 returns : tie.Need-returns Inv-loop μ-loop
 returns c = (c .before .loop .inv .1, λ d h. c .before .loop .inv .2 d (omega (arith, c .before .loop .inv .0)))
 

@@ -17,88 +17,86 @@ use Rattle.enter.proofs.Starts.{CountedTo, counted-start, counted-step,
 use Rattle.enter.proofs.NewEntries.{before-strip, before-clear}
 use Rattle.enter.proofs.Opening.{moved-start, moved-step, opened-start, opened-turn, opened-end, opened-blocks}
 use Rattle.enter.proofs.GapFilling.{filled-on, filled-end, strip-room, fill-turn, all-entries, copy-blocks, copy-laid, copy-entered, copy-refused}
+use Rattle.enter.proofs.Tail.{end-turn}
 use Rattle.enter.proofs.count.Statement.{statement}
 use Rattle.enter.proofs.count.Tie as tie
 use Rattle.enter.proofs.count.Reads as reads
 use Rattle.enter.proofs.count.Lts as lts
 use Rattle.enter.proofs.count_strip.Reads as count-strip-reads
 use Rattle.enter.proofs.width_of.Reads as width-of-reads
+use Rattle.enter.proofs.later.Reads as later-reads
 use Rattle.index.proofs.Index.bucket.Reads as bucket-reads
 use Rattle.trapezoid.proofs.load.Reads as load-reads
 
 abbrev Inv-loop : tie.InvT-loop
-Inv-loop ix standing from to gains₀ n₀ i₀ gains n i = (from ≤ i) × (i ≤ to) × (length gains ≡ buckets) × Counted ix standing (i - from) from gains × (n ≡ before gains buckets) × (n ≤ (i - from) * 512)
+Inv-loop ix standing from to gains₀ n₀ end₀ i₀ gains n end i = (from ≤ i) × (i ≤ to) × (length gains ≡ buckets) × Counted ix standing (i - from) from gains × (n ≡ before gains buckets) × (n ≤ (i - from) * 512) × (end ≤ buckets) × ((b : ℕ) → end ≤ b → b < buckets → getD gains b 0 ≡ 0)
 
 abbrev μ-loop : tie.MeasureT-loop
-μ-loop ix standing from to gains₀ n₀ i₀ gains n i = to - i
+μ-loop ix standing from to gains₀ n₀ end₀ i₀ gains n end i = to - i
 
--- src/lib.rt:75:5
 loop-holds : tie.Need-loop-holds Inv-loop μ-loop
-loop-holds c = (omega arith, c .before .before .pre .0, c .before .before .pre .3, counted-none _ _ _ _ (c .before .before .pre .4), sym (before-clear _ (c .before .before .pre .4)), omega arith)
+loop-holds c = (omega arith, c .before .before .pre .0, c .before .before .pre .3, counted-none _ _ _ _ (c .before .before .pre .4), sym (before-clear _ (c .before .before .pre .4)), omega arith, omega arith, λ b h l. c .before .before .pre .4 b l)
 
--- src/lib.rt:76:13
 load-requires : tie.Need-load-requires Inv-loop μ-loop
 load-requires c κs = omega (arith, c .loop-test .taken, c .before .before .before .before .pre .1)
 
--- src/lib.rt:77:13
 bucket-requires : tie.Need-bucket-requires Inv-loop μ-loop
 bucket-requires c κs = search needs
 
--- src/lib.rt:78:13
 bucket-requires-2 : tie.Need-bucket-requires-2 Inv-loop μ-loop
 bucket-requires-2 c κs = search needs
 
--- src/lib.rt:79:9
 count-strip-requires : tie.Need-count-strip-requires Inv-loop μ-loop
 count-strip-requires c κs = let l = c .before .before .before .before .before .loop in
     let t = bucket-top (c .before .before .before .before .before .before .before .before .args .ix) (c .before .before .before .load .result .x1) in
     (omega (arith, c .before .bucket2 .ensures, l .inv .2), λ d a. (let z = l .inv .3 .small d (omega (arith, l .inv .2)) in omega (arith, c .before .before .before .before .loop-test .taken, c .before .before .before .before .before .before .before .before .pre .2)))
 
--- src/lib.rt:80:14
 width-of-requires : tie.Need-width-of-requires Inv-loop μ-loop
 width-of-requires c κs = let t = bucket-top (c .before .before .before .before .before .before .before .before .before .before .before .args .ix) (c .before .before .before .before .before .before .load .result .x1) in omega (arith, c .before .before .before .before .bucket2 .ensures)
 
--- src/lib.rt:80:9
 add-n : tie.Need-add-n Inv-loop μ-loop
 add-n c = let t = bucket-top (c .before .before .before .before .before .before .before .before .before .before .before .before .args .ix) (c .before .before .before .before .before .before .before .load .result .x1) in
     let l = c .before .before .before .before .before .before .before .before .before .loop in
     omega (arith, c .width-of .ensures, c .before .before .before .before .before .bucket2 .ensures, l .inv .5, c .before .before .before .before .before .before .before .before .loop-test .taken, c .before .before .before .before .before .before .before .before .before .before .before .before .pre .2)
 
--- src/lib.rt:81:9
+add-later : tie.Need-add-later Inv-loop μ-loop
+add-later c = let t = bucket-top (c .before .before .before .before .before .before .before .before .before .before .before .before .args .ix) (c .before .before .before .before .before .before .before .load .result .x1) in omega (arith, c .before .before .before .before .before .bucket2 .ensures)
+
+later-requires : tie.Need-later-requires Inv-loop μ-loop
+later-requires c κs = search needs
+
 add-i : tie.Need-add-i Inv-loop μ-loop
-add-i c = omega (arith, c .before .before .before .before .before .before .before .before .loop-test .taken, c .before .before .before .before .before .before .before .before .before .before .before .before .pre .2)
+add-i c = omega (arith, c .before .before .before .before .before .before .before .before .before .loop-test .taken, c .before .before .before .before .before .before .before .before .before .before .before .before .before .pre .2)
 
--- src/lib.rt:75:5
 loop-less : tie.Need-loop-less Inv-loop μ-loop
-loop-less c = omega (arith, c .before .before .before .before .before .before .before .before .loop-test .taken)
+loop-less c = omega (arith, c .before .before .before .before .before .before .before .before .before .loop-test .taken)
 
--- src/lib.rt:75:5
 loop-again : tie.Need-loop-again Inv-loop μ-loop
-loop-again c = let l = c .before .before .before .before .before .before .before .before .before .loop in
-    let g = c .before .before .before .before .before .before .before .before .before .before .before .before .args in
-    let E = c .before .before .before .before .before .before .before .load .ensures in
-    let t = bucket-top (g .ix) (c .before .before .before .before .before .before .before .load .result .x1) in
-    let u = c .before .before .before .before .before .bucket2 .ensures in
-    let w = c .width-of .ensures in
-    let s = before-strip (l .gains) (c .before .before .before .count-strip .last .0) (c .before .before .before .before .before .before .bucket .result) (c .before .before .before .before .before .bucket2 .result) (omega arith) (c .before .before .before .count-strip .ensures) in (
+loop-again c = let l = c .before .before .before .before .before .before .before .before .before .before .loop in
+    let g = c .before .before .before .before .before .before .before .before .before .before .before .before .before .args in
+    let E = c .before .before .before .before .before .before .before .before .load .ensures in
+    let t = bucket-top (g .ix) (c .before .before .before .before .before .before .before .before .load .result .x1) in
+    let u = c .before .before .before .before .before .before .bucket2 .ensures in
+    let w = c .before .width-of .ensures in
+    let s = before-strip (l .gains) (c .before .before .before .before .count-strip .last .0) (c .before .before .before .before .before .before .before .bucket .result) (c .before .before .before .before .before .before .bucket2 .result) (omega arith) (c .before .before .before .before .count-strip .ensures) in (
       omega (arith, l .inv .0),
-      omega (arith, c .before .before .before .before .before .before .before .before .loop-test .taken),
-      c .before .before .before .count-strip .kept .0 ∙ l .inv .2,
-      count-turn (g .ix) (g .standing .now) (g .from) (l .i) _ _ (l .gains) _ (l .inv .0) (c .before .before .before .before .before .before .bucket .ensures ∙ ap (λ (q : Trapezoid). bucketIn (g .ix) (q .x0)) E) (u ∙ ap (λ (q : Trapezoid). bucketIn (g .ix) (q .x1)) E) (c .before .before .before .count-strip .ensures) (l .inv .3),
+      omega (arith, c .before .before .before .before .before .before .before .before .before .loop-test .taken),
+      c .before .before .before .before .count-strip .kept .0 ∙ l .inv .2,
+      count-turn (g .ix) (g .standing .now) (g .from) (l .i) _ _ (l .gains) _ (l .inv .0) (c .before .before .before .before .before .before .before .bucket .ensures ∙ ap (λ (q : Trapezoid). bucketIn (g .ix) (q .x0)) E) (u ∙ ap (λ (q : Trapezoid). bucketIn (g .ix) (q .x1)) E) (c .before .before .before .before .count-strip .ensures) (l .inv .3),
       omega (arith, l .inv .4, s),
       omega (arith, l .inv .5, l .inv .0),
+      omega (arith, l .inv .6, c .later .ensures),
+      end-turn (l .gains) (c .before .before .before .before .count-strip .last .0) (c .before .before .before .before .before .before .before .bucket .result) (c .before .before .before .before .before .before .bucket2 .result) (l .end) _ (omega (arith, c .later .ensures)) (omega (arith, c .later .ensures)) (c .before .before .before .before .count-strip .ensures) (l .inv .7),
     )
 
--- src/lib.rt:69:1
 same-length : tie.Need-same-length Inv-loop μ-loop
 same-length c = c .before .loop .inv .2 ∙ sym (c .before .before .before .before .pre .3)
 
--- src/lib.rt:69:1
 returns : tie.Need-returns Inv-loop μ-loop
 returns c = let l = c .before .loop in
     let g = c .before .before .before .before .args in
     let e : l .i ≡ g .to = omega (arith, l .inv .1) in
-    (subst (λ (k : ℕ). Counted (g .ix) (g .standing .now) (k - g .from) (g .from) (l .gains)) e (l .inv .3), l .inv .4)
+    (subst (λ (k : ℕ). Counted (g .ix) (g .standing .now) (k - g .from) (g .from) (l .gains)) e (l .inv .3), l .inv .4, l .inv .6, l .inv .7)
 
 pub count-spec : {M : Type 1} → statement M
 count-spec =
@@ -113,6 +111,8 @@ count-spec =
     count-strip-requires
     width-of-requires
     add-n
+    add-later
+    later-requires
     add-i
     loop-less
     loop-again

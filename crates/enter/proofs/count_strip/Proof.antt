@@ -27,52 +27,41 @@ Inv-loop gains₀ lo hi b₀ gains b = (lo ≤ b) × CountedTo lo hi gains₀ b 
 abbrev μ-loop : tie.MeasureT-loop
 μ-loop gains₀ lo hi b₀ gains b = hi + 1 - b
 
--- src/lib.rt:52:5
 loop-holds : tie.Need-loop-holds Inv-loop μ-loop
 loop-holds c = (omega arith, counted-start _ _ _)
 
--- src/lib.rt:53:20
 mul-gains : tie.Need-mul-gains Inv-loop μ-loop
 mul-gains c = let z = c .before .loop .inv .1 .size in omega arith
 
--- src/lib.rt:53:20
 slice-read-gains : tie.Need-slice-read-gains Inv-loop μ-loop
 slice-read-gains c = let z = c .before .before .loop .inv .1 .size in omega arith
 
--- src/lib.rt:53:20
 add-gains : tie.Need-add-gains Inv-loop μ-loop
 add-gains c = let l = c .before .before .loop in
     let z = l .inv .1 .todo (l .b) (native.Mathlib.Nat.le-refl (l .b)) in
     let y = c .before .before .before .pre .1 (l .b) (omega arith) in
     omega arith
 
--- src/lib.rt:53:9
 mul-gains-2 : tie.Need-mul-gains-2 Inv-loop μ-loop
 mul-gains-2 c = let z = c .before .before .loop .inv .1 .size in omega arith
 
--- src/lib.rt:53:9
 slice-write-gains : tie.Need-slice-write-gains Inv-loop μ-loop
 slice-write-gains c = let z = c .before .before .loop .inv .1 .size in omega arith
 
--- src/lib.rt:54:9
 add-b : tie.Need-add-b Inv-loop μ-loop
 add-b c = let z = c .before .before .loop .inv .1 .size in omega arith
 
--- src/lib.rt:52:5
 loop-less : tie.Need-loop-less Inv-loop μ-loop
 loop-less c = let z = c .before .before .loop .inv .1 .size in omega arith
 
--- src/lib.rt:52:5
 loop-again : tie.Need-loop-again Inv-loop μ-loop
 loop-again c = let l = c .before .before .loop in
     let g = c .before .before .before .args in
     (omega arith, counted-step (g .lo) (g .hi) (g .gains .now) (l .b) (l .gains) (l .inv .0) (c .before .loop-test .taken) (omega arith) (l .inv .1))
 
--- src/lib.rt:47:1
 same-length : tie.Need-same-length Inv-loop μ-loop
 same-length c = c .before .loop .inv .1 .size
 
--- src/lib.rt:47:1
 returns : tie.Need-returns Inv-loop μ-loop
 returns c = let l = c .before .loop in
     let g = c .before .before .args in

@@ -24,66 +24,57 @@ use Rattle.enter.proofs.enter_copy.Lts as lts
 use Rattle.enter.proofs.clear.Reads as clear-reads
 use Rattle.enter.proofs.count.Reads as count-reads
 use Rattle.enter.proofs.fill.Reads as fill-reads
-use Rattle.enter.proofs.open_gaps.Reads as open-gaps-reads
+use Rattle.enter.proofs.open_all.Reads as open-all-reads
 
--- src/lib.rt:152:5
 clear-requires : tie.Need-clear-requires
 clear-requires c κs = search needs
 
--- src/lib.rt:153:9
 count-requires : tie.Need-count-requires
 count-requires c κs = let p = c .before .before .before .before .before .before .before .before .before .pre in
     let z = c .before .before .before .clear .ensures in
     (p .0, p .1, p .2, z .0 ∙ p .3, λ d a. z .1 d (omega (arith, p .3)))
 
--- src/lib.rt:154:16
 slice-read-held : tie.Need-slice-read-held
 slice-read-held c = search needs
 
--- src/lib.rt:155:16
 sub-if1 : tie.Need-sub-if1
 sub-if1 c = let p = c .before .before .before .before .before .before .before .before .before .before .before .before .before .pre in let z = p .4 .within buckets (omega arith) in omega arith
 
--- src/lib.rt:156:9
-open-gaps-requires : tie.Need-open-gaps-requires
-open-gaps-requires c κs = let g = c .before .before .before .before .before .before .before .before .before .before .before .before .before .before .before .before .before .args in
-    let p = c .before .before .before .before .before .before .before .before .before .before .before .before .before .before .before .before .before .pre in
-    let z = c .before .before .before .before .before .before .before .before .before .before .before .clear .ensures in
+open-all-requires : tie.Need-open-all-requires
+open-all-requires c κs = let g = c .before .before .before .before .before .before .before .before .before .before .before .before .before .before .before .before .before .before .args in
+    let p = c .before .before .before .before .before .before .before .before .before .before .before .before .before .before .before .before .before .before .pre in
+    let z = c .before .before .before .before .before .before .before .before .before .before .before .before .clear .ensures in
     let y = p .4 .within buckets (omega arith) in
-    (p .4 .table, p .4 .rise, c .before .before .before .before .before .before .before .count .kept .1 .1 .1 .1 .0 ∙ (z .0 ∙ p .3), c .before .before .before .before .before .before .before .count .ensures .1, omega (arith, c .before .before .before .if1 .taken))
+    let n = c .before .before .before .before .before .before .before .before .count .ensures in
+    (p .4 .table, p .4 .rise, c .before .before .before .before .before .before .before .before .count .kept .1 .1 .1 .1 .0 ∙ (z .0 ∙ p .3), n .1, omega (arith, c .before .before .before .if1 .taken), n .2, n .3)
 
--- src/lib.rt:157:9
 fill-requires : tie.Need-fill-requires
-fill-requires c κs = let g = c .before .before .before .before .before .before .before .before .before .before .before .before .before .before .before .before .before .before .before .before .before .before .before .before .args in
-    let p = c .before .before .before .before .before .before .before .before .before .before .before .before .before .before .before .before .before .before .before .before .before .before .before .before .pre in
-    let C = c .before .before .before .before .before .before .before .before .before .before .before .before .before .before .count .ensures .0 in
-    let O = c .before .before .before .before .before .before .open-gaps .ensures in
+fill-requires c κs = let g = c .before .before .before .before .before .before .before .before .before .before .before .before .before .before .before .before .before .before .before .before .before .before .before .before .before .args in
+    let p = c .before .before .before .before .before .before .before .before .before .before .before .before .before .before .before .before .before .before .before .before .before .before .before .before .before .pre in
+    let C = c .before .before .before .before .before .before .before .before .before .before .before .before .before .before .before .count .ensures .0 in
+    let O = c .before .before .before .before .before .before .open-all .ensures in
     let A = all-entries (g .ix) (g .standing .now) (g .from) (g .to) (p .0) (g .entries .now) (g .starts .now) _ (p .4) C in
     let y = p .4 .within buckets (omega arith) in
-    let t = c .before .before .before .before .before .before .before .before .before .before .before .before .before .before .count .ensures .1 in
+    let t = c .before .before .before .before .before .before .before .before .before .before .before .before .before .before .before .count .ensures .1 in
     let f = c .before .before .before .before .before .before .before .before .before .before .if1 .taken in
     (p .0, p .1, p .2, omega (arith, O .size), copy-blocks (g .ix) (g .standing .now) (g .from) (g .to) (p .0) (g .entries .now) (g .starts .now) _ (p .4) C _ _ O)
 
--- src/lib.rt:158:9
 same-length : tie.Need-same-length
 same-length c = search needs
 
--- src/lib.rt:158:9
 same-length-2 : tie.Need-same-length-2
 same-length-2 c = search needs
 
--- src/lib.rt:158:9
 same-length-3 : tie.Need-same-length-3
 same-length-3 c = search needs
 
--- src/lib.rt:158:9
 returns : tie.Need-returns
-returns c = let g = c .before .before .before .before .before .before .before .before .before .before .before .before .before .before .before .before .before .before .before .before .before .before .before .before .before .before .before .before .before .args in
-    let p = c .before .before .before .before .before .before .before .before .before .before .before .before .before .before .before .before .before .before .before .before .before .before .before .before .before .before .before .before .before .pre in
-    let C = c .before .before .before .before .before .before .before .before .before .before .before .before .before .before .before .before .before .before .before .count .ensures .0 in
-    let O = c .before .before .before .before .before .before .before .before .before .before .before .open-gaps .ensures in
+returns c = let g = c .before .before .before .before .before .before .before .before .before .before .before .before .before .before .before .before .before .before .before .before .before .before .before .before .before .before .before .before .before .before .args in
+    let p = c .before .before .before .before .before .before .before .before .before .before .before .before .before .before .before .before .before .before .before .before .before .before .before .before .before .before .before .before .before .before .pre in
+    let C = c .before .before .before .before .before .before .before .before .before .before .before .before .before .before .before .before .before .before .before .before .count .ensures .0 in
+    let O = c .before .before .before .before .before .before .before .before .before .before .before .open-all .ensures in
     let y = p .4 .within buckets (omega arith) in
-    let t = c .before .before .before .before .before .before .before .before .before .before .before .before .before .before .before .before .before .before .before .count .ensures .1 in
+    let t = c .before .before .before .before .before .before .before .before .before .before .before .before .before .before .before .before .before .before .before .before .count .ensures .1 in
     let f = c .before .before .before .before .before .before .before .before .before .before .before .before .before .before .before .if1 .taken in
     let F = c .before .before .before .before .fill .ensures in
     let K = c .before .before .before .before .fill .kept .1 .1 .1 .1 in (
@@ -91,17 +82,15 @@ returns c = let g = c .before .before .before .before .before .before .before .b
       λ q. copy-laid (g .ix) (g .standing .now) (g .from) (g .to) (p .0) (g .entries .now) (g .starts .now) _ (p .4) C _ _ _ _ (p .1) (omega arith) O (K .0) (F .0),
     )
 
--- src/lib.rt:140:1
 same-length-4 : tie.Need-same-length-4
 same-length-4 c = search needs
 
--- src/lib.rt:140:1
 returns-2 : tie.Need-returns-2
-returns-2 c = let g = c .before .before .before .before .before .before .before .before .before .before .before .before .before .before .args in
-    let p = c .before .before .before .before .before .before .before .before .before .before .before .before .before .before .pre in
-    let C = c .before .before .before .before .count .ensures .0 in
+returns-2 c = let g = c .before .before .before .before .before .before .before .before .before .before .before .before .before .before .before .args in
+    let p = c .before .before .before .before .before .before .before .before .before .before .before .before .before .before .before .pre in
+    let C = c .before .before .before .before .before .count .ensures .0 in
     let y = p .4 .within buckets (omega arith) in
-    let t = c .before .before .before .before .count .ensures .1 in
+    let t = c .before .before .before .before .before .count .ensures .1 in
     let f = c .if1 .left in
     (copy-refused (g .ix) (g .standing .now) (g .from) (g .to) (p .0) (g .entries .now) (g .starts .now) _ (p .4) C (omega arith), λ q. absurd (mathlib.Core.Bool.true≢false (sym q)))
 
@@ -113,7 +102,7 @@ enter-copy-spec =
     count-requires
     slice-read-held
     sub-if1
-    open-gaps-requires
+    open-all-requires
     fill-requires
     same-length
     same-length-2

@@ -30,23 +30,18 @@ Inv-loop ix standing from to entries₀ starts₀ i₀ entries starts i = (from 
 abbrev μ-loop : tie.MeasureT-loop
 μ-loop ix standing from to entries₀ starts₀ i₀ entries starts i = to - i
 
--- src/lib.rt:123:5
 loop-holds : tie.Need-loop-holds Inv-loop μ-loop
 loop-holds c = (omega arith, c .before .before .before .pre .0, refl, refl, c .before .before .before .pre .4, λ j a. refl)
 
--- src/lib.rt:124:13
 load-requires : tie.Need-load-requires Inv-loop μ-loop
 load-requires c κs = omega (arith, c .loop-test .taken, c .before .before .before .before .before .pre .1)
 
--- src/lib.rt:125:40
 bucket-requires : tie.Need-bucket-requires Inv-loop μ-loop
 bucket-requires c κs = search needs
 
--- src/lib.rt:125:57
 bucket-requires-2 : tie.Need-bucket-requires-2 Inv-loop μ-loop
 bucket-requires-2 c κs = search needs
 
--- src/lib.rt:125:9
 fill-strip-requires : tie.Need-fill-strip-requires Inv-loop μ-loop
 fill-strip-requires c κs = let l = c .before .before .before .before .before .before .loop in
     let g = c .before .before .before .before .before .before .before .before .before .before .args in
@@ -59,15 +54,12 @@ fill-strip-requires c κs = let l = c .before .before .before .before .before .b
       strip-room (g .ix) (g .standing .now) (l .i) (g .to) _ _ (c .before .before .before .before .before .loop-test .taken) (c .before .bucket .ensures ∙ ap (λ (q : Trapezoid). bucketIn (g .ix) (q .x0)) E) (c .bucket2 .ensures ∙ ap (λ (q : Trapezoid). bucketIn (g .ix) (q .x1)) E) (l .entries) (l .starts) (let z = l .inv .2 in let y = p .3 in omega arith) (l .inv .4),
     )
 
--- src/lib.rt:126:9
 add-i : tie.Need-add-i Inv-loop μ-loop
 add-i c = omega (arith, c .before .before .before .before .before .before .before .before .before .before .loop-test .taken, c .before .before .before .before .before .before .before .before .before .before .before .before .before .before .before .pre .2)
 
--- src/lib.rt:123:5
 loop-less : tie.Need-loop-less Inv-loop μ-loop
 loop-less c = omega (arith, c .before .before .before .before .before .before .before .before .before .before .loop-test .taken)
 
--- src/lib.rt:123:5
 loop-again : tie.Need-loop-again Inv-loop μ-loop
 loop-again c = let l = c .before .before .before .before .before .before .before .before .before .before .before .loop in
     let g = c .before .before .before .before .before .before .before .before .before .before .before .before .before .before .before .args in
@@ -76,15 +68,12 @@ loop-again c = let l = c .before .before .before .before .before .before .before
     let F = fill-turn (g .ix) (g .standing .now) (l .i) (g .to) _ _ (c .before .before .before .before .before .before .before .before .before .before .loop-test .taken) (c .before .before .before .before .before .before .bucket .ensures ∙ ap (λ (q : Trapezoid). bucketIn (g .ix) (q .x0)) E) (c .before .before .before .before .before .bucket2 .ensures ∙ ap (λ (q : Trapezoid). bucketIn (g .ix) (q .x1)) E) (l .entries) (l .starts) _ _ (let z = l .inv .2 in let y = p .3 in omega arith) (l .inv .4) (c .before .before .before .before .fill-strip .ensures) in
     (omega (arith, l .inv .0), omega (arith, c .before .before .before .before .before .before .before .before .before .before .loop-test .taken), F .1 ∙ l .inv .2, F .0 .table ∙ sym (p .4 .table), F .0, λ j a. F .2 j a ∙ l .inv .5 j a)
 
--- src/lib.rt:118:1
 same-length : tie.Need-same-length Inv-loop μ-loop
 same-length c = c .before .loop .inv .2
 
--- src/lib.rt:118:1
 same-length-2 : tie.Need-same-length-2 Inv-loop μ-loop
 same-length-2 c = c .before .loop .inv .3
 
--- src/lib.rt:118:1
 returns : tie.Need-returns Inv-loop μ-loop
 returns c = let l = c .before .loop in
     let g = c .before .before .before .before .before .args in

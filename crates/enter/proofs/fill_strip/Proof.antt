@@ -31,23 +31,18 @@ Inv-loop entries₀ starts₀ number lo hi b₀ entries starts b = (lo ≤ b) ×
 abbrev μ-loop : tie.MeasureT-loop
 μ-loop entries₀ starts₀ number lo hi b₀ entries starts b = hi + 1 - b
 
--- src/lib.rt:109:5
 loop-holds : tie.Need-loop-holds Inv-loop μ-loop
 loop-holds c = (omega arith, refl, refl, λ d h. refl, refl)
 
--- src/lib.rt:110:24
 add-e : tie.Need-add-e Inv-loop μ-loop
 add-e c = omega arith
 
--- src/lib.rt:110:17
 mul-e : tie.Need-mul-e Inv-loop μ-loop
 mul-e c = omega arith
 
--- src/lib.rt:110:17
 slice-read-e : tie.Need-slice-read-e Inv-loop μ-loop
 slice-read-e c = omega arith
 
--- src/lib.rt:111:9
 set-entry-requires : tie.Need-set-entry-requires Inv-loop μ-loop
 set-entry-requires c κs = let l = c .before .before .before .loop in
     let p = c .before .before .before .before .before .before .pre in
@@ -55,7 +50,6 @@ set-entry-requires c κs = let l = c .before .before .before .loop in
     let y = l .inv .3 (l .b) (native.Mathlib.Nat.le-refl (l .b)) in
     (omega (arith, l .inv .2), p .2)
 
--- src/lib.rt:112:25
 add-starts : tie.Need-add-starts Inv-loop μ-loop
 add-starts c = let l = c .before .before .before .before .before .before .loop in
     let p = c .before .before .before .before .before .before .before .before .before .pre in
@@ -63,7 +57,6 @@ add-starts c = let l = c .before .before .before .before .before .before .loop i
     let y = l .inv .3 (l .b) (native.Mathlib.Nat.le-refl (l .b)) in
     omega arith
 
--- src/lib.rt:112:16
 add-starts-2 : tie.Need-add-starts-2 Inv-loop μ-loop
 add-starts-2 c = let l = c .before .before .before .before .before .before .loop in
     let p = c .before .before .before .before .before .before .before .before .before .pre in
@@ -71,23 +64,18 @@ add-starts-2 c = let l = c .before .before .before .before .before .before .loop
     let y = l .inv .3 (l .b) (native.Mathlib.Nat.le-refl (l .b)) in
     omega arith
 
--- src/lib.rt:112:9
 mul-starts : tie.Need-mul-starts Inv-loop μ-loop
 mul-starts c = omega arith
 
--- src/lib.rt:112:9
 slice-write-starts : tie.Need-slice-write-starts Inv-loop μ-loop
 slice-write-starts c = omega arith
 
--- src/lib.rt:113:9
 add-b : tie.Need-add-b Inv-loop μ-loop
 add-b c = omega arith
 
--- src/lib.rt:109:5
 loop-less : tie.Need-loop-less Inv-loop μ-loop
 loop-less c = omega arith
 
--- src/lib.rt:109:5
 loop-again : tie.Need-loop-again Inv-loop μ-loop
 loop-again c = let l = c .before .before .before .before .before .before .loop in
     let g = c .before .before .before .before .before .before .before .before .before .args in
@@ -99,15 +87,12 @@ loop-again c = let l = c .before .before .before .before .before .before .loop i
       ap (λ (e : List ℕ). filled (g .number) (g .hi + 1 - (l .b + 1)) (l .b + 1) (rooms e (set (l .starts) (l .b + 1) (getD (l .starts) (l .b + 1) 0 + 1)))) E ∙ (sym (filled-on (g .number) (g .hi) (l .b) (l .entries) (l .starts) (c .before .before .before .before .before .loop-test .taken)) ∙ l .inv .4),
     )
 
--- src/lib.rt:104:1
 same-length : tie.Need-same-length Inv-loop μ-loop
 same-length c = c .before .loop .inv .2
 
--- src/lib.rt:104:1
 same-length-2 : tie.Need-same-length-2 Inv-loop μ-loop
 same-length-2 c = c .before .loop .inv .1
 
--- src/lib.rt:104:1
 returns : tie.Need-returns Inv-loop μ-loop
 returns c = let l = c .before .loop in
     let g = c .before .before .before .before .args in

@@ -5,92 +5,42 @@ use Prim.Native.Nat.{ℕ, suc, _+_, _-_, _*_, _/_, _≤_, _<_}
 use native.Mathlib.Omega.{arith}
 use lib.ListN.{length, getD, set, length-set}
 use lib.Seq.{getD-set-other}
-use borrow.Author.Needs.{needs}
 use Rattle.trapezoid.specs.declared.Trapezoid.{Trapezoid}
 use Rattle.trapezoid.specs.Strip.{stripAt}
 use Rattle.index.specs.Buckets.{buckets, bucketIn, entered, entriesOf}
 use Rattle.index.specs.Listing.{Laid}
 use Rattle.index.proofs.Steps.{bucket-top}
 use Rattle.enter.specs.EntryRoom.{entriesIn, startOf, startsOf, Rooms, Entering, enterOf}
-use Rattle.enter.specs.Gaps.{Moved, before, Opened, Blocks, filled, rooms, entering, newIn, one, Counted}
+use Rattle.enter.specs.Gaps.{Moved, before, Opened, Blocks, filled, rooms, entering, newIn, one, Counted, Shifted}
 use Rattle.enter.proofs.Starts.{CountedTo, counted-start, counted-step, counted-end, cleared-step, count-turn, counted-none, before-first, before-next, before-pos, before-back, before-rise, start-gain, start-last, start-rise, laid-starts, laid-entries, laid-table, enter-fits, enter-over}
-use Rattle.enter.proofs.Opening.{moved-start, moved-step, opened-start, opened-turn, opened-end, opened-blocks}
+use Rattle.enter.proofs.Opening.{moved-start, moved-step, moved-four, moved-join, opened-start, opened-turn, opened-end, opened-blocks}
 use Rattle.enter.proofs.GapFilling.{filled-on, filled-end, strip-room, fill-turn, all-entries, copy-blocks, copy-laid, copy-entered, copy-refused}
+use Rattle.enter.proofs.Tail.{shifted-start, shifted-step, before-flat, end-turn, tail-rise, tail-more, tail-fits, opened-tail}
+use borrow.Author.Needs.{needs}
 use Rattle.enter.proofs.move_up.Statement.{statement}
 use Rattle.enter.proofs.move_up.Tie as tie
 use Rattle.enter.proofs.move_up.Reads as reads
 use Rattle.enter.proofs.move_up.Lts as lts
+use Rattle.enter.proofs.move_fours.Reads as move-fours-reads
+use Rattle.enter.proofs.move_ones.Reads as move-ones-reads
 
-abbrev Inv-loop : tie.InvT-loop
-Inv-loop s₀ from to by j₀ s j = (from ≤ j) × (j ≤ to) × Moved j to by s₀ s
+-- src/lib.rt:59:9
+move-fours-requires : tie.Need-move-fours-requires
+move-fours-requires c κs = search needs
 
-abbrev μ-loop : tie.MeasureT-loop
-μ-loop s₀ from to by j₀ s j = j
+-- src/lib.rt:60:5
+move-ones-requires : tie.Need-move-ones-requires
+move-ones-requires c κs = search needs
 
--- src/lib.rt:28:5
-loop-holds : tie.Need-loop-holds Inv-loop μ-loop
-loop-holds c = (omega arith, omega arith, moved-start (c .args .from) (c .args .to) (c .args .by) (c .args .s .now) (c .pre .0))
+-- src/lib.rt:55:1
+same-length : tie.Need-same-length
+same-length c = search needs
 
--- src/lib.rt:29:9
-sub-j : tie.Need-sub-j Inv-loop μ-loop
-sub-j c = omega arith
-
--- src/lib.rt:30:21
-mul-s : tie.Need-mul-s Inv-loop μ-loop
-mul-s c = omega arith
-
--- src/lib.rt:30:21
-slice-read-s : tie.Need-slice-read-s Inv-loop μ-loop
-slice-read-s c = omega arith
-
--- src/lib.rt:30:11
-add-s : tie.Need-add-s Inv-loop μ-loop
-add-s c = omega arith
-
--- src/lib.rt:30:9
-mul-s-2 : tie.Need-mul-s-2 Inv-loop μ-loop
-mul-s-2 c = omega arith
-
--- src/lib.rt:30:9
-slice-write-s : tie.Need-slice-write-s Inv-loop μ-loop
-slice-write-s c = omega arith
-
--- src/lib.rt:28:5
-loop-less : tie.Need-loop-less Inv-loop μ-loop
-loop-less c = omega arith
-
--- src/lib.rt:28:5
-loop-again : tie.Need-loop-again Inv-loop μ-loop
-loop-again c = let l = c .before .before .loop in
-    let g = c .before .before .before .args in
-    let e : l .j ≡ l .j - 1 + 1 = omega arith in
-    (omega arith, omega arith, moved-step (l .j - 1) (g .to) (g .by) (g .s .now) (l .s) (omega arith) (c .before .before .before .pre .1) (subst (λ (k : ℕ). Moved k (g .to) (g .by) (g .s .now) (l .s)) e (l .inv .2)))
-
--- src/lib.rt:23:1
-same-length : tie.Need-same-length Inv-loop μ-loop
-same-length c = c .before .loop .inv .2 .size
-
--- src/lib.rt:23:1
-returns : tie.Need-returns Inv-loop μ-loop
-returns c = let l = c .before .loop in
-    let g = c .before .before .args in
-    let e : l .j ≡ g .from = omega arith in
-    subst (λ (k : ℕ). Moved k (g .to) (g .by) (g .s .now) (l .s)) e (l .inv .2)
+-- src/lib.rt:55:1
+returns : tie.Need-returns
+returns c = let g = c .before .before .before .before .before .before .before .before .before .args in
+    let M = c .before .before .before .before .before .before .move-fours .ensures in
+    moved-join (g .from) (c .before .before .before .before .before .before .move-fours .result) (g .to) (g .by) (g .s .now) _ _ (M .0) (M .1) (M .2) (c .before .before .move-ones .ensures)
 
 pub move-up-spec : {M : Type 1} → statement M
-move-up-spec =
-    tie.close
-    (tie.spec
-    Inv-loop
-    μ-loop
-    loop-holds
-    sub-j
-    mul-s
-    slice-read-s
-    add-s
-    mul-s-2
-    slice-write-s
-    loop-less
-    loop-again
-    same-length
-    returns)
+move-up-spec = tie.close (tie.spec move-fours-requires move-ones-requires same-length returns)

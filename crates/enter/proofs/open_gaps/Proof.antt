@@ -23,172 +23,152 @@ use Rattle.enter.proofs.open_gaps.Lts as lts
 use Rattle.enter.proofs.move_up.Reads as move-up-reads
 
 abbrev Inv-loop : tie.InvT-loop
-Inv-loop entries₀ starts₀ gains more b₀ left₀ entries starts b left = (b ≤ buckets) × (left ≡ before gains b) × Opened starts₀ gains entries₀ b entries starts
+Inv-loop entries₀ starts₀ gains more end b₀ left₀ entries starts b left = (b ≤ end) × (left ≡ before gains b) × Opened end starts₀ gains entries₀ b entries starts
 
 abbrev μ-loop : tie.MeasureT-loop
-μ-loop entries₀ starts₀ gains more b₀ left₀ entries starts b left = b
+μ-loop entries₀ starts₀ gains more end b₀ left₀ entries starts b left = b
 
--- src/lib.rt:93:5
 loop-holds : tie.Need-loop-holds Inv-loop μ-loop
-loop-holds c = (omega arith, c .before .before .before .pre .3, opened-start _ _ _)
+loop-holds c = (omega arith, c .before .before .before .pre .4, opened-start _ _ _ _)
 
--- src/lib.rt:94:9
 sub-b : tie.Need-sub-b Inv-loop μ-loop
 sub-b c = let l = c .before .loop in let z = before-pos _ (l .b) (l .left) (l .inv .1) (c .loop-test .taken) in omega arith
 
--- src/lib.rt:95:17
 mul-left : tie.Need-mul-left Inv-loop μ-loop
 mul-left c = let l = c .before .loop in
     let g = c .before .before .before .before .before .args in
     let p = c .before .before .before .before .before .pre in
     let z = before-pos (g .gains .now) (l .b) (l .left) (l .inv .1) (c .loop-test .taken) in
     let y = before-back (g .gains .now) (l .b) z in
-    omega (arith, l .inv .0, l .inv .1, l .inv .2 .size, l .inv .2 .table, p .0, p .2)
+    omega (arith, l .inv .0, l .inv .1, l .inv .2 .size, l .inv .2 .table, p .0, p .1, p .3)
 
--- src/lib.rt:95:17
 shared-slice-read-left : tie.Need-shared-slice-read-left Inv-loop μ-loop
 shared-slice-read-left c = let l = c .before .before .loop in
     let g = c .before .before .before .before .before .before .args in
     let p = c .before .before .before .before .before .before .pre in
     let z = before-pos (g .gains .now) (l .b) (l .left) (l .inv .1) (c .before .loop-test .taken) in
     let y = before-back (g .gains .now) (l .b) z in
-    omega (arith, l .inv .0, l .inv .1, l .inv .2 .size, l .inv .2 .table, p .0, p .2)
+    omega (arith, l .inv .0, l .inv .1, l .inv .2 .size, l .inv .2 .table, p .0, p .1, p .3)
 
--- src/lib.rt:95:9
 sub-left : tie.Need-sub-left Inv-loop μ-loop
 sub-left c = let l = c .before .before .loop in
     let g = c .before .before .before .before .before .before .args in
     let p = c .before .before .before .before .before .before .pre in
     let z = before-pos (g .gains .now) (l .b) (l .left) (l .inv .1) (c .before .loop-test .taken) in
     let y = before-back (g .gains .now) (l .b) z in
-    omega (arith, l .inv .0, l .inv .1, l .inv .2 .size, l .inv .2 .table, p .0, p .2)
+    omega (arith, l .inv .0, l .inv .1, l .inv .2 .size, l .inv .2 .table, p .0, p .1, p .3)
 
--- src/lib.rt:96:20
 mul-from : tie.Need-mul-from Inv-loop μ-loop
 mul-from c = let l = c .before .before .loop in
     let g = c .before .before .before .before .before .before .args in
     let p = c .before .before .before .before .before .before .pre in
     let z = before-pos (g .gains .now) (l .b) (l .left) (l .inv .1) (c .before .loop-test .taken) in
     let y = before-back (g .gains .now) (l .b) z in
-    omega (arith, l .inv .0, l .inv .1, l .inv .2 .size, l .inv .2 .table, p .0, p .2)
+    omega (arith, l .inv .0, l .inv .1, l .inv .2 .size, l .inv .2 .table, p .0, p .1, p .3)
 
--- src/lib.rt:96:20
 slice-read-from : tie.Need-slice-read-from Inv-loop μ-loop
 slice-read-from c = let l = c .before .before .before .loop in
     let g = c .before .before .before .before .before .before .before .args in
     let p = c .before .before .before .before .before .before .before .pre in
     let z = before-pos (g .gains .now) (l .b) (l .left) (l .inv .1) (c .before .before .loop-test .taken) in
     let y = before-back (g .gains .now) (l .b) z in
-    omega (arith, l .inv .0, l .inv .1, l .inv .2 .size, l .inv .2 .table, p .0, p .2)
+    omega (arith, l .inv .0, l .inv .1, l .inv .2 .size, l .inv .2 .table, p .0, p .1, p .3)
 
--- src/lib.rt:97:25
 add-to : tie.Need-add-to Inv-loop μ-loop
 add-to c = let l = c .before .before .before .loop in
     let g = c .before .before .before .before .before .before .before .args in
     let p = c .before .before .before .before .before .before .before .pre in
     let z = before-pos (g .gains .now) (l .b) (l .left) (l .inv .1) (c .before .before .loop-test .taken) in
     let y = before-back (g .gains .now) (l .b) z in
-    omega (arith, l .inv .0, l .inv .1, l .inv .2 .size, l .inv .2 .table, p .0, p .2)
+    omega (arith, l .inv .0, l .inv .1, l .inv .2 .size, l .inv .2 .table, p .0, p .1, p .3)
 
--- src/lib.rt:97:18
 mul-to : tie.Need-mul-to Inv-loop μ-loop
 mul-to c = let l = c .before .before .before .loop in
     let g = c .before .before .before .before .before .before .before .args in
     let p = c .before .before .before .before .before .before .before .pre in
     let z = before-pos (g .gains .now) (l .b) (l .left) (l .inv .1) (c .before .before .loop-test .taken) in
     let y = before-back (g .gains .now) (l .b) z in
-    omega (arith, l .inv .0, l .inv .1, l .inv .2 .size, l .inv .2 .table, p .0, p .2)
+    omega (arith, l .inv .0, l .inv .1, l .inv .2 .size, l .inv .2 .table, p .0, p .1, p .3)
 
--- src/lib.rt:97:18
 slice-read-to : tie.Need-slice-read-to Inv-loop μ-loop
 slice-read-to c = let l = c .before .before .before .before .loop in
     let g = c .before .before .before .before .before .before .before .before .args in
     let p = c .before .before .before .before .before .before .before .before .pre in
     let z = before-pos (g .gains .now) (l .b) (l .left) (l .inv .1) (c .before .before .before .loop-test .taken) in
     let y = before-back (g .gains .now) (l .b) z in
-    omega (arith, l .inv .0, l .inv .1, l .inv .2 .size, l .inv .2 .table, p .0, p .2)
+    omega (arith, l .inv .0, l .inv .1, l .inv .2 .size, l .inv .2 .table, p .0, p .1, p .3)
 
--- src/lib.rt:98:9
 move-up-requires : tie.Need-move-up-requires Inv-loop μ-loop
 move-up-requires c κs = let l = c .before .before .before .before .before .loop in
     let g = c .before .before .before .before .before .before .before .before .before .args in
     let p = c .before .before .before .before .before .before .before .before .before .pre in
     let z = before-pos (g .gains .now) (l .b) (l .left) (l .inv .1) (c .before .before .before .before .loop-test .taken) in
     let y = before-back (g .gains .now) (l .b) z in
-    let w = before-rise (g .gains .now) (l .b - 1) buckets (omega arith) in
+    let w = before-rise (g .gains .now) (l .b - 1) (g .end) (omega arith) in
     let u = l .inv .2 .old (l .b - 1) (omega arith) in
     let v = l .inv .2 .old (l .b - 1 + 1) (omega arith) in
-    let s = p .1 (l .b - 1) (l .b - 1 + 1) (omega arith) (omega arith) in
-    let t = p .1 (l .b - 1 + 1) buckets (omega arith) (omega arith) in
-    (omega arith, omega (arith, l .inv .1, l .inv .2 .size, p .3, p .4))
+    let s = p .2 (l .b - 1) (l .b - 1 + 1) (omega arith) (omega arith) in
+    let t = p .2 (l .b - 1 + 1) (g .end) (omega arith) (omega arith) in
+    (omega arith, omega (arith, l .inv .1, l .inv .2 .size, p .4, p .5))
 
--- src/lib.rt:99:25
 add-starts : tie.Need-add-starts Inv-loop μ-loop
 add-starts c = let l = c .before .before .before .before .before .before .before .before .loop in
     let g = c .before .before .before .before .before .before .before .before .before .before .before .before .args in
     let p = c .before .before .before .before .before .before .before .before .before .before .before .before .pre in
     let z = before-pos (g .gains .now) (l .b) (l .left) (l .inv .1) (c .before .before .before .before .before .before .before .loop-test .taken) in
     let y = before-back (g .gains .now) (l .b) z in
-    let w = before-rise (g .gains .now) (l .b - 1) buckets (omega arith) in
+    let w = before-rise (g .gains .now) (l .b - 1) (g .end) (omega arith) in
     let v = l .inv .2 .old (l .b - 1 + 1) (omega arith) in
-    let t = p .1 (l .b - 1 + 1) buckets (omega arith) (omega arith) in
-    omega (arith, l .inv .1, l .inv .2 .size, p .3, p .4)
+    let t = p .2 (l .b - 1 + 1) (g .end) (omega arith) (omega arith) in
+    omega (arith, l .inv .1, l .inv .2 .size, p .4, p .5)
 
--- src/lib.rt:99:16
 add-starts-2 : tie.Need-add-starts-2 Inv-loop μ-loop
 add-starts-2 c = let l = c .before .before .before .before .before .before .before .before .loop in
     let g = c .before .before .before .before .before .before .before .before .before .before .before .before .args in
     let p = c .before .before .before .before .before .before .before .before .before .before .before .before .pre in
     let z = before-pos (g .gains .now) (l .b) (l .left) (l .inv .1) (c .before .before .before .before .before .before .before .loop-test .taken) in
     let y = before-back (g .gains .now) (l .b) z in
-    omega (arith, l .inv .0, l .inv .1, l .inv .2 .size, l .inv .2 .table, p .0, p .2)
+    omega (arith, l .inv .0, l .inv .1, l .inv .2 .size, l .inv .2 .table, p .0, p .1, p .3)
 
--- src/lib.rt:99:9
 mul-starts : tie.Need-mul-starts Inv-loop μ-loop
 mul-starts c = let l = c .before .before .before .before .before .before .before .before .loop in
     let g = c .before .before .before .before .before .before .before .before .before .before .before .before .args in
     let p = c .before .before .before .before .before .before .before .before .before .before .before .before .pre in
     let z = before-pos (g .gains .now) (l .b) (l .left) (l .inv .1) (c .before .before .before .before .before .before .before .loop-test .taken) in
     let y = before-back (g .gains .now) (l .b) z in
-    omega (arith, l .inv .0, l .inv .1, l .inv .2 .size, l .inv .2 .table, p .0, p .2)
+    omega (arith, l .inv .0, l .inv .1, l .inv .2 .size, l .inv .2 .table, p .0, p .1, p .3)
 
--- src/lib.rt:99:9
 slice-write-starts : tie.Need-slice-write-starts Inv-loop μ-loop
 slice-write-starts c = let l = c .before .before .before .before .before .before .before .before .loop in
     let g = c .before .before .before .before .before .before .before .before .before .before .before .before .args in
     let p = c .before .before .before .before .before .before .before .before .before .before .before .before .pre in
     let z = before-pos (g .gains .now) (l .b) (l .left) (l .inv .1) (c .before .before .before .before .before .before .before .loop-test .taken) in
     let y = before-back (g .gains .now) (l .b) z in
-    omega (arith, l .inv .0, l .inv .1, l .inv .2 .size, l .inv .2 .table, p .0, p .2)
+    omega (arith, l .inv .0, l .inv .1, l .inv .2 .size, l .inv .2 .table, p .0, p .1, p .3)
 
--- src/lib.rt:93:5
 loop-less : tie.Need-loop-less Inv-loop μ-loop
 loop-less c = let l = c .before .before .before .before .before .before .before .before .loop in
     let z = before-pos _ (l .b) (l .left) (l .inv .1) (c .before .before .before .before .before .before .before .loop-test .taken) in omega arith
 
--- src/lib.rt:93:5
 loop-again : tie.Need-loop-again Inv-loop μ-loop
 loop-again c = let l = c .before .before .before .before .before .before .before .before .loop in
     let g = c .before .before .before .before .before .before .before .before .before .before .before .before .args in
     let p = c .before .before .before .before .before .before .before .before .before .before .before .before .pre in
     let z = before-pos (g .gains .now) (l .b) (l .left) (l .inv .1) (c .before .before .before .before .before .before .before .loop-test .taken) in
     let y = before-back (g .gains .now) (l .b) z in
-    (omega arith, omega (arith, l .inv .1), opened-turn (g .starts .now) (g .gains .now) (g .entries .now) (p .0) (p .1) (l .b) (l .left) (l .entries) (l .starts) _ z (l .inv .0) (l .inv .1) (l .inv .2) (c .before .before .move-up .ensures))
+    (omega arith, omega (arith, l .inv .1), opened-turn (g .end) (g .starts .now) (g .gains .now) (g .entries .now) (omega (arith, p .0, p .1)) (p .2) (l .b) (l .left) (l .entries) (l .starts) _ z (l .inv .0) (l .inv .1) (l .inv .2) (c .before .before .move-up .ensures))
 
--- src/lib.rt:87:1
 same-length : tie.Need-same-length Inv-loop μ-loop
 same-length c = c .before .loop .inv .2 .size
 
--- src/lib.rt:87:1
 same-length-2 : tie.Need-same-length-2 Inv-loop μ-loop
 same-length-2 c = c .before .loop .inv .2 .table
 
--- src/lib.rt:87:1
 returns : tie.Need-returns Inv-loop μ-loop
 returns c = let l = c .before .loop in
     let g = c .before .before .before .before .before .args in
     let p = c .before .before .before .before .before .pre in
-    opened-end (g .starts .now) (g .gains .now) (g .entries .now) (p .0) (p .1) (l .b) (l .entries) (l .starts) (l .inv .0) (let z = l .inv .1 in omega arith) (l .inv .2)
+    opened-end (g .end) (g .starts .now) (g .gains .now) (g .entries .now) (omega (arith, p .0, p .1)) (p .2) (l .b) (l .entries) (l .starts) (l .inv .0) (let z = l .inv .1 in omega arith) (l .inv .2)
 
 pub open-gaps-spec : {M : Type 1} → statement M
 open-gaps-spec =
