@@ -88,7 +88,7 @@ pub counted-is : (x yl yh : Float) (inset apart sheet placed : List Float) → k
 unfolding forbiddenIn countedIn countedOf
 counted-is x yl yh inset apart sheet placed = keep-append (countsOf yl yh) (forbiddenOf sheet inset x) (forbiddenOf placed apart x)
 
-module _ (x yl yh : Float) (inset apart sheet placed : List Float) (L : Finite yl) (H : Finite yh) (X : Bounded 2000000 x)
+module _ (x yl yh : Float) (inset apart sheet placed : List Float) (L : Finite yl) (H : Finite yh) (X : Bounded 3000000 x)
     (I : BoundedStrips inset) (A : BoundedStrips apart) (S : BoundedStrips sheet) (P : BoundedStrips placed) where
   pub all-finite : FiniteEnds (forbiddenIn x inset apart sheet placed)
   unfolding forbiddenIn

@@ -65,7 +65,7 @@ above-zero {x} X h = elim (num-or-zero binary64 x X) [
     no a e l = omega arith
 
 -- a side between its ends
-between-bounded : {x0 x1 a b x : Float} → Bounded 1000000 x0 → Bounded 1000000 x1 → Bounded 1000000 a → Bounded 1000000 b → Bounded 5000000 x → k x0 < k x → k x < k x1
+between-bounded : {x0 x1 a b x : Float} → Bounded 1000000 x0 → Bounded 1000000 x1 → Bounded 1000000 a → Bounded 1000000 b → Bounded 7000000 x → k x0 < k x → k x < k x1
     → Bounded 3000000 (between ((x ⊖ x0) ⊘ (x1 ⊖ x0)) a b)
 between-bounded X0 X1 A B X h l =
     let dx = sub-upto (X .fine) (X0 .fine) (X .bound) (X0 .bound) (lit≤ tt) in
@@ -80,7 +80,7 @@ pub record BoundedHeights (e : Heights) : Type 0 where
   pub low : Bounded 3000000 (e .low)
   pub high : Bounded 3000000 (e .high)
 
-pub heights-bounded : (p : Trapezoid) (x : Float) → BoundedStrip p → Bounded 5000000 x → BoundedHeights (heightsAt p x)
+pub heights-bounded : (p : Trapezoid) (x : Float) → BoundedStrip p → Bounded 7000000 x → BoundedHeights (heightsAt p x)
 unfolding heightsAt
 heights-bounded p x P X = go (le x (p .x0)) (le (p .x1) x) (le-no (X .fine) (P .x0 .fine)) (le-no (P .x1 .fine) (X .fine))
   where
@@ -100,23 +100,23 @@ heights-bounded p x P X = go (le x (p .x0)) (le (p .x1) x) (le-no (X .fine) (P .
     go false true f g = record { low = up (P .low1); high = up (P .high1) }
     go false false f g = record { low = between-bounded (P .x0) (P .x1) (P .low0) (P .low1) X (f tt) (g tt); high = between-bounded (P .x0) (P .x1) (P .high0) (P .high1) X (f tt) (g tt) }
 
-module _ (q : Trapezoid) (x : Float) (Q : BoundedStrip q) (X : Bounded 2000000 x) where
+module _ (q : Trapezoid) (x : Float) (Q : BoundedStrip q) (X : Bounded 3000000 x) where
   pub moved-x0 : (yl yh : Float) → Bounded 4000000 (movingOf q x yl yh .x0)
   unfolding movingOf
-  moved-x0 yl yh = widen 3000000 4000000 (lit≤ tt) (add-bounded 1000000 2000000 (lit≤ tt) (Q .x0) X)
+  moved-x0 yl yh = add-bounded 1000000 3000000 (lit≤ tt) (Q .x0) X
 
   pub moved-x1 : (yl yh : Float) → Bounded 4000000 (movingOf q x yl yh .x1)
   unfolding movingOf
-  moved-x1 yl yh = widen 3000000 4000000 (lit≤ tt) (add-bounded 1000000 2000000 (lit≤ tt) (Q .x1) X)
+  moved-x1 yl yh = add-bounded 1000000 3000000 (lit≤ tt) (Q .x1) X
 
   -- both ends of a pair's interval
-  ends : (p : Trapezoid) → BoundedStrip p → (a b : Float) → Bounded 3000000 a → Bounded 3000000 b → FiniteEnd (intervalOf (heightsAt p a) (heightsAt p b) (heightsAt q (a ⊖ x)) (heightsAt q (b ⊖ x)))
+  ends : (p : Trapezoid) → BoundedStrip p → (a b : Float) → Bounded 4000000 a → Bounded 4000000 b → FiniteEnd (intervalOf (heightsAt p a) (heightsAt p b) (heightsAt q (a ⊖ x)) (heightsAt q (b ⊖ x)))
   unfolding intervalOf
   ends p P a b A B =
-      let pa = heights-bounded p a P (widen 3000000 5000000 (lit≤ tt) A) in
-      let pb = heights-bounded p b P (widen 3000000 5000000 (lit≤ tt) B) in
-      let qa = heights-bounded q (a ⊖ x) Q (sub-bounded 3000000 2000000 (lit≤ tt) A X) in
-      let qb = heights-bounded q (b ⊖ x) Q (sub-bounded 3000000 2000000 (lit≤ tt) B X) in
+      let pa = heights-bounded p a P (widen 4000000 7000000 (lit≤ tt) A) in
+      let pb = heights-bounded p b P (widen 4000000 7000000 (lit≤ tt) B) in
+      let qa = heights-bounded q (a ⊖ x) Q (sub-bounded 4000000 3000000 (lit≤ tt) A X) in
+      let qb = heights-bounded q (b ⊖ x) Q (sub-bounded 4000000 3000000 (lit≤ tt) B X) in
       record {
         from = smaller-bounded (sub-bounded 3000000 3000000 (lit≤ tt) (pa .low) (qa .high)) (sub-bounded 3000000 3000000 (lit≤ tt) (pb .low) (qb .high)) .fine;
         to = larger-bounded (sub-bounded 3000000 3000000 (lit≤ tt) (pa .high) (qa .low)) (sub-bounded 3000000 3000000 (lit≤ tt) (pb .high) (qb .low)) .fine;
@@ -131,11 +131,11 @@ module _ (q : Trapezoid) (x : Float) (Q : BoundedStrip q) (X : Bounded 2000000 x
       b : Float
       b = smaller (p .x1) (q .x1 ⊕ x)
 
-      A : Bounded 3000000 a
-      A = larger-bounded (widen 1000000 3000000 (lit≤ tt) (P .x0)) (add-bounded 1000000 2000000 (lit≤ tt) (Q .x0) X)
+      A : Bounded 4000000 a
+      A = larger-bounded (widen 1000000 4000000 (lit≤ tt) (P .x0)) (add-bounded 1000000 3000000 (lit≤ tt) (Q .x0) X)
 
-      B : Bounded 3000000 b
-      B = smaller-bounded (widen 1000000 3000000 (lit≤ tt) (P .x1)) (add-bounded 1000000 2000000 (lit≤ tt) (Q .x1) X)
+      B : Bounded 4000000 b
+      B = smaller-bounded (widen 1000000 4000000 (lit≤ tt) (P .x1)) (add-bounded 1000000 3000000 (lit≤ tt) (Q .x1) X)
 
       j : Interval
       j = intervalOf (heightsAt p a) (heightsAt p b) (heightsAt q (a ⊖ x)) (heightsAt q (b ⊖ x))
@@ -166,7 +166,7 @@ flatMap-mem f b (z ∷ zs) m = go (flatMap-mem f b zs) (List·Memᴰ·append-cas
     go below (inl n) = (z, List·Memᴰ·head refl, n)
     go below (inr n) = tailed (below n)
 
-pub forbidden-finite : (standing moving : List Float) (x : Float) → BoundedStrips standing → BoundedStrips moving → Bounded 2000000 x → FiniteEnds (forbiddenOf standing moving x)
+pub forbidden-finite : (standing moving : List Float) (x : Float) → BoundedStrips standing → BoundedStrips moving → Bounded 3000000 x → FiniteEnds (forbiddenOf standing moving x)
 unfolding forbiddenOf
 forbidden-finite standing moving x S M X i h =
     let a = flatMap-mem (λ j. flatMap (λ i. intervalIn (meetingOf (stripAt moving j) x (stripAt standing i))) (upFrom (capacity standing) 0)) i (upFrom (capacity moving) 0) h in

@@ -90,7 +90,7 @@ between-level t a S A = ap (λ (d : Float). a ⊕ t ⊗ d) (sub-self binary64 a 
     z o a s w e h l = omega arith
 
 -- the heights of a level strip are its own, at any x
-pub level-heights : (p : Trapezoid) (x : Float) → LevelStrip p → Bounded 5000000 x → heightsAt p x ≡ record { low = p .low0; high = p .high0 }
+pub level-heights : (p : Trapezoid) (x : Float) → LevelStrip p → Bounded 7000000 x → heightsAt p x ≡ record { low = p .low0; high = p .high0 }
 unfolding heightsAt
 level-heights p x P X = go (le x (p .x0)) (le (p .x1) x) (le-no (X .fine) (P .bounded .x0 .fine)) (le-no (P .bounded .x1 .fine) (X .fine))
   where
@@ -151,7 +151,7 @@ larger-same a = go (lt a a)
     go true = refl
     go false = refl
 
-pub level-interval : (p q : Trapezoid) (x : Float) → LevelStrip p → LevelStrip q → Bounded 2000000 x → (i : Interval) → meetingOf q x p ≡ Forbidden i → ExactInterval p q i
+pub level-interval : (p q : Trapezoid) (x : Float) → LevelStrip p → LevelStrip q → Bounded 3000000 x → (i : Interval) → meetingOf q x p ≡ Forbidden i → ExactInterval p q i
 level-interval p q x P Q X i e = go (dich (lt a b))
   where
     a : Float
@@ -160,11 +160,11 @@ level-interval p q x P Q X i e = go (dich (lt a b))
     b : Float
     b = smaller (p .x1) (q .x1 ⊕ x)
 
-    A : Bounded 3000000 a
-    A = larger-bounded (widen 1000000 3000000 (lit≤ tt) (P .bounded .x0)) (add-bounded 1000000 2000000 (lit≤ tt) (Q .bounded .x0) X)
+    A : Bounded 4000000 a
+    A = larger-bounded (widen 1000000 4000000 (lit≤ tt) (P .bounded .x0)) (add-bounded 1000000 3000000 (lit≤ tt) (Q .bounded .x0) X)
 
-    B : Bounded 3000000 b
-    B = smaller-bounded (widen 1000000 3000000 (lit≤ tt) (P .bounded .x1)) (add-bounded 1000000 2000000 (lit≤ tt) (Q .bounded .x1) X)
+    B : Bounded 4000000 b
+    B = smaller-bounded (widen 1000000 4000000 (lit≤ tt) (P .bounded .x1)) (add-bounded 1000000 3000000 (lit≤ tt) (Q .bounded .x1) X)
 
     j : Interval
     j = intervalOf (heightsAt p a) (heightsAt p b) (heightsAt q (a ⊖ x)) (heightsAt q (b ⊖ x))
@@ -175,11 +175,11 @@ level-interval p q x P Q X i e = go (dich (lt a b))
     apart : lt a b ≡ false → meetingOf q x p ≡ Apart
     apart t = unfold meetingOf in rw (t, meetingOf)
 
-    ph : (y : Float) → Bounded 3000000 y → heightsAt p y ≡ record { low = p .low0; high = p .high0 }
-    ph y Y = level-heights p y P (widen 3000000 5000000 (lit≤ tt) Y)
+    ph : (y : Float) → Bounded 4000000 y → heightsAt p y ≡ record { low = p .low0; high = p .high0 }
+    ph y Y = level-heights p y P (widen 4000000 7000000 (lit≤ tt) Y)
 
-    qh : (y : Float) → Bounded 3000000 y → heightsAt q (y ⊖ x) ≡ record { low = q .low0; high = q .high0 }
-    qh y Y = level-heights q (y ⊖ x) Q (sub-bounded 3000000 2000000 (lit≤ tt) Y X)
+    qh : (y : Float) → Bounded 4000000 y → heightsAt q (y ⊖ x) ≡ record { low = q .low0; high = q .high0 }
+    qh y Y = level-heights q (y ⊖ x) Q (sub-bounded 4000000 3000000 (lit≤ tt) Y X)
 
     from-is : j .from ≡ p .low0 ⊖ q .high0
     from-is = unfold intervalOf in rw (ph a A, ph b B, qh a A, qh b B, smaller-same (p .low0 ⊖ q .high0))

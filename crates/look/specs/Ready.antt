@@ -20,12 +20,12 @@ pub record BoundedStrip (p : Trapezoid) : Type 0 where
 abbrev pub BoundedStrips : List Float → Type 0
 BoundedStrips l = (i : ℕ) → i < capacity l → BoundedStrip (stripAt l i)
 
--- entries that are those of the strips, numbers within bounds: a column's x reaches 2,000,000
+-- entries that are those of the strips, numbers within bounds: a column's x stays below 3,000,000
 pub record Lookable (ix : Index) (x y-low y-high : Float) (inset apart sheet placed : List Float) (sheet-entries sheet-starts placed-entries placed-starts : List ℕ) : Type 0 where
   pub index : Fair ix
   pub sheet-laid : Laid ix sheet (capacity sheet) sheet-entries sheet-starts
   pub placed-laid : Laid ix placed (capacity placed) placed-entries placed-starts
-  pub column : Bounded 2000000 x
+  pub column : Bounded 3000000 x
   pub low : Finite y-low
   pub high : Finite y-high
   pub insets : BoundedStrips inset

@@ -80,7 +80,7 @@ module _ (x0 x1 x y-low y-high : Float) (inset apart sheet placed : List Float) 
     index = rw e (new-fair x0 x1 (widen 1000000 4000000 (lit≤ tt) (c .left)) (widen 1000000 4000000 (lit≤ tt) (c .right)));
     sheet-laid = a;
     placed-laid = b;
-    column = widen 1000000 2000000 (lit≤ tt) (c .column);
+    column = widen 1000000 3000000 (lit≤ tt) (c .column);
     low = c .low .fine;
     high = c .high .fine;
     insets = s .insets;

@@ -26,7 +26,7 @@ pub record Fixed (ix : Index) (w : World) (sheet-entries sheet-starts : List ℕ
   pub aparts : BoundedStrips (apartPart (partAt (w .parts) i) (w .apart))
   pub low : Finite (columnsAt w i .«y_low»)
   pub high : Finite (columnsAt w i .«y_high»)
-  pub column : (c : ℕ) → c ≤ lastOf (columnsAt w i) → Bounded 2000000 (xOf (columnsAt w i) c)
+  pub column : (c : ℕ) → c ≤ lastOf (columnsAt w i) → Bounded 3000000 (xOf (columnsAt w i) c)
   pub few : columnsAt w i .count ≤ 4000000000
   pub bounded : 4 * i + 4 ≤ length (w .inset-bounds)
   pub parted : 4 * i + 4 ≤ length (w .parts)
