@@ -1,6 +1,8 @@
 pub mod Sorting
 pub mod Merging
 pub mod Rows
+pub mod Places
+pub mod Forward
 pub mod Storing
 pub mod Winding
 pub mod Sizes

@@ -1,16 +1,18 @@
 -- How the work tables lie; inner functions' contracts only. No sentence of document 01 stands here. Assumes nothing.
 use Prim.Native.Nat.{ℕ, zero, suc, _+_, _*_}
-use mathlib.Core.Bool.{Bool, true, false, cond}
+use mathlib.Core.Path.{_≡_}
+use mathlib.Core.Bool.{Bool, true, false, not, cond}
 use mathlib.Core.List.{List, [], _∷_}
 use lib.ListN.{getD, set}
-use lib.Dec.{ltb}
+use lib.Dec.{T, ltb}
 use lib.IntN.{pos, negsuc}
-use lib.Ieee.{Float, nan, lt, binary64, ofBits}
+use lib.Ieee.{Float, nan, lt, eq, fits, binary64, ofBits}
+use Rattle.numbers.specs.Numbers.{_⊕_}
 use Rattle.trapezoid.specs.declared.Trapezoid.{Trapezoid}
 use Rattle.trapezoid.specs.Strip.{setStrip, capacity}
 use Rattle.slab.specs.declared.Edge.{Edge}
 use Rattle.slab.specs.declared.Row.{Row}
-use Rattle.slab.specs.Slab.{Crossing}
+use Rattle.slab.specs.Slab.{Crossing, before}
 
 -- f (n - 1), .., f 0
 unfoldable pub down : {A : Type 0} → (ℕ → A) → ℕ → List A
@@ -45,6 +47,18 @@ crossingOf r = record { ya = r .ya; yb = r .yb; d = cond (lt zeroBits (r .d)) (p
 
 unfoldable pub crossingAt : List Float → ℕ → Crossing
 crossingAt rs i = crossingOf (rowAt rs i)
+
+-- b stays before a, which comes after it in edge order
+unfoldable pub behind : Crossing → Crossing → Bool
+behind b a = not (before a b)
+
+-- a double that equals itself, so no NaN
+unfoldable pub Number : Float → Type 0
+Number x = T (fits binary64 x) × (eq x x ≡ true)
+
+-- a crossing that has a place in the order
+unfoldable pub Placed : Crossing → Type 0
+Placed c = Number (c .ya ⊕ c .yb) × Number (c .ya)
 
 -- a room and how many strips it holds; the count stops at one more than fit
 pub record Held : Type 0 where

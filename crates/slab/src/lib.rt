@@ -1,13 +1,13 @@
 // The strips of one slab (document 01, "Strips"): crossings of its edges, sorted, and winding.
 // Edges, rows and strips lie in lent tables; `one_slab` is what the crate `strips` calls.
 ghost use mathlib.Core.Path.{_≡_};
-ghost use mathlib.Core.Bool.{_&&_, not, cond};
+ghost use mathlib.Core.Bool.{true, _&&_, not, cond};
 ghost use Prim.Native.Nat.{ℕ, _+_, _-_, _*_, _≤_, _<_};
 ghost use lib.ListN.{length};
 ghost use lib.IntN.{pos, _-ℤ_};
 ghost use lib.Ieee.{lt};
 ghost use Rattle.slab.specs.Slab.{up, insert, spans, heightAt, crossing, ahead, before, crossings, strip, kept, piece, runs, walk, slab};
-ghost use Rattle.slab.specs.Tables.{down, edgeAt, rowAt, setRow, crossingOf, crossingAt, zeroBits, Held, put, hold};
+ghost use Rattle.slab.specs.Tables.{down, edgeAt, rowAt, setRow, crossingOf, crossingAt, behind, Placed, zeroBits, Held, put, hold};
 
 // An edge from p to q, with the smaller and the larger of its x's.
 pub struct Edge {
@@ -145,8 +145,8 @@ fn put_row(rows: &mut [f64], i: usize, c: Row)
     rows[at + 2] = c.d;
 }
 
-// The crossing goes to its place among the n rows, whose first stands last.
-fn insert(rows: &mut [f64], n: usize, c: Row)
+// The crossing goes to its place among the n rows, whose first stands last; how far from the end.
+fn insert(rows: &mut [f64], n: usize, c: Row) -> usize
     requires { ⌜ 3 * n + 3 ≤ length (now rows) ⌝ }
     ensures { λ _. ⌜ down (crossingAt (now (rows .exit))) (n + 1) ≡ insert before (crossingOf c) (down (crossingAt (now (rows .entry))) n) ⌝ }
 {
@@ -161,6 +161,36 @@ fn insert(rows: &mut [f64], n: usize, c: Row)
         k -= 1;
     }
     put_row(rows, k, c);
+    n - k
+}
+
+// Whether a crossing b stays before a later edge's crossing a.
+fn behind(b: Row, a: Row) -> bool
+    ensures { λ r. ⌜ r ≡ behind (crossingOf b) (crossingOf a) ⌝ }
+{
+    if before(a, b) {
+        return false;
+    }
+    true
+}
+
+// The crossing goes to its place among the n rows, whose first stands last, after its equals; how far from the end.
+fn insert_after(rows: &mut [f64], n: usize, c: Row) -> usize
+    requires { ⌜ 3 * n + 3 ≤ length (now rows) ⌝ }
+    ensures { λ _. ⌜ down (crossingAt (now (rows .exit))) (n + 1) ≡ insert behind (crossingOf c) (down (crossingAt (now (rows .entry))) n) ⌝ }
+{
+    let mut k = n;
+    while k > 0 {
+        let b = row_at(rows, k - 1);
+        if behind(b, c) {
+            put_row(rows, k, b);
+        } else {
+            break;
+        }
+        k -= 1;
+    }
+    put_row(rows, k, c);
+    n - k
 }
 
 // The crossings of the slab from xa to xb, first last; how many.
@@ -180,6 +210,96 @@ fn gather(es: &[f64], count: usize, xa: f64, xb: f64, rows: &mut [f64]) -> usize
         }
     }
     n
+}
+
+// What is left of an allowance after an insertion that far from the end.
+fn spend(left: usize, far: usize) -> usize {
+    if far > 8 {
+        if left > 0 {
+            return left - 1;
+        }
+    }
+    left
+}
+
+// As `gather`, but gives up, with one more than `count`, after some insertions far from the end.
+fn gather_down(es: &[f64], count: usize, xa: f64, xb: f64, rows: &mut [f64]) -> usize
+    requires { ⌜ (6 * count ≤ length (now es)) × (3 * count ≤ length (now rows)) ⌝ }
+    ensures { λ r. ⌜ (r ≤ count → down (crossingAt (now (rows .exit))) r ≡ crossings xa xb (up (edgeAt (now (es .entry))) 0 count)) ⌝ }
+{
+    let mut i = count;
+    let mut n: usize = 0;
+    let mut left: usize = 8;
+    while i > 0 {
+        i -= 1;
+        let e = edge_at(es, i);
+        if spans(e, xa, xb) {
+            let c = cross(e, xa, xb);
+            let far = insert(rows, n, c);
+            n += 1;
+            left = spend(left, far);
+            if left == 0 {
+                return count + 1;
+            }
+        }
+    }
+    n
+}
+
+// Whether neither the crossing's sum nor its ya is a NaN, which has no place in an order.
+fn placed(c: Row) -> bool
+    ensures { λ r. ⌜ (r ≡ true → Placed (crossingOf c)) ⌝ }
+{
+    let s = c.ya + c.yb;
+    if s == s {
+        return c.ya == c.ya;
+    }
+    false
+}
+
+// As `gather_down`, from the first edge to the last; also gives up at a NaN.
+fn gather_up(es: &[f64], count: usize, xa: f64, xb: f64, rows: &mut [f64]) -> usize
+    requires { ⌜ (6 * count ≤ length (now es)) × (3 * count ≤ length (now rows)) ⌝ }
+    ensures { λ r. ⌜ (r ≤ count → down (crossingAt (now (rows .exit))) r ≡ crossings xa xb (up (edgeAt (now (es .entry))) 0 count)) ⌝ }
+{
+    let mut i: usize = 0;
+    let mut n: usize = 0;
+    let mut left: usize = 8;
+    while i < count {
+        let e = edge_at(es, i);
+        i += 1;
+        if spans(e, xa, xb) {
+            let c = cross(e, xa, xb);
+            if placed(c) {
+                let far = insert_after(rows, n, c);
+                n += 1;
+                left = spend(left, far);
+                if left == 0 {
+                    return count + 1;
+                }
+            } else {
+                return count + 1;
+            }
+        }
+    }
+    n
+}
+
+// The crossings of the slab from xa to xb, first last; how many. Edges that mostly rise are walked
+// from the last to the first, edges that mostly fall from the first to the last.
+fn sorted_rows(es: &[f64], count: usize, xa: f64, xb: f64, rows: &mut [f64]) -> usize
+    requires { ⌜ (6 * count ≤ length (now es)) × (3 * count ≤ length (now rows)) ⌝ }
+    ensures { λ r. ⌜ (r ≤ count) × (down (crossingAt (now (rows .exit))) r ≡ crossings xa xb (up (edgeAt (now (es .entry))) 0 count)) ⌝ }
+{
+    let m = gather_down(es, count, xa, xb, rows);
+    if m <= count {
+        return m;
+    }
+    let k = gather_up(es, count, xa, xb, rows);
+    if k <= count {
+        return k;
+    }
+    gather(es, count, xa, xb, rows)
 }
 
 // Winding after d, counted from a base: one more or one less.
@@ -321,6 +441,6 @@ pub fn one_slab(
     requires { ⌜ (6 * edges ≤ length (now es)) × (3 * edges ≤ length (now rows)) ⌝ }
     ensures { λ r. ⌜ record { room = now (room .exit); count = r } ≡ hold (record { room = now (room .entry); count = n }) (slab (up (edgeAt (now (es .entry))) 0 edges) sheet bottom top xa xb) ⌝ }
 {
-    let m = gather(es, edges, xa, xb, rows);
+    let m = sorted_rows(es, edges, xa, xb, rows);
     wind(rows, m, sheet, bottom, top, xa, xb, room, n)
 }

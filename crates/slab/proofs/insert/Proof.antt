@@ -61,6 +61,10 @@ put-row-requires-2 : tie.Need-put-row-requires-2 Inv-loop μ-loop
 put-row-requires-2 c κs =
     omega arith
 
+sub-result : tie.Need-sub-result Inv-loop μ-loop
+sub-result c =
+    omega arith
+
 same-length : tie.Need-same-length Inv-loop μ-loop
 same-length c =
     c .before .before .put-row2 .kept .0 ∙ c .before .before .before .before .before .loop .inv .1
@@ -86,5 +90,6 @@ insert-spec =
     loop-less
     loop-again
     put-row-requires-2
+    sub-result
     same-length
     returns)
