@@ -4,5 +4,5 @@ pub mod Rows
 pub mod Places
 pub mod Forward
 pub mod Storing
-pub mod Winding
+pub mod Walks
 pub mod Sizes

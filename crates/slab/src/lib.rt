@@ -1,13 +1,14 @@
 // The strips of one slab (document 01, "Strips"): crossings of its edges, sorted, and winding.
 // Edges, rows and strips lie in lent tables; `one_slab` is what the crate `strips` calls.
+mod winding;
+
 ghost use mathlib.Core.Path.{_≡_};
-ghost use mathlib.Core.Bool.{true, _&&_, not, cond};
-ghost use Prim.Native.Nat.{ℕ, _+_, _-_, _*_, _≤_, _<_};
+ghost use mathlib.Core.Bool.{true, not};
+ghost use Prim.Native.Nat.{_+_, _-_, _*_, _≤_, _<_};
 ghost use lib.ListN.{length};
-ghost use lib.IntN.{pos, _-ℤ_};
-ghost use lib.Ieee.{lt};
-ghost use Rattle.slab.specs.Slab.{up, insert, spans, heightAt, crossing, ahead, before, crossings, strip, kept, piece, runs, walk, slab};
-ghost use Rattle.slab.specs.Tables.{down, edgeAt, rowAt, setRow, crossingOf, crossingAt, behind, Placed, zeroBits, Held, put, hold};
+ghost use lib.IntN.{pos};
+ghost use Rattle.slab.specs.Slab.{up, insert, spans, heightAt, crossing, ahead, before, crossings, strip, runs, walk, slab};
+ghost use Rattle.slab.specs.Tables.{down, edgeAt, rowAt, setRow, crossingOf, crossingAt, behind, Placed, put, hold};
 
 // An edge from p to q, with the smaller and the larger of its x's.
 pub struct Edge {
@@ -302,91 +303,6 @@ fn sorted_rows(es: &[f64], count: usize, xa: f64, xb: f64, rows: &mut [f64]) -> 
     gather(es, count, xa, xb, rows)
 }
 
-// Winding after d, counted from a base: one more or one less.
-fn turned(w: usize, d: f64) -> usize
-    requires { ⌜ (0 < w) × (w < 0x8000_0000_0000_0000) ⌝ }
-    ensures { λ r. ⌜ r ≡ cond (lt zeroBits d) (w + 1) (w - 1) ⌝ }
-{
-    if d > 0.0 { w + 1 } else { w - 1 }
-}
-
-// Whether strips run at the winding w, counted from base.
-fn runs(sheet: bool, base: usize, w: usize) -> bool
-    ensures { λ r. ⌜ r ≡ runs sheet (pos w -ℤ pos base) ⌝ }
-{
-    if sheet { w <= base } else { base < w }
-}
-
-// The strip between a lower and an upper edge.
-fn strip(xa: f64, xb: f64, la: f64, lb: f64, ya: f64, yb: f64) -> trapezoid::Trapezoid
-    ensures { λ r. ⌜ r ≡ strip xa xb la lb ya yb ⌝ }
-{
-    let low0 = numbers::smaller(la, ya);
-    let low1 = numbers::smaller(lb, yb);
-    let high0 = numbers::larger(la, ya);
-    let high1 = numbers::larger(lb, yb);
-    trapezoid::Trapezoid {
-        x0: xa,
-        x1: xb,
-        low0: low0,
-        low1: low1,
-        high0: high0,
-        high1: high1,
-    }
-}
-
-// Whether the strip is kept.
-fn kept(s: trapezoid::Trapezoid) -> bool
-    ensures { λ r. ⌜ r ≡ kept s ⌝ }
-{
-    s.low0 < s.high0 || s.low1 < s.high1
-}
-
-// The strip goes into the room as number n, if it fits; how many it then holds, or one more than fit.
-fn put(room: &mut [f64], n: usize, s: trapezoid::Trapezoid) -> usize
-    ensures { λ r. ⌜ record { room = now (room .exit); count = r } ≡ put (record { room = now (room .entry); count = n }) s ⌝ }
-{
-    let cap = trapezoid::capacity(room);
-    if n < cap {
-        trapezoid::store(room, n, s);
-        n + 1
-    } else {
-        cap + 1
-    }
-}
-
-// The strip is stored if it is closed and kept.
-fn close(closed: bool, room: &mut [f64], n: usize, s: trapezoid::Trapezoid) -> usize
-    ensures { λ r. ⌜ record { room = now (room .exit); count = r } ≡ hold (record { room = now (room .entry); count = n }) (piece closed s) ⌝ }
-{
-    let keep = both(closed, kept(s));
-    if keep { put(room, n, s) } else { n }
-}
-
-fn pick(first: bool, a: f64, b: f64) -> f64
-    ensures { λ r. ⌜ r ≡ cond first a b ⌝ }
-{
-    if first { a } else { b }
-}
-
-fn both(a: bool, b: bool) -> bool
-    ensures { λ r. ⌜ r ≡ a && b ⌝ }
-{
-    if a { b } else { false }
-}
-
-fn closes(now: bool, then: bool) -> bool
-    ensures { λ r. ⌜ r ≡ now && not then ⌝ }
-{
-    if now {
-        if then {
-            return false;
-        }
-        return true;
-    }
-    false
-}
-
 // The strips of one slab, from its m crossings. Winding is counted from m, so that it stays positive.
 fn wind(
     rows: &[f64],
@@ -410,18 +326,18 @@ fn wind(
     while k > 0 {
         k -= 1;
         let c = row_at(rows, k);
-        let was = runs(sheet, m, w);
-        w = turned(w, c.d);
-        let is = runs(sheet, m, w);
-        let s = strip(xa, xb, la, lb, c.ya, c.yb);
-        let closed = closes(was, is);
-        count = close(closed, room, count, s);
-        la = pick(was, la, c.ya);
-        lb = pick(was, lb, c.yb);
+        let was = winding::runs(sheet, m, w);
+        w = winding::turned(w, c.d);
+        let is = winding::runs(sheet, m, w);
+        let s = winding::strip(xa, xb, la, lb, c.ya, c.yb);
+        let closed = winding::closes(was, is);
+        count = winding::close(closed, room, count, s);
+        la = winding::pick(was, la, c.ya);
+        lb = winding::pick(was, lb, c.yb);
     }
-    let s = strip(xa, xb, la, lb, top, top);
-    let last = both(sheet, runs(sheet, m, w));
-    close(last, room, count, s)
+    let s = winding::strip(xa, xb, la, lb, top, top);
+    let last = winding::both(sheet, winding::runs(sheet, m, w));
+    winding::close(last, room, count, s)
 }
 
 // The strips of the slab from xa to xb go into the room from number n on; how many it then holds, or

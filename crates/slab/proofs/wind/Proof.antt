@@ -7,7 +7,7 @@ use denote.Ref.{now}
 use native.Mathlib.Omega.{arith}
 use mathlib.Core.Bool.{Bool, _&&_}
 use lib.IntN.{ℤ, pos, _-ℤ_, +ℤ-invr}
-use Rattle.slab.proofs.Winding.{wind-step, wind-last, turned-low, turned-high}
+use Rattle.slab.proofs.Walks.{wind-step, wind-last, turned-low, turned-high}
 use Rattle.slab.specs.Slab.{walk}
 use Rattle.slab.specs.Tables.{hold, down, crossingAt, zeroBits}
 use borrow.Author.Needs.{needs}

@@ -1,11 +1,11 @@
--- `slab::close` meets its contract. Assumes nothing.
+-- `slab::winding::close` meets its contract. Assumes nothing.
 use mathlib.Core.Path.{ap, sym, _∙_}
 use denote.Ref.{now}
 use mathlib.Core.Bool.{Bool, _&&_}
 use Rattle.slab.proofs.Storing.{piece-kept, piece-none}
 use borrow.Author.Needs.{needs}
-use Rattle.slab.proofs.close.Statement.{statement}
-use Rattle.slab.proofs.close.Tie as tie
+use Rattle.slab.proofs.winding.close.Statement.{statement}
+use Rattle.slab.proofs.winding.close.Tie as tie
 
 kept-requires : tie.Need-kept-requires
 kept-requires c κs = search needs

@@ -1,7 +1,7 @@
--- `slab::kept` meets its contract. Assumes nothing.
+-- `slab::winding::kept` meets its contract. Assumes nothing.
 use Rattle.slab.specs.Slab.{kept}
-use Rattle.slab.proofs.kept.Statement.{statement}
-use Rattle.slab.proofs.kept.Tie as tie
+use Rattle.slab.proofs.winding.kept.Statement.{statement}
+use Rattle.slab.proofs.winding.kept.Tie as tie
 
 returns : tie.Need-returns
 unfolding kept

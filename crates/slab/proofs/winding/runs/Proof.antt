@@ -1,8 +1,8 @@
--- `slab::runs` meets its contract. Assumes nothing.
+-- `slab::winding::runs` meets its contract. Assumes nothing.
 use Rattle.slab.specs.Slab.{runs}
-use Rattle.slab.proofs.Winding.{positive-wound, leb-not}
-use Rattle.slab.proofs.runs.Statement.{statement}
-use Rattle.slab.proofs.runs.Tie as tie
+use Rattle.slab.proofs.Walks.{positive-wound, leb-not}
+use Rattle.slab.proofs.winding.runs.Statement.{statement}
+use Rattle.slab.proofs.winding.runs.Tie as tie
 
 returns : tie.Need-returns
 unfolding runs

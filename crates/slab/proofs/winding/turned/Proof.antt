@@ -1,7 +1,7 @@
--- `slab::turned` meets its contract. Assumes nothing.
+-- `slab::winding::turned` meets its contract. Assumes nothing.
 use borrow.Author.Needs.{needs}
-use Rattle.slab.proofs.turned.Statement.{statement}
-use Rattle.slab.proofs.turned.Tie as tie
+use Rattle.slab.proofs.winding.turned.Statement.{statement}
+use Rattle.slab.proofs.winding.turned.Tie as tie
 
 add-result : tie.Need-add-result
 add-result c = search needs

@@ -1,8 +1,8 @@
--- `slab::strip` meets its contract. Assumes nothing.
+-- `slab::winding::strip` meets its contract. Assumes nothing.
 use Rattle.slab.specs.Slab.{strip}
 use borrow.Author.Needs.{needs}
-use Rattle.slab.proofs.strip.Statement.{statement}
-use Rattle.slab.proofs.strip.Tie as tie
+use Rattle.slab.proofs.winding.strip.Statement.{statement}
+use Rattle.slab.proofs.winding.strip.Tie as tie
 
 smaller-requires : tie.Need-smaller-requires
 smaller-requires c κs = search needs

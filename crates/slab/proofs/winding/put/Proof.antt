@@ -1,10 +1,10 @@
--- `slab::put` meets its contract. Assumes nothing.
+-- `slab::winding::put` meets its contract. Assumes nothing.
 use native.Mathlib.Omega.{arith}
 use denote.Ref.{now}
 use Rattle.slab.proofs.Storing.{cap-in, cap-next, put-stores, put-stops}
 use borrow.Author.Needs.{needs}
-use Rattle.slab.proofs.put.Statement.{statement}
-use Rattle.slab.proofs.put.Tie as tie
+use Rattle.slab.proofs.winding.put.Statement.{statement}
+use Rattle.slab.proofs.winding.put.Tie as tie
 
 capacity-requires : tie.Need-capacity-requires
 capacity-requires c κs = search needs
