@@ -307,5 +307,9 @@ module _ (ix : Index) (standing : List Float) (m n : ℕ) (h : m ≤ n) (e₀ st
       let a = all-entries in
       rw (E, T) (enter-fits ix standing n (rooms e₀ st) (omega arith))
 
-  pub copy-refused : length e₀ < getD st buckets 0 + before g buckets → entering false e₀ st ≡ enterOf ix standing n (rooms e₀ st)
-  copy-refused f = enter-over ix standing n (rooms e₀ st) (let z = start-last ix standing n in let a = all-entries in omega arith)
+-- ---- a copy that does not fit
+pub copy-refused : (ix : Index) (standing : List Float) (m n left : ℕ) (e₀ st : List ℕ) → Laid ix standing m e₀ st → left ≡ length e₀ - getD st buckets 0 → startOf ix standing m buckets + left < startOf ix standing n buckets → entering false e₀ st ≡ enterOf ix standing n (rooms e₀ st)
+copy-refused ix standing m n left e₀ st L d o =
+    let a = laid-starts ix standing m e₀ st L buckets (omega arith) in
+    let z = start-last ix standing n in
+    enter-over ix standing n (rooms e₀ st) (omega arith)

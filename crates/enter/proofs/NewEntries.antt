@@ -2,14 +2,17 @@
 use Prim.Native.Nat.{ℕ, zero, suc, _+_, _-_, _<_, _≤_, min}
 use native.Mathlib.Omega.{arith}
 use native.Mathlib.Numerals.{add-one}
-use mathlib.Core.Path.{_≡_, sym, ap, _∙_}
+use mathlib.Core.Path.{_≡_, sym, ap, _∙_, subst}
 use mathlib.Core.Logic.{_⊎_, inl, inr}
 use mathlib.Core.List.{List}
 use lib.ListN.{getD}
+use lib.Ieee.{Float}
+use Rattle.index.specs.declared.Index.{Index}
 use Rattle.index.specs.Buckets.{buckets}
 use Rattle.index.proofs.Collecting.{lt-or-ge}
-use Rattle.enter.specs.Gaps.{one, before}
-use Rattle.enter.proofs.Starts.{before-first, before-next, one-inside, one-outside}
+use Rattle.enter.specs.EntryRoom.{startOf}
+use Rattle.enter.specs.Gaps.{one, before, Counted}
+use Rattle.enter.proofs.Starts.{before-first, before-next, one-inside, one-outside, start-gain, start-more}
 
 -- counting the buckets lo to hi adds their number
 pub before-ones : (g g' : List ℕ) (lo hi : ℕ) → ((b : ℕ) → getD g' b 0 ≡ getD g b 0 + one lo hi b) → (n : ℕ) → before g' n ≡ before g n + (min (hi + 1) n - lo)
@@ -63,3 +66,12 @@ before-none g (suc n) h z = ap (before g) (sym (add-one n)) ∙ (before-next g n
 
 pub before-clear : (g : List ℕ) → ((b : ℕ) → b < buckets → getD g b 0 ≡ 0) → before g buckets ≡ 0
 before-clear g z = before-none g buckets (omega arith) z
+
+-- where the first strips' new entries exceed what is left, all strips' do
+pub counted-over : (ix : Index) (standing : List Float) (from i to left : ℕ) (g : List ℕ) → from ≤ i → i < to → Counted ix standing (i + 1 - from) from g → left < before g buckets → startOf ix standing from buckets + left < startOf ix standing to buckets
+counted-over ix standing from i to left g h l C o =
+    let e : from + (i + 1 - from) ≡ i + 1 = omega arith in
+    let s = start-gain ix standing from (i + 1 - from) g C buckets (omega arith) in
+    let t : startOf ix standing (i + 1) buckets ≡ startOf ix standing from buckets + before g buckets = ap (λ (k : ℕ). startOf ix standing k buckets) (sym e) ∙ s in
+    let u = start-more ix standing (i + 1) to buckets (omega arith) in
+    omega arith

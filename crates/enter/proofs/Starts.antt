@@ -167,6 +167,17 @@ module _ (ix : Index) (standing : List Float) where
   pub start-rise : (n b c : ℕ) → b ≤ c → startOf ix standing n b ≤ startOf ix standing n c
   start-rise n b c h = let e : b + (c - b) ≡ c = omega arith in subst (λ (k : ℕ). startOf ix standing n b ≤ startOf ix standing n k) e (start-up n b (c - b))
 
+  -- more strips, later starts
+  pub start-more : (m n b : ℕ) → m ≤ n → startOf ix standing m b ≤ startOf ix standing n b
+  start-more m n zero h = let a = start-first m in omega arith
+  start-more m n (suc b) h =
+      let q : b + 1 ≡ suc b = add-one b in
+      let i = start-more m n b h in
+      let s = start-next m b in
+      let t = start-next n b in
+      let u = entered-more m n b h in
+      subst (λ (k : ℕ). startOf ix standing m k ≤ startOf ix standing n k) q (omega arith)
+
   -- ---- what is laid
   module _ (n : ℕ) (e st : List ℕ) (L : Laid ix standing n e st) where
     laid-next : (b : ℕ) → b < buckets → getD st (b + 1) 0 ≡ getD st b 0 + length (entered ix standing n b)

@@ -1,7 +1,7 @@
 // Entering a copy's strips into the buckets' entries: in place, in one pass from the back.
 ghost use mathlib.Core.Path.{_≡_};
-ghost use mathlib.Core.Bool.{true};
-ghost use Prim.Native.Nat.{ℕ, _+_, _-_, _*_, _≤_, _<_, max};
+ghost use mathlib.Core.Bool.{true, false};
+ghost use Prim.Native.Nat.{ℕ, _+_, _-_, _*_, _≤_, _<_, _^_, max};
 ghost use lib.ListN.{length, getD, set};
 ghost use Rattle.index.specs.Buckets.{buckets, entered};
 ghost use Rattle.index.specs.Listing.{Laid};
@@ -12,10 +12,10 @@ use index::Index;
 
 // Writes the number of a strip as entry e. Entries are written here and nowhere else.
 pub fn set_entry(entries: &mut [Entry], e: usize, number: usize)
-    requires { ⌜ (e < length (now entries)) × (number < 4294967296) ⌝ }
+    requires { ⌜ e < length (now entries) ⌝ }
     ensures { λ _. ⌜ now (entries .exit) ≡ set (now (entries .entry)) e number ⌝ }
 {
-    entries[e] = number as Entry;
+    entries[e] = number;
 }
 
 // Moves the entries from `from` to below `to` up by `by`, four at once, the last first; answers where
@@ -87,7 +87,7 @@ fn clear(gains: &mut [usize])
 
 // Counts one new entry more in each of the buckets lo to hi.
 fn count_strip(gains: &mut [usize], lo: usize, hi: usize)
-    requires { ⌜ (hi < length (now gains)) × ((b : ℕ) → b < length (now gains) → getD (now gains) b 0 < 4294967296) ⌝ }
+    requires { ⌜ (hi < length (now gains)) × ((b : ℕ) → b < length (now gains) → getD (now gains) b 0 + 1 < 2 ^ 64) ⌝ }
     ensures { λ _. ⌜ ((b : ℕ) → getD (now (gains .exit)) b 0 ≡ getD (now (gains .entry)) b 0 + one lo hi b) ⌝ }
 {
     let mut b = lo;
@@ -118,18 +118,28 @@ fn later(a: usize, b: usize) -> usize
     a
 }
 
-// How many new entries there are, and from which bucket on there are none.
+// Whether the room holds the new entries; how many there are then, and from which bucket on there are
+// none.
 struct Counts {
+    fits: bool,
     more: usize,
     end: usize,
 }
 
-// Counts the new entries of the strips from `from` to below `to`, bucket by bucket and all.
-fn count(ix: Index, standing: &[f64], from: usize, to: usize, gains: &mut [usize]) -> Counts
-    requires { ⌜ (from ≤ to) × (6 * to ≤ length (now standing)) × (to ≤ 4294967296) × (length (now gains) ≡ buckets) × ((b : ℕ) → b < buckets → getD (now gains) b 0 ≡ 0) ⌝ }
-    ensures { λ r. ⌜ Counted ix (now (standing .entry)) (to - from) from (now (gains .exit)) × (r .more ≡ before (now (gains .exit)) buckets) × (r .end ≤ buckets) × ((b : ℕ) → r .end ≤ b → b < buckets → getD (now (gains .exit)) b 0 ≡ 0) ⌝ }
+// Counts the new entries of the strips from `from` to below `to`, bucket by bucket and all, as long as
+// there are at most `left`.
+fn count(
+    ix: Index,
+    standing: &[f64],
+    from: usize,
+    to: usize,
+    left: usize,
+    gains: &mut [usize],
+) -> Counts
+    requires { ⌜ (from ≤ to) × (6 * to ≤ length (now standing)) × (length (now gains) ≡ buckets) × ((b : ℕ) → b < buckets → getD (now gains) b 0 ≡ 0) ⌝ }
+    ensures { λ r. ⌜ (r .fits ≡ true → Counted ix (now (standing .entry)) (to - from) from (now (gains .exit)) × (r .more ≡ before (now (gains .exit)) buckets) × (r .more ≤ left) × (r .end ≤ buckets) × ((b : ℕ) → r .end ≤ b → b < buckets → getD (now (gains .exit)) b 0 ≡ 0)) × (r .fits ≡ false → startOf ix (now (standing .entry)) from buckets + left < startOf ix (now (standing .entry)) to buckets) ⌝ }
 {
-    let mut n: usize = 0;
+    let mut more: usize = 0;
     let mut end: usize = 0;
     let mut i = from;
     while i < to {
@@ -137,11 +147,23 @@ fn count(ix: Index, standing: &[f64], from: usize, to: usize, gains: &mut [usize
         let lo = ix.bucket(p.x0);
         let hi = ix.bucket(p.x1);
         count_strip(gains, lo, hi);
-        n += width_of(lo, hi);
+        let width = width_of(lo, hi);
+        if left - more < width {
+            return Counts {
+                fits: false,
+                more: 0,
+                end: 0,
+            };
+        }
+        more += width;
         end = later(end, hi + 1);
         i += 1;
     }
-    Counts { more: n, end: end }
+    Counts {
+        fits: true,
+        more: more,
+        end: end,
+    }
 }
 
 // Moves each bucket before `end` up by the new entries before it, from the last to the first that has
@@ -176,7 +198,7 @@ fn open_all(entries: &mut [Entry], starts: &mut [usize], gains: &[usize], more: 
 
 // Puts a strip's number at the end of each of the buckets lo to hi.
 fn fill_strip(entries: &mut [Entry], starts: &mut [usize], number: usize, lo: usize, hi: usize)
-    requires { ⌜ (length (now starts) ≡ buckets + 1) × (hi < buckets) × (number < 4294967296) × ((b : ℕ) → lo ≤ b → b ≤ hi → getD (now starts) (b + 1) 0 < length (now entries)) ⌝ }
+    requires { ⌜ (length (now starts) ≡ buckets + 1) × (hi < buckets) × ((b : ℕ) → lo ≤ b → b ≤ hi → getD (now starts) (b + 1) 0 < length (now entries)) ⌝ }
     ensures { λ _. ⌜ rooms (now (entries .exit)) (now (starts .exit)) ≡ filled number (hi + 1 - lo) lo (rooms (now (entries .entry)) (now (starts .entry))) ⌝ }
 {
     let mut b = lo;
@@ -197,7 +219,7 @@ fn fill(
     entries: &mut [Entry],
     starts: &mut [usize],
 )
-    requires { ⌜ (from ≤ to) × (6 * to ≤ length (now standing)) × (to ≤ 4294967296) × (startOf ix (now standing) to buckets ≤ length (now entries)) × Blocks (startOf ix (now standing) to) (entered ix (now standing) from) (now entries) (now starts) ⌝ }
+    requires { ⌜ (from ≤ to) × (6 * to ≤ length (now standing)) × (startOf ix (now standing) to buckets ≤ length (now entries)) × Blocks (startOf ix (now standing) to) (entered ix (now standing) from) (now entries) (now starts) ⌝ }
     ensures { λ _. ⌜ Blocks (startOf ix (now (standing .entry)) to) (entered ix (now (standing .entry)) to) (now (entries .exit)) (now (starts .exit)) × ((j : ℕ) → startOf ix (now (standing .entry)) to buckets ≤ j → getD (now (entries .exit)) j 0 ≡ getD (now (entries .entry)) j 0) ⌝ }
 {
     let mut i = from;
@@ -219,13 +241,13 @@ pub fn enter_copy(
     starts: &mut [usize],
     gains: &mut [usize],
 ) -> bool
-    requires { ⌜ (from ≤ to) × (6 * to ≤ length (now standing)) × (to ≤ 4294967296) × (length (now gains) ≡ buckets) × Laid ix (now standing) from (now entries) (now starts) ⌝ }
+    requires { ⌜ (from ≤ to) × (6 * to ≤ length (now standing)) × (length (now gains) ≡ buckets) × Laid ix (now standing) from (now entries) (now starts) ⌝ }
     ensures { λ r. ⌜ (entering r (now (entries .exit)) (now (starts .exit)) ≡ enterOf ix (now (standing .entry)) to (rooms (now (entries .entry)) (now (starts .entry)))) × (r ≡ true → Laid ix (now (standing .entry)) to (now (entries .exit)) (now (starts .exit))) ⌝ }
 {
     clear(gains);
-    let new = count(ix, standing, from, to, gains);
-    let held = starts[Index::BUCKETS];
-    if new.more <= entries.len() - held {
+    let left = entries.len() - starts[Index::BUCKETS];
+    let new = count(ix, standing, from, to, left, gains);
+    if new.fits {
         open_all(entries, starts, gains, new.more, new.end);
         fill(ix, standing, from, to, entries, starts);
         return true;

@@ -307,11 +307,11 @@ pub record Started (j : Job) (order : List ℕ) (l : Lent) (r : Start) : Type 0 
   pub rooms-is : r .lent .rooms ≡ firstRooms (plannerOf j) (l .rooms)
 
 module _ (j : Job) (order : List ℕ) (l : Lent) where
-  start-refused : (k : Refusal) → startVerdict j order l ≡ Refused k → startJob j order l ≡ noStart k l
+  pub start-refused : (k : Refusal) → startVerdict j order l ≡ Refused k → startJob j order l ≡ noStart k l
   unfolding startJob
   start-refused k e = rw (e, startJob)
 
-  start-good : startVerdict j order l ≡ Accepted → startJob j order l ≡ goodStart (plannerOf j) order l
+  pub start-good : startVerdict j order l ≡ Accepted → startJob j order l ≡ goodStart (plannerOf j) order l
   unfolding startJob
   start-good e = rw (e, startJob)
 

@@ -111,7 +111,7 @@ unfolding missesAt
 misses-one s n zero = omega arith
 misses-one s n (suc o) = omega arith
 
-without-few : (s : State) (n : ℕ) → length (withoutTo s n) ≤ n
+pub without-few : (s : State) (n : ℕ) → length (withoutTo s n) ≤ n
 unfolding withoutTo
 without-few s zero = omega arith
 without-few s (suc n) =
@@ -119,7 +119,7 @@ without-few s (suc n) =
     let b = misses-one s n (getD (s .layout .orientation) n 0) in
     simp length-append (omega arith)
 
-own-consistent : (j : Job) (order : List ℕ) (s : State) (w : Rooms) (q : Plain) → Sized j → WithinBounds (plannerOf j) → rearranged j order ≡ true → Own j order s w q → consistent j s w ≡ true
+pub own-consistent : (j : Job) (order : List ℕ) (s : State) (w : Rooms) (q : Plain) → Sized j → WithinBounds (plannerOf j) → rearranged j order ≡ true → Own j order s w q → consistent j s w ≡ true
 unfolding consistent takenFits entriesFit
 own-consistent j order s w q z b r h =
     let few : length (withoutOf s) ≤ 4096 = unfold withoutOf in (let a = without-few s (s .taken) in let f = h .few in let g = z .few in omega arith) in
@@ -195,7 +195,7 @@ module _ (j : Job) (z : Sized j) (b : WithinBounds (plannerOf j)) (order : List 
             go true false u v = u
             go false y u v = u
 
-  own-took : (r : Step) → Took j s w r → Own j order (r .state) (r .rooms) (plainTake P q (q .to-come))
+  pub own-took : (r : Step) → Took j s w r → Own j order (r .state) (r .rooms) (plainTake P q (q .to-come))
   own-took r t =
       let k = t .kind in
       let cs = Steps.ChoicesNow j s k in
@@ -304,7 +304,7 @@ first-placed j z order n room =
     ∙ ap (λ es. entriesLie es room) (no-entries (plannerOf j .bounds))
     ∙ entries-none room
 
-own-start : (j : Job) (z : Sized j) → WithinBounds (plannerOf j) → (order : List ℕ) (l : Lent) → startVerdict j order l ≡ Accepted
+pub own-start : (j : Job) (z : Sized j) → WithinBounds (plannerOf j) → (order : List ℕ) (l : Lent) → startVerdict j order l ≡ Accepted
     → Own j order (firstState (plannerOf j) order) (firstRooms (plannerOf j) (l .rooms)) (plainStart (plannerOf j) order)
 unfolding firstState
 own-start j z b order l v =

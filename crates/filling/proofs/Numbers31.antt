@@ -112,7 +112,7 @@ module _ (p : Planner) (k : ℕ) where
     no-good : Goods []
     and-good : {c : Choice} {cs : List Choice} → Good c → Goods cs → Goods (c ∷ cs)
 
-  best-good : {cs : List Choice} → Goods cs → (a : Choice) → Good a → Good (best a cs)
+  pub best-good : {cs : List Choice} → Goods cs → (a : Choice) → Good a → Good (best a cs)
   unfolding best
   best-good no-good a g = g
   best-good (and-good {c = c} {cs = cs} h hs) a g = go (wins c a) (best-good hs c h) (best-good hs a g)

@@ -319,7 +319,7 @@ module _ (j : Job) (s : State) (w : Rooms) (h : Linked j s w) (k : ℕ) where
   unfolding tracksOf
   rows-of-tracks = rows-length (trackAt (s .«next_column») (s .«look_counts»)) 0 (orientationCounts j) k
 
-  rows-of-shapes : length (getD (plannerOf j .shapes) k []) ≡ getD (orientationCounts j) k 0
+  pub rows-of-shapes : length (getD (plannerOf j .shapes) k []) ≡ getD (orientationCounts j) k 0
   unfolding plannerAt
   rows-of-shapes = ap (λ p. length (getD (p .shapes) k [])) (sym (h .plan)) ∙ rows-length (shapeAt (s .tables) (w .shapes)) 0 (orientationCounts j) k
 

@@ -11,7 +11,7 @@ use lib.Ieee.{Float, binary64}
 use Rattle.numbers.specs.Numbers.{_⊕_, posZero}
 use Rattle.numbers.proofs.Ranges.{zero-num, zero-key}
 use Rattle.numbers.proofs.Literals.{milli}
-use Rattle.numbers.proofs.Doubles.{k, o, Finite, Upto, Small, finite, add-upto, add-number}
+use Rattle.numbers.proofs.Doubles.{k, o, Finite, Number, Upto, Small, finite, add-upto, add-number}
 use Rattle.trapezoid.proofs.Sizes.{small-more}
 use Rattle.strips.proofs.Sizes.{Framed}
 use Rattle.bits.proofs.Accepted.{UpFrom}
@@ -58,6 +58,7 @@ area-at (k ∷ ks) h (suc i) = area-at ks (h .1) i
 
 -- a sum of at most 4,096 areas, each at most 1e12
 pub record Sum (x : Float) : Type 0 where
+  pub num : Number x
   pub fine : Finite x
   pub low : o ≤ k x
   pub high : Upto 4096000000000000 x
@@ -65,7 +66,7 @@ pub record Sum (x : Float) : Type 0 where
 module _ (p : Planner) (h : (i : ℕ) → UpFrom posZero 1000000000000 (getD (p .areas) i posZero)) where
   summed-within : (cs : List Copy) (m : ℕ) (a : Float) → Small m a → o ≤ k a → m + 1000000000000 * length cs ≤ 4096000000000000 → Sum (summed p a cs)
   unfolding summed
-  summed-within [] m a S l b = let w : Small 4096000000000000 a = small-more S (omega arith) in record { fine = finite (S .num); low = l; high = w .bound }
+  summed-within [] m a S l b = let w : Small 4096000000000000 a = small-more S (omega arith) in record { num = S .num; fine = finite (S .num); low = l; high = w .bound }
   summed-within (c ∷ cs) m a S l b =
       let A = h (c .kind) in
       let r = add-upto (finite (S .num)) (finite (A .num)) (S .bound) (A .high) (le-trans (step m (length cs) b) (lit≤ tt)) in
@@ -78,7 +79,7 @@ module _ (p : Planner) (h : (i : ℕ) → UpFrom posZero 1000000000000 (getD (p 
       next : (m n : ℕ) → m + 1000000000000 * suc n ≤ 4096000000000000 → m + 1000000000000 + 1000000000000 * n ≤ 4096000000000000
       next m n b = omega arith
 
-  sums : (cs : List Copy) → length cs ≤ 4096 → Sum (summed p posZero cs)
+  pub sums : (cs : List Copy) → length cs ≤ 4096 → Sum (summed p posZero cs)
   sums cs l = summed-within cs 0 posZero zero-small (native.Mathlib.Nat.le-of-eq (sym (zero-key binary64))) (omega arith)
 
 -- ---- an accepted job
@@ -87,11 +88,11 @@ module _ (j : Job) (g : GoodJob j) where
   abbrev P : Planner
   P = plannerOf j
 
-  framed : Framed (P .bounds)
+  pub framed : Framed (P .bounds)
   unfolding plannerOf
   framed = set-framed (j .sheet) (g .sheetPoints) (g .sheet)
 
-  resolution-in : UpFrom milli 10000 (P .resolution)
+  pub resolution-in : UpFrom milli 10000 (P .resolution)
   unfolding plannerOf
   resolution-in = g .header .resolution
 
@@ -99,15 +100,15 @@ module _ (j : Job) (g : GoodJob j) where
   unfolding plannerOf plannerFits
   planner-fits = rw (resolution-fits (g .header .resolution), set-fits (j .sheet) (g .sheetPoints) (g .sheet) true, frame-fits (setBounds (j .sheet)) (set-framed (j .sheet) (g .sheetPoints) (g .sheet)), rows-fit (j .kinds) (g .kinds))
 
-  shape : (i o : ℕ) → FineShape (shapeOf P i o)
+  pub shape : (i o : ℕ) → FineShape (shapeOf P i o)
   unfolding plannerOf shapeOf
   shape i o = rows-fine (j .kinds) (g .kinds) i o
 
-  area : (i : ℕ) → UpFrom posZero 1000000000000 (getD (P .areas) i posZero)
+  pub area : (i : ℕ) → UpFrom posZero 1000000000000 (getD (P .areas) i posZero)
   unfolding plannerOf
   area i = area-at (j .kinds) (g .kinds) i
 
-  place : (i o : ℕ) (x y : Float) → Yielded P (shapeOf P i o) x y → Small 610000 x × Small 200000 y
+  pub place : (i o : ℕ) (x y : Float) → Yielded P (shapeOf P i o) x y → Small 610000 x × Small 200000 y
   place i o x y Y = place-small P (shapeOf P i o) resolution-in framed (shape i o .frame) x y Y
 
   right-bounded : (i o : ℕ) (x y : Float) → Yielded P (shapeOf P i o) x y → bounded (x ⊕ shapeOf P i o .bounds .right) ≡ true

@@ -9,7 +9,7 @@ use lib.Dec.{lit≤}
 use lib.ListN.{length, getD}
 use lib.Ieee.{Float, nan}
 use Rattle.numbers.specs.Numbers.{posZero}
-use Rattle.numbers.proofs.Doubles.{k, Small, finite}
+use Rattle.numbers.proofs.Doubles.{k, Number, Small, finite}
 use Rattle.trapezoid.specs.declared.Trapezoid.{Trapezoid}
 use Rattle.trapezoid.specs.Strip.{stripAt, flat, capacity, movedBy}
 use Rattle.trapezoid.proofs.Sizes.{Sized, small-more, moved-sized, moved-order}
@@ -44,7 +44,7 @@ all-more : {A : Type 0} (P Q : A → Type 0) → ((a : A) → P a → Q a) → (
 all-more P Q f [] h = tt
 all-more P Q f (a ∷ l) h = (f a (h .0), all-more P Q f l (h .1))
 
-all-upFrom : {A : Type 0} (P : A → Type 0) (f : ℕ → A) (n c : ℕ) → ((i : ℕ) → i < c + n → P (f i)) → All P (map f (upFrom n c))
+pub all-upFrom : {A : Type 0} (P : A → Type 0) (f : ℕ → A) (n c : ℕ) → ((i : ℕ) → i < c + n → P (f i)) → All P (map f (upFrom n c))
 unfolding upFrom
 all-upFrom P f zero c h = tt
 all-upFrom P f (suc n) c h = (h c (omega arith), all-upFrom P f n (suc c) (λ i b. h i (omega arith)))
@@ -93,6 +93,9 @@ flat-fits (s ∷ l) h = strips-append (flat (s ∷ [])) (flat l) (sixfold-flat (
 own-fits : (l : List Trapezoid) → All Good l → stripsFit (flat l) ≡ true
 own-fits l h = flat-fits l (all-more Good (λ (s : Trapezoid). stripFits s ≡ true) (λ s G. sized-fits s (G .sizes) (lit≤ tt) (lit≤ tt) (le-of-lt (G .order))) l h)
 
+good-at : (l : List Trapezoid) → All Good l → (i : ℕ) → i < length l → Good (stripAt (flat l) i)
+good-at l h i b = subst Good (sym (strip-at l i (stripAt (flat l) i) b)) (all-at Good l i (stripAt (flat l) i) h b)
+
 module _ (x y : Float) (X : Small 610000 x) (Y : Small 200000 y) where
   moved-fits : (s : Trapezoid) → Good s → stripFits (movedBy s x y) ≡ true
   moved-fits s G = sized-fits (movedBy s x y) (moved-sized s (G .sizes) X Y (lit≤ tt) (lit≤ tt)) (lit≤ tt) (lit≤ tt) (moved-order s (G .sizes) X Y (le-of-lt (G .order)))
@@ -101,10 +104,26 @@ module _ (x y : Float) (X : Small 610000 x) (Y : Small 200000 y) where
   unfolding movedStrips
   strips-moved l h =
       flat-fits (map (λ i. movedBy (stripAt (flat l) i) x y) (upFrom (capacity (flat l)) 0))
-      (all-upFrom (λ (s : Trapezoid). stripFits s ≡ true) (λ i. movedBy (stripAt (flat l) i) x y) (capacity (flat l)) 0 (λ i b. moved-fits (stripAt (flat l) i) (here i (let e = capacity-flat l in omega arith))))
-    where
-      here : (i : ℕ) → i < length l → Good (stripAt (flat l) i)
-      here i b = subst Good (sym (strip-at l i (stripAt (flat l) i) b)) (all-at Good l i (stripAt (flat l) i) h b)
+      (all-upFrom (λ (s : Trapezoid). stripFits s ≡ true) (λ i. movedBy (stripAt (flat l) i) x y) (capacity (flat l)) 0 (λ i b. moved-fits (stripAt (flat l) i) (good-at l h i (let e = capacity-flat l in omega arith))))
+
+-- ---- their numbers are finite and not minus zero
+
+flat-numbers : (n m : ℕ) (l : List Trapezoid) → All (Sized n m) l → All Number (flat l)
+unfolding flat
+flat-numbers n m [] h = tt
+flat-numbers n m (s ∷ l) h =
+    let S = h .0 in
+    (S .x0 .num, (S .x1 .num, (S .low0 .num, (S .low1 .num, (S .high0 .num, (S .high1 .num, flat-numbers n m l (h .1)))))))
+
+own-numbers : (l : List Trapezoid) → All Good l → All Number (flat l)
+own-numbers l h = flat-numbers 100000 300000 l (all-more Good (Sized 100000 300000) (λ s G. G .sizes) l h)
+
+moved-numbers : (x y : Float) → Small 610000 x → Small 200000 y → (l : List Trapezoid) → All Good l → All Number (movedStrips (flat l) x y)
+unfolding movedStrips
+moved-numbers x y X Y l h =
+    flat-numbers (100000 + 610000) (300000 + 200000) (map (λ i. movedBy (stripAt (flat l) i) x y) (upFrom (capacity (flat l)) 0))
+    (all-upFrom (Sized (100000 + 610000) (300000 + 200000)) (λ i. movedBy (stripAt (flat l) i) x y) (capacity (flat l)) 0
+    (λ i b. moved-sized (stripAt (flat l) i) (good-at l h i (let e = capacity-flat l in omega arith) .sizes) X Y (lit≤ tt) (lit≤ tt)))
 
 -- ---- a set of an accepted job
 
@@ -143,6 +162,14 @@ module _ (s : Set) (m : ℕ) (G : Sets.Good s m) where
   unfolding setStrips
   set-fits sheet = own-fits (trapezoids (s .points) (length (s .points) / 2) (s .ends) sheet) (set-good sheet)
 
+  pub set-numbers : (sheet : Bool) → All Number (setStrips sheet s)
+  unfolding setStrips
+  set-numbers sheet = own-numbers (trapezoids (s .points) (length (s .points) / 2) (s .ends) sheet) (set-good sheet)
+
+  set-moved-numbers : (sheet : Bool) (x y : Float) → Small 610000 x → Small 200000 y → All Number (movedStrips (setStrips sheet s) x y)
+  unfolding setStrips
+  set-moved-numbers sheet x y X Y = moved-numbers x y X Y (trapezoids (s .points) (length (s .points) / 2) (s .ends) sheet) (set-good sheet)
+
   pub set-moved : (sheet : Bool) (x y : Float) → Small 610000 x → Small 200000 y → stripsFit (movedStrips (setStrips sheet s) x y) ≡ true
   unfolding setStrips
   set-moved sheet x y X Y = strips-moved x y X Y (trapezoids (s .points) (length (s .points) / 2) (s .ends) sheet) (set-good sheet)
@@ -156,10 +183,20 @@ frame-fits b F = rw (small-bounded (F .left) (lit≤ tt), small-bounded (F .bott
 pub record FineShape (s : Shape) : Type 0 where
   pub frame : Framed (s .bounds)
   pub moved : (x y : Float) → Small 610000 x → Small 200000 y → stripsFit (movedStrips (s .apart) x y) ≡ true
+  pub apart-numbers : All Number (s .apart)
+  pub inset-numbers : All Number (s .inset)
+  pub moved-numbers : (x y : Float) → Small 610000 x → Small 200000 y → All Number (movedStrips (s .apart) x y)
 
 pub shape-fine : (t : Orientation) → GoodSets t → FineShape (shapeFor t)
 unfolding shapeFor
-shape-fine t G = record { frame = set-framed (t .inset) (G .insetPoints) (G .inset); moved = set-moved (t .apart) (G .apartPoints) (G .apart) false }
+shape-fine t G =
+    record {
+      frame = set-framed (t .inset) (G .insetPoints) (G .inset);
+      moved = set-moved (t .apart) (G .apartPoints) (G .apart) false;
+      apart-numbers = set-numbers (t .apart) (G .apartPoints) (G .apart) false;
+      inset-numbers = set-numbers (t .inset) (G .insetPoints) (G .inset) false;
+      moved-numbers = set-moved-numbers (t .apart) (G .apartPoints) (G .apart) false;
+    }
 
 pub shape-fits : (t : Orientation) → GoodSets t → shapeFits (shapeFor t) ≡ true
 unfolding shapeFor shapeFits
@@ -171,4 +208,11 @@ zero-side = small-more zero-small (lit≤ tt)
 
 pub lacking-fine : FineShape noShape
 unfolding noShape noBounds flat
-lacking-fine = record { frame = record { left = zero-side; bottom = zero-side; right = zero-side; top = zero-side }; moved = λ x y X Y. strips-moved x y X Y [] tt }
+lacking-fine =
+    record {
+      frame = record { left = zero-side; bottom = zero-side; right = zero-side; top = zero-side };
+      moved = λ x y X Y. strips-moved x y X Y [] tt;
+      apart-numbers = tt;
+      inset-numbers = tt;
+      moved-numbers = λ x y X Y. moved-numbers x y X Y [] tt;
+    }

@@ -9,7 +9,7 @@ ghost use Rattle.index.specs.Listing.{movingOf, heightsOf, meetingAt, pa
 use trapezoid::Trapezoid;
 
 // An entry of a bucket: the number of a standing strip.
-pub type Entry = u32;
+pub type Entry = usize;
 
 // The buckets: Index::BUCKETS of them, each `width` wide, the first from x0 on.
 pub struct Index {
@@ -117,7 +117,7 @@ pub fn entry(entries: &[Entry], e: usize) -> usize
     requires { ⌜ e < length (now entries) ⌝ }
     ensures { λ r. ⌜ r ≡ getD (now (entries .entry)) e 0 ⌝ }
 {
-    entries[e] as usize
+    entries[e]
 }
 
 // The forbidden heights of a pair that meets over a..b.

@@ -9,6 +9,7 @@ ghost use Rattle.index.specs.Listing.{intervals, Laid};
 ghost use Rattle.height.specs.Raising.{FiniteEnds};
 ghost use Rattle.look.specs.Ready.{Lookable};
 use height::Look;
+use index::Entry;
 use index::Index;
 use look::Answer;
 
@@ -38,10 +39,10 @@ pub extern "C" fn panel_look(
     inset: &[f64],
     apart: &[f64],
     sheet: &[f64],
-    sheet_entries: &[u32],
+    sheet_entries: &[Entry],
     sheet_starts: &[usize],
     placed: &[f64],
-    placed_entries: &[u32],
+    placed_entries: &[Entry],
     placed_starts: &[usize],
     room: &mut [f64],
 ) -> f64
@@ -80,11 +81,11 @@ pub extern "C" fn panel_enter(
     standing: &[f64],
     from: usize,
     to: usize,
-    entries: &mut [u32],
+    entries: &mut [Entry],
     starts: &mut [usize],
     gains: &mut [usize],
 ) -> bool
-    requires { ⌜ (from ≤ to) × (6 * to ≤ length (now standing)) × (to ≤ 4294967296) × (length (now gains) ≡ buckets) × Laid (record { x0 = x0; width = width }) (now standing) from (now entries) (now starts) ⌝ }
+    requires { ⌜ (from ≤ to) × (6 * to ≤ length (now standing)) × (length (now gains) ≡ buckets) × Laid (record { x0 = x0; width = width }) (now standing) from (now entries) (now starts) ⌝ }
 {
     let ix = Index {
         x0: x0,

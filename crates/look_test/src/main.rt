@@ -363,9 +363,9 @@ fn turn(
 
 fn main() {
     let mut strips = [0.0f64; 6120];
-    let mut se = [0u32; 130560];
+    let mut se = [0usize; 130560];
     let mut ss = [0usize; 513];
-    let mut pe = [0u32; 130560];
+    let mut pe = [0usize; 130560];
     let mut ps = [0usize; 513];
     let mut gains = [0usize; 512];
     let mut room = [0.0f64; 510];

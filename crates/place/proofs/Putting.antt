@@ -2,13 +2,12 @@
 use Prim.Native.Nat.{ℕ, zero, suc, _+_, _-_, _*_, _/_, _<_, _≤_}
 use native.Mathlib.Omega.{arith}
 use mathlib.Core.Path.{_≡_, refl, sym, ap, _∙_, subst, subst⁻¹}
-use mathlib.Core.Bool.{Bool, true, false, cond}
-use mathlib.Core.List.{List, []}
-use lib.ListN.{length, getD, set, take, drop, length-take, length-drop}
+use mathlib.Core.Bool.{Bool, true, false}
+use mathlib.Core.List.{List}
+use lib.ListN.{length, getD, set, take}
 use lib.Seq.{length-take-le}
-use lib.Dec.{leb}
 use lib.Ieee.{Float}
-use Rattle.trapezoid.specs.Strip.{capacity, partOf}
+use Rattle.trapezoid.specs.Strip.{capacity}
 use Rattle.strips.specs.declared.Rect.{Rect}
 use Rattle.index.specs.declared.Index.{Index}
 use Rattle.index.specs.Listing.{Laid}
@@ -29,22 +28,6 @@ use Rattle.place.specs.declared.Outcome.{Outcome}
 use Rattle.place.specs.declared.Outcome.the-variants.{At, Nowhere, Refused}
 use Rattle.place.specs.declared.Step.{Step}
 use Rattle.place.specs.Placing.{step, afterOf, withoutOf, PutLeft, put, putLeft, putOf, settleOf, Among, Under, Placed, done, placeWith, placeOf}
-
--- ---- a part of the apart strips
-part-in : (room : List Float) (from count : ℕ) → length (partOf room from count) ≤ length room
-unfolding partOf
-part-in room from count = go (leb (from + count) (capacity room))
-  where
-    go : (b : Bool) → length (cond b (take (6 * count) (drop (6 * from) room)) []) ≤ length room
-    go true = let a = length-take (6 * count) (drop (6 * from) room) in let b = length-drop (6 * from) room in omega arith
-    go false = omega arith
-
-pub part-short : (q : List Float) (room : List Float) (from count : ℕ) → q ≡ partOf room from count → length room < 4294967296 → length q < 4294967296
-part-short q room from count e h = let l = part-in room from count in let d = ap length e in omega arith
-
-pub sum-fits : (q placed : List Float) (n k : ℕ) → 6 * n ≤ length placed → length placed < 4294967296 → k ≡ capacity q → length q < 4294967296 → n + k < 18446744073709551616
-unfolding capacity
-sum-fits q placed n k a b e h = let d : k ≡ length q / 6 = e in omega arith
 
 -- ---- the winner is stored
 module _ (ix : Index) (p : Choice) (q : Part) (t : Totals) (apart placed : List Float) (e s : List ℕ) (part : List Float) (k : ℕ) (stored : Stored) (p' : List Float) (e' s' : List ℕ) (r : Step)

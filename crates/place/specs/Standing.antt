@@ -15,7 +15,6 @@ use Rattle.choose.specs.Choosing.{partAt, insetPart, apartPart, World, columnsA
 pub record Standing (ix : Index) (placed : List Float) (n : ℕ) (entries starts : List ℕ) : Type 0 where
   pub laid : Laid ix placed n entries starts
   pub strips : (i : ℕ) → i < n → BoundedStrip (stripAt placed i)
-  pub short : length placed < 4294967296
 
 -- what the job fixes of slot i, whatever stands
 pub record Fixed (ix : Index) (w : World) (sheet-entries sheet-starts : List ℕ) (i : ℕ) : Type 0 where

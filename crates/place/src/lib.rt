@@ -80,7 +80,7 @@ fn put_copy<'a>(
     starts: &mut [usize],
     gains: &mut [usize],
 ) -> Step
-    requires { ⌜ Laid ix (now placed) (t .«placed_strips») (now entries) (now starts) × (length (now placed) < 4294967296) × (length (now apart) < 4294967296) × (length (now gains) ≡ buckets) ⌝ }
+    requires { ⌜ Laid ix (now placed) (t .«placed_strips») (now entries) (now starts) × (length (now gains) ≡ buckets) ⌝ }
     ensures { λ r. ⌜ (put r (now (placed .exit)) (now (entries .exit)) (now (starts .exit)) ≡ putOf ix p q t (now (apart .entry)) (now (placed .entry)) (now (entries .entry)) (now (starts .entry))) × Laid ix (now (placed .exit)) (r .totals .«placed_strips») (now (entries .exit)) (now (starts .exit)) ⌝ }
 {
     let part = trapezoid::strips_of(apart, inset, false, q.apart_start, q.apart_count);
@@ -129,7 +129,7 @@ fn settle<'a>(
     starts: &mut [usize],
     gains: &mut [usize],
 ) -> Step
-    requires { ⌜ Laid ix (now placed) (t .«placed_strips») (now entries) (now starts) × (length (now placed) < 4294967296) × (length (now apart) < 4294967296) × (length (now gains) ≡ buckets) × ((o : ℕ) → o < n → 4 * (slot + o) + 4 ≤ length (now parts)) × Among n winner × (slot + n ≤ 1024) ⌝ }
+    requires { ⌜ Laid ix (now placed) (t .«placed_strips») (now entries) (now starts) × (length (now gains) ≡ buckets) × ((o : ℕ) → o < n → 4 * (slot + o) + 4 ≤ length (now parts)) × Among n winner × (slot + n ≤ 1024) ⌝ }
     ensures { λ r. ⌜ (put r (now (placed .exit)) (now (entries .exit)) (now (starts .exit)) ≡ settleOf ix winner area slot t (now (parts .entry)) (now (apart .entry)) (now (placed .entry)) (now (entries .entry)) (now (starts .entry))) × Laid ix (now (placed .exit)) (r .totals .«placed_strips») (now (entries .exit)) (now (starts .exit)) ⌝ }
 {
     match winner {
@@ -171,7 +171,7 @@ pub fn place_copy<'a>(
     next_column: &mut [usize],
 ) -> Step
     requires { ⌜ ((o : ℕ) → o < n → Fixed ix (world (length (now room) / 2) bounds resolution (now «inset_bounds») (now parts) (now apart) (now inset) (now sheet) (take (6 * t .«placed_strips») (now placed))) (now «sheet_entries») (now «sheet_starts») (slot + o)) × (slot + n ≤ length (now «look_counts»)) × (slot + n ≤ length (now «next_column»)) × ((o : ℕ) → o < n → getD (now «look_counts») (slot + o) 0 + 4000000002 < 2 ^ 64) × (slot + n ≤ 1024)
-        × Standing ix (now placed) (t .«placed_strips») (now entries) (now starts) × (length (now apart) < 4294967296) × (length (now gains) ≡ buckets) ⌝ }
+        × Standing ix (now placed) (t .«placed_strips») (now entries) (now starts) × (length (now gains) ≡ buckets) ⌝ }
     ensures { λ r. ⌜ (done r (now (placed .exit)) (now (entries .exit)) (now (starts .exit)) (now («look_counts» .exit)) (now («next_column» .exit)) ≡ placeOf ix (world (length (now (room .entry)) / 2) bounds resolution (now («inset_bounds» .entry)) (now (parts .entry)) (now (apart .entry)) (now (inset .entry)) (now (sheet .entry)) (take (6 * t .«placed_strips») (now (placed .entry)))) area slot n t (now (placed .entry)) (now (entries .entry)) (now (starts .entry)) (now («look_counts» .entry)) (now («next_column» .entry)))
         × Laid ix (now (placed .exit)) (r .totals .«placed_strips») (now (entries .exit)) (now (starts .exit)) × Under n (r .outcome) ⌝ }
 {

@@ -1,14 +1,15 @@
 -- Storing a whole copy: 20, 21, or what is left. Assumes nothing.
 use Prim.Native.Nat.{ℕ, zero, suc, _+_, _-_, _*_, _/_, _<_, _≤_}
 use native.Mathlib.Omega.{arith}
+use native.Mathlib.Nat.{le-refl}
 use native.Mathlib.Numerals.{add-one}
 use mathlib.Core.Path.{_≡_, refl, sym, ap, _∙_, subst, subst⁻¹}
 use mathlib.Core.Bool.{Bool, true, false}
 use mathlib.Core.List.{List, _++_}
 use lib.ListN.{length, getD, take, drop}
-use lib.Dec.{ltb}
+use lib.Dec.{ltb, leb}
 use lib.Ieee.{Float}
-use borrow.Author.Tests.{lt-ltb, le-ltb}
+use borrow.Author.Tests.{lt-ltb, le-ltb, le-leb, lt-leb, leb-true, leb-false}
 use Rattle.numbers.specs.Numbers.{_⊕_}
 use Rattle.trapezoid.specs.declared.Trapezoid.{Trapezoid}
 use Rattle.trapezoid.specs.Strip.{stripAt, setStrip, capacity, movedBy}
@@ -26,10 +27,6 @@ use Rattle.store.specs.declared.Stored.the-variants.{NoStrips, NoEntries
 use Rattle.store.specs.Storing.{movedTo, widthAt, widthsTo, Left, left, together, storeOf}
 use Rattle.store.proofs.Strips.{after-length, after-before, after-strip, strips-count, after-laid, strips-same}
 use Rattle.store.proofs.Widths.{entries-same, starts-same, entries-more}
-
-pub few-strips : (l : List Float) → length l < 4294967296 → capacity l < 4294967296
-unfolding capacity
-few-strips l h = let q : length l / 6 < 4294967296 = omega arith in q
 
 pub widths-start : (ix : Index) (apart : List Float) (x : Float) → 0 ≡ widthsTo ix apart x 0
 unfolding widthsTo
@@ -125,14 +122,14 @@ module _ (ix : Index) (apart : List Float) (x y : Float) (n : ℕ) (p : List Flo
     pub six-after : (k' : ℕ) (q : List Float) → k' ≡ k → q ≡ p' → 6 * (n + k') ≤ length q
     six-after k' q d E = let l = ap length E ∙ after-length apart x y n p k in let g = six-in in omega arith
 
-    pub number-after : (k' : ℕ) → k' ≡ k → length p < 4294967296 → n + k' ≤ 4294967296
-    number-after k' d h = let g = six-in in omega arith
-
     pub laid-on : (q : List Float) → q ≡ p' → Laid ix q n e s
     laid-on q E = subst⁻¹ (λ (z : List Float). Laid ix z n e s) E laid-still
 
-    pub full-is : (more : ℕ) → more ≡ widthsTo ix apart x k → length e - getD s buckets 0 < more → left NoEntries p e s ≡ storeOf ix apart x y n p e s
-    full-is more d h = store-full (subst (λ (z : ℕ). length e - getD s buckets 0 < z) d h)
+    pub full-is : (r : Bool) → r ≡ leb (widthsTo ix apart x k) (length e - getD s buckets 0) → r ≡ false → left NoEntries p e s ≡ storeOf ix apart x y n p e s
+    full-is r d h = store-full (leb-false (widthsTo ix apart x k) (length e - getD s buckets 0) (sym d ∙ h))
+
+    pub room-is : (r : Bool) → r ≡ leb (widthsTo ix apart x k) (length e - getD s buckets 0) → r ≡ true → widthsTo ix apart x k ≤ length e - getD s buckets 0
+    room-is r d h = leb-true (widthsTo ix apart x k) (length e - getD s buckets 0) (sym d ∙ h)
 
   pub short-is : (cap k' : ℕ) → cap ≡ capacity p → k' ≡ k → cap < n + k' → left NoStrips p e s ≡ storeOf ix apart x y n p e s
   short-is cap k' a b h = store-short (omega arith)
@@ -140,8 +137,10 @@ module _ (ix : Index) (apart : List Float) (x y : Float) (n : ℕ) (p : List Flo
   pub fits-is : (cap k' : ℕ) → cap ≡ capacity p → k' ≡ k → n + k' ≤ cap → n + k ≤ capacity p
   fits-is cap k' a b h = omega arith
 
-  pub sum-fits : (k' : ℕ) → k' ≡ k → length p < 4294967296 → length apart < 4294967296 → n + k' < 18446744073709551616
-  sum-fits k' d h g = let f = few-strips apart g in let r = L .room in omega arith
+-- two slices hold so few strips
+pub sum-fits : (p q : List Float) (n k : ℕ) → 6 * n ≤ length p → length p < 18446744073709551616 → k ≡ capacity q → length q < 18446744073709551616 → n + k < 18446744073709551616
+unfolding capacity
+sum-fits p q n k a b e h = let d : k ≡ length q / 6 = e in omega arith
 
 -- ---- the loops
 pub in-room : (l : List Float) (j c : ℕ) → c ≡ capacity l → j < c → 6 * j + 6 ≤ length l
@@ -166,46 +165,59 @@ moved-length apart x y n p j q e = ap length e ∙ after-length apart x y n p j
 pub moved-end : (apart : List Float) (x y : Float) (n : ℕ) (p q : List Float) (j c : ℕ) → c ≡ capacity apart → j ≤ capacity apart → c ≤ j → q ≡ movedTo apart x y n p j → q ≡ movedTo apart x y n p (capacity apart)
 moved-end apart x y n p q j c d l h e = e ∙ ap (movedTo apart x y n p) (let z : j ≡ capacity apart = omega arith in z)
 
-pub widths-end : (ix : Index) (apart : List Float) (x : Float) (a j c : ℕ) → c ≡ capacity apart → j ≤ capacity apart → c ≤ j → a ≡ widthsTo ix apart x j → a ≡ widthsTo ix apart x (capacity apart)
-widths-end ix apart x a j c d l h e = e ∙ ap (widthsTo ix apart x) (let z : j ≡ capacity apart = omega arith in z)
+-- more strips, more entries
+widths-up : (ix : Index) (apart : List Float) (x : Float) (j d : ℕ) → widthsTo ix apart x j ≤ widthsTo ix apart x (j + d)
+widths-up ix apart x j zero = let e : j + 0 ≡ j = omega arith in rw e (le-refl (widthsTo ix apart x j))
+widths-up ix apart x j (suc d) =
+    let e : j + suc d ≡ suc (j + d) = omega arith in
+    let h = widths-up ix apart x j d in
+    let s = widths-next ix apart x (j + d) (widthsTo ix apart x (j + d)) (widthAt ix (stripAt apart (j + d)) x) refl refl in
+    rw e (omega arith)
 
--- the strips counted so far, and how many entries they have at most
-pub record Counting (ix : Index) (apart : List Float) (x : Float) (n j : ℕ) : Type 0 where
+-- what is left of the room after the first j strips
+pub record Counting (ix : Index) (apart : List Float) (x : Float) (room rest j : ℕ) : Type 0 where
   pub upto : j ≤ capacity apart
-  pub small : n ≤ 512 * j
-  pub same : n ≡ widthsTo ix apart x j
+  pub same : room ≡ rest + widthsTo ix apart x j
 
-pub counting-start : (ix : Index) (apart : List Float) (x : Float) → Counting ix apart x 0 0
-counting-start ix apart x = record { upto = omega arith; small = omega arith; same = widths-start ix apart x }
+pub counting-start : (ix : Index) (apart : List Float) (x : Float) (room : ℕ) → Counting ix apart x room room 0
+counting-start ix apart x room = record { upto = omega arith; same = (let z = widths-start ix apart x in omega arith) }
 
-pub counting-next : (ix : Index) (apart : List Float) (x : Float) (n j c w : ℕ) (q : Trapezoid) → Counting ix apart x n j → c ≡ capacity apart → j < c → q ≡ stripAt apart j → (w ≡ widthAt ix q x) × (w ≤ buckets) → Counting ix apart x (n + w) (j + 1)
-counting-next ix apart x n j c w q g e h d f =
-    record {
-      upto = omega arith;
-      small = (let a = g .small in let b = f .1 in omega arith);
-      same = widths-next ix apart x j n w (g .same) (f .0 ∙ ap (λ (z : Trapezoid). widthAt ix z x) d) ∙ ap (widthsTo ix apart x) (sym (add-one j));
-    }
+module _ (ix : Index) (apart : List Float) (x : Float) (room rest j c : ℕ) (g : Counting ix apart x room rest j) (e : c ≡ capacity apart) where
+  module _ (w : ℕ) (q : Trapezoid) (h : j < c) (d : q ≡ stripAt apart j) (f : w ≡ widthAt ix q x) where
+    next : widthsTo ix apart x j + w ≡ widthsTo ix apart x (j + 1)
+    next = widths-next ix apart x j (widthsTo ix apart x j) w refl (f ∙ ap (λ (z : Trapezoid). widthAt ix z x) d) ∙ ap (widthsTo ix apart x) (sym (add-one j))
 
-pub counting-fits : (ix : Index) (apart : List Float) (x : Float) (n j c w : ℕ) → Counting ix apart x n j → length apart < 4294967296 → c ≡ capacity apart → j < c → w ≤ buckets → n + w < 18446744073709551616
-counting-fits ix apart x n j c w g l e h b = let a = g .small in let f = few-strips apart l in omega arith
+    pub counting-next : w ≤ rest → Counting ix apart x room (rest - w) (j + 1)
+    counting-next l = record { upto = omega arith; same = (let a = g .same in let b = next in omega arith) }
+
+    pub counting-over : rest < w → false ≡ leb (widthsTo ix apart x (capacity apart)) room
+    counting-over l =
+        let k : j + 1 + (capacity apart - (j + 1)) ≡ capacity apart = omega arith in
+        let u : widthsTo ix apart x (j + 1) ≤ widthsTo ix apart x (capacity apart) = subst (λ (z : ℕ). widthsTo ix apart x (j + 1) ≤ widthsTo ix apart x z) k (widths-up ix apart x (j + 1) (capacity apart - (j + 1))) in
+        let a = g .same in
+        let b = next in
+        sym (lt-leb (widthsTo ix apart x (capacity apart)) room (omega arith))
+
+  pub counting-end : c ≤ j → true ≡ leb (widthsTo ix apart x (capacity apart)) room
+  counting-end h =
+      let z : j ≡ capacity apart = (let u = g .upto in omega arith) in
+      let a : room ≡ rest + widthsTo ix apart x (capacity apart) = subst (λ (k : ℕ). room ≡ rest + widthsTo ix apart x k) z (g .same) in
+      sym (le-leb (widthsTo ix apart x (capacity apart)) room (omega arith))
 
 -- ---- one strip's width
-pub width-none : (ix : Index) (q : Trapezoid) (x : Float) (l f : ℕ) → f ≡ bucketIn ix (q .x0 ⊕ x) → l ≡ bucketIn ix (q .x1 ⊕ x) → l < f → (0 ≡ widthAt ix q x) × (0 ≤ buckets)
+pub width-none : (ix : Index) (q : Trapezoid) (x : Float) (l f : ℕ) → f ≡ bucketIn ix (q .x0 ⊕ x) → l ≡ bucketIn ix (q .x1 ⊕ x) → l < f → 0 ≡ widthAt ix q x
 unfolding widthAt
-width-none ix q x l f d e h = (go (bucketIn ix (q .x1 ⊕ x)) (bucketIn ix (q .x0 ⊕ x)) e d, omega arith)
+width-none ix q x l f d e h = go (bucketIn ix (q .x1 ⊕ x)) (bucketIn ix (q .x0 ⊕ x)) e d
   where
     go : (a b : ℕ) → l ≡ a → f ≡ b → 0 ≡ a + 1 - b
     go a b p r = omega arith
 
-pub width-some : (ix : Index) (q : Trapezoid) (x : Float) (l f : ℕ) → f ≡ bucketIn ix (q .x0 ⊕ x) → l ≡ bucketIn ix (q .x1 ⊕ x) → (l + 1 - f ≡ widthAt ix q x) × (l + 1 - f ≤ buckets)
+pub width-some : (ix : Index) (q : Trapezoid) (x : Float) (l f : ℕ) → f ≡ bucketIn ix (q .x0 ⊕ x) → l ≡ bucketIn ix (q .x1 ⊕ x) → l + 1 - f ≡ widthAt ix q x
 unfolding widthAt
-width-some ix q x l f d e = (go (bucketIn ix (q .x1 ⊕ x)) (bucketIn ix (q .x0 ⊕ x)) e d, few (bucketIn ix (q .x1 ⊕ x)) e (bucket-top ix (q .x1 ⊕ x)))
+width-some ix q x l f d e = go (bucketIn ix (q .x1 ⊕ x)) (bucketIn ix (q .x0 ⊕ x)) e d
   where
     go : (a b : ℕ) → l ≡ a → f ≡ b → l + 1 - f ≡ a + 1 - b
     go a b p r = omega arith
-
-    few : (a : ℕ) → l ≡ a → a ≤ 511 → l + 1 - f ≤ 512
-    few a p r = omega arith
 
 pub bucket-next : (ix : Index) (x : Float) (l : ℕ) → l ≡ bucketIn ix x → l + 1 < 18446744073709551616
 bucket-next ix x l e = let t = bucket-top ix x in omega arith

@@ -3,6 +3,7 @@
 ghost use mathlib.Core.Path.{_≡_};
 ghost use Prim.Native.Nat.{_+_, _*_, _≤_, _<_};
 ghost use lib.ListN.{length};
+ghost use lib.Dec.{leb};
 ghost use Rattle.trapezoid.specs.Strip.{capacity};
 ghost use Rattle.index.specs.Buckets.{buckets};
 ghost use Rattle.index.specs.Listing.{Laid};
@@ -34,7 +35,7 @@ fn store_moved(apart: &[f64], x: f64, y: f64, placed: &mut [f64], n: usize)
 
 // How many buckets the strip q, moved by x, is entered in.
 fn width_at(ix: Index, q: Trapezoid, x: f64) -> usize
-    ensures { λ r. ⌜ (r ≡ widthAt ix q x) × (r ≤ buckets) ⌝ }
+    ensures { λ r. ⌜ r ≡ widthAt ix q x ⌝ }
 {
     let first = ix.bucket(q.x0 + x);
     let last = ix.bucket(q.x1 + x);
@@ -44,20 +45,23 @@ fn width_at(ix: Index, q: Trapezoid, x: f64) -> usize
     last + 1 - first
 }
 
-// How many entries the apart strips, moved by x, have.
-fn entries_of(ix: Index, apart: &[f64], x: f64) -> usize
-    requires { ⌜ length (now apart) < 4294967296 ⌝ }
-    ensures { λ r. ⌜ r ≡ widthsTo ix (now (apart .entry)) x (capacity (now (apart .entry))) ⌝ }
+// Whether the apart strips, moved by x, have at most `left` entries.
+fn entries_fit(ix: Index, apart: &[f64], x: f64, left: usize) -> bool
+    ensures { λ r. ⌜ r ≡ leb (widthsTo ix (now (apart .entry)) x (capacity (now (apart .entry)))) left ⌝ }
 {
     let count = trapezoid::capacity(apart);
-    let mut n: usize = 0;
+    let mut rest = left;
     let mut j = 0;
     while j < count {
         let q = trapezoid::load(apart, j);
-        n += width_at(ix, q, x);
+        let width = width_at(ix, q, x);
+        if rest < width {
+            return false;
+        }
+        rest -= width;
         j += 1;
     }
-    n
+    true
 }
 
 // A copy's strips, moved, go after the n placed strips, and into the entries. `gains` is a table of
@@ -73,19 +77,18 @@ pub fn store_copy(
     starts: &mut [usize],
     gains: &mut [usize],
 ) -> Stored
-    requires { ⌜ Laid ix (now placed) n (now entries) (now starts) × (length (now placed) < 4294967296) × (length (now apart) < 4294967296) × (length (now gains) ≡ buckets) ⌝ }
+    requires { ⌜ Laid ix (now placed) n (now entries) (now starts) × (length (now gains) ≡ buckets) ⌝ }
     ensures { λ r. ⌜ (left r (now (placed .exit)) (now (entries .exit)) (now (starts .exit)) ≡ storeOf ix (now (apart .entry)) x y n (now (placed .entry)) (now (entries .entry)) (now (starts .entry))) × Entered ix n (capacity (now (apart .entry))) (now (placed .exit)) (now (entries .exit)) (now (starts .exit)) r ⌝ }
 {
     let k = trapezoid::capacity(apart);
     if trapezoid::capacity(placed) < n + k {
         return Stored::NoStrips;
     }
-    let held = starts[Index::BUCKETS];
-    let more = entries_of(ix, apart, x);
-    if entries.len() - held < more {
-        return Stored::NoEntries;
+    let rest = entries.len() - starts[Index::BUCKETS];
+    if entries_fit(ix, apart, x, rest) {
+        store_moved(apart, x, y, placed, n);
+        enter::enter_copy(ix, placed, n, n + k, entries, starts, gains);
+        return Stored::Done;
     }
-    store_moved(apart, x, y, placed, n);
-    enter::enter_copy(ix, placed, n, n + k, entries, starts, gains);
-    Stored::Done
+    Stored::NoEntries
 }

@@ -29,35 +29,33 @@ use Rattle.enter.proofs.open_all.Reads as open-all-reads
 clear-requires : tie.Need-clear-requires
 clear-requires c κs = search needs
 
+slice-read-left : tie.Need-slice-read-left
+slice-read-left c = search needs
+
+sub-left : tie.Need-sub-left
+sub-left c = let z = c .before .before .before .before .before .before .before .before .before .pre .3 .within buckets (omega arith) in omega arith
+
 count-requires : tie.Need-count-requires
-count-requires c κs = let p = c .before .before .before .before .before .before .before .before .before .pre in
-    let z = c .before .before .before .clear .ensures in
-    (p .0, p .1, p .2, z .0 ∙ p .3, λ d a. z .1 d (omega (arith, p .3)))
-
-slice-read-held : tie.Need-slice-read-held
-slice-read-held c = search needs
-
-sub-if1 : tie.Need-sub-if1
-sub-if1 c = let p = c .before .before .before .before .before .before .before .before .before .before .before .before .before .pre in let z = p .4 .within buckets (omega arith) in omega arith
+count-requires c κs = let p = c .before .before .before .before .before .before .before .before .before .before .pre in
+    let z = c .before .before .before .before .clear .ensures in
+    (p .0, p .1, z .0 ∙ p .2, λ d a. z .1 d (omega (arith, p .2)))
 
 open-all-requires : tie.Need-open-all-requires
-open-all-requires c κs = let g = c .before .before .before .before .before .before .before .before .before .before .before .before .before .before .before .before .before .before .args in
-    let p = c .before .before .before .before .before .before .before .before .before .before .before .before .before .before .before .before .before .before .pre in
-    let z = c .before .before .before .before .before .before .before .before .before .before .before .before .clear .ensures in
-    let y = p .4 .within buckets (omega arith) in
-    let n = c .before .before .before .before .before .before .before .before .count .ensures in
-    (p .4 .table, p .4 .rise, c .before .before .before .before .before .before .before .before .count .kept .1 .1 .1 .1 .0 ∙ (z .0 ∙ p .3), n .1, omega (arith, c .before .before .before .if1 .taken), n .2, n .3)
+open-all-requires c κs = let g = c .before .before .before .before .before .before .before .before .before .before .before .before .before .before .before .before .before .args in
+    let p = c .before .before .before .before .before .before .before .before .before .before .before .before .before .before .before .before .before .pre in
+    let z = c .before .before .before .before .before .before .before .before .before .before .before .clear .ensures in
+    let y = p .3 .within buckets (omega arith) in
+    let n = c .before .before .before .before .before .before .count .ensures .0 (c .before .before .before .if1 .taken) in
+    (p .3 .table, p .3 .rise, c .before .before .before .before .before .before .count .kept .1 .1 .1 .1 .1 .0 ∙ (z .0 ∙ p .2), n .1, omega (arith, n .2), n .3, n .4)
 
 fill-requires : tie.Need-fill-requires
-fill-requires c κs = let g = c .before .before .before .before .before .before .before .before .before .before .before .before .before .before .before .before .before .before .before .before .before .before .before .before .before .args in
-    let p = c .before .before .before .before .before .before .before .before .before .before .before .before .before .before .before .before .before .before .before .before .before .before .before .before .before .pre in
-    let C = c .before .before .before .before .before .before .before .before .before .before .before .before .before .before .before .count .ensures .0 in
+fill-requires c κs = let g = c .before .before .before .before .before .before .before .before .before .before .before .before .before .before .before .before .before .before .before .before .before .before .before .before .args in
+    let p = c .before .before .before .before .before .before .before .before .before .before .before .before .before .before .before .before .before .before .before .before .before .before .before .before .pre in
+    let n = c .before .before .before .before .before .before .before .before .before .before .before .before .before .count .ensures .0 (c .before .before .before .before .before .before .before .before .before .before .if1 .taken) in
     let O = c .before .before .before .before .before .before .open-all .ensures in
-    let A = all-entries (g .ix) (g .standing .now) (g .from) (g .to) (p .0) (g .entries .now) (g .starts .now) _ (p .4) C in
-    let y = p .4 .within buckets (omega arith) in
-    let t = c .before .before .before .before .before .before .before .before .before .before .before .before .before .before .before .count .ensures .1 in
-    let f = c .before .before .before .before .before .before .before .before .before .before .if1 .taken in
-    (p .0, p .1, p .2, omega (arith, O .size), copy-blocks (g .ix) (g .standing .now) (g .from) (g .to) (p .0) (g .entries .now) (g .starts .now) _ (p .4) C _ _ O)
+    let A = all-entries (g .ix) (g .standing .now) (g .from) (g .to) (p .0) (g .entries .now) (g .starts .now) _ (p .3) (n .0) in
+    let y = p .3 .within buckets (omega arith) in
+    (p .0, p .1, omega (arith, O .size, n .1, n .2), copy-blocks (g .ix) (g .standing .now) (g .from) (g .to) (p .0) (g .entries .now) (g .starts .now) _ (p .3) (n .0) _ _ O)
 
 same-length : tie.Need-same-length
 same-length c = search needs
@@ -69,39 +67,34 @@ same-length-3 : tie.Need-same-length-3
 same-length-3 c = search needs
 
 returns : tie.Need-returns
-returns c = let g = c .before .before .before .before .before .before .before .before .before .before .before .before .before .before .before .before .before .before .before .before .before .before .before .before .before .before .before .before .before .before .args in
-    let p = c .before .before .before .before .before .before .before .before .before .before .before .before .before .before .before .before .before .before .before .before .before .before .before .before .before .before .before .before .before .before .pre in
-    let C = c .before .before .before .before .before .before .before .before .before .before .before .before .before .before .before .before .before .before .before .before .count .ensures .0 in
+returns c = let g = c .before .before .before .before .before .before .before .before .before .before .before .before .before .before .before .before .before .before .before .before .before .before .before .before .before .before .before .before .before .args in
+    let p = c .before .before .before .before .before .before .before .before .before .before .before .before .before .before .before .before .before .before .before .before .before .before .before .before .before .before .before .before .before .pre in
+    let n = c .before .before .before .before .before .before .before .before .before .before .before .before .before .before .before .before .before .before .count .ensures .0 (c .before .before .before .before .before .before .before .before .before .before .before .before .before .before .before .if1 .taken) in
     let O = c .before .before .before .before .before .before .before .before .before .before .before .open-all .ensures in
-    let y = p .4 .within buckets (omega arith) in
-    let t = c .before .before .before .before .before .before .before .before .before .before .before .before .before .before .before .before .before .before .before .before .count .ensures .1 in
-    let f = c .before .before .before .before .before .before .before .before .before .before .before .before .before .before .before .if1 .taken in
+    let y = p .3 .within buckets (omega arith) in
+    let t = n .1 in
+    let f = n .2 in
     let F = c .before .before .before .before .fill .ensures in
     let K = c .before .before .before .before .fill .kept .1 .1 .1 .1 in (
-      copy-entered (g .ix) (g .standing .now) (g .from) (g .to) (p .0) (g .entries .now) (g .starts .now) _ (p .4) C _ _ _ _ (p .1) (omega arith) O (K .0) (F .0) (F .1),
-      λ q. copy-laid (g .ix) (g .standing .now) (g .from) (g .to) (p .0) (g .entries .now) (g .starts .now) _ (p .4) C _ _ _ _ (p .1) (omega arith) O (K .0) (F .0),
+      copy-entered (g .ix) (g .standing .now) (g .from) (g .to) (p .0) (g .entries .now) (g .starts .now) _ (p .3) (n .0) _ _ _ _ (p .1) (omega arith) O (K .0) (F .0) (F .1),
+      λ q. copy-laid (g .ix) (g .standing .now) (g .from) (g .to) (p .0) (g .entries .now) (g .starts .now) _ (p .3) (n .0) _ _ _ _ (p .1) (omega arith) O (K .0) (F .0),
     )
 
 same-length-4 : tie.Need-same-length-4
 same-length-4 c = search needs
 
 returns-2 : tie.Need-returns-2
-returns-2 c = let g = c .before .before .before .before .before .before .before .before .before .before .before .before .before .before .before .args in
-    let p = c .before .before .before .before .before .before .before .before .before .before .before .before .before .before .before .pre in
-    let C = c .before .before .before .before .before .count .ensures .0 in
-    let y = p .4 .within buckets (omega arith) in
-    let t = c .before .before .before .before .before .count .ensures .1 in
-    let f = c .if1 .left in
-    (copy-refused (g .ix) (g .standing .now) (g .from) (g .to) (p .0) (g .entries .now) (g .starts .now) _ (p .4) C (omega arith), λ q. absurd (mathlib.Core.Bool.true≢false (sym q)))
+returns-2 c = let g = c .before .before .before .before .before .before .before .before .before .before .before .before .before .before .args in
+    (copy-refused (g .ix) (g .standing .now) (g .from) (g .to) _ (g .entries .now) (g .starts .now) (c .before .before .before .before .before .before .before .before .before .before .before .before .before .before .pre .3) refl (c .before .before .before .count .ensures .1 (c .if1 .left)), λ q. absurd (mathlib.Core.Bool.true≢false (sym q)))
 
 pub enter-copy-spec : {M : Type 1} → statement M
 enter-copy-spec =
     tie.close
     (tie.spec
     clear-requires
+    slice-read-left
+    sub-left
     count-requires
-    slice-read-held
-    sub-if1
     open-all-requires
     fill-requires
     same-length

@@ -31,7 +31,7 @@ abbrev μ-loop : tie.MeasureT-loop
 μ-loop ix standing from to entries₀ starts₀ i₀ entries starts i = to - i
 
 loop-holds : tie.Need-loop-holds Inv-loop μ-loop
-loop-holds c = (omega arith, c .before .before .before .pre .0, refl, refl, c .before .before .before .pre .4, λ j a. refl)
+loop-holds c = (omega arith, c .before .before .before .pre .0, refl, refl, c .before .before .before .pre .3, λ j a. refl)
 
 load-requires : tie.Need-load-requires Inv-loop μ-loop
 load-requires c κs = omega (arith, c .loop-test .taken, c .before .before .before .before .before .pre .1)
@@ -50,12 +50,11 @@ fill-strip-requires c κs = let l = c .before .before .before .before .before .b
     let t = bucket-top (g .ix) (c .before .before .before .before .load .result .x1) in (
       l .inv .4 .table,
       omega (arith, c .bucket2 .ensures),
-      omega (arith, c .before .before .before .before .before .loop-test .taken, p .2),
-      strip-room (g .ix) (g .standing .now) (l .i) (g .to) _ _ (c .before .before .before .before .before .loop-test .taken) (c .before .bucket .ensures ∙ ap (λ (q : Trapezoid). bucketIn (g .ix) (q .x0)) E) (c .bucket2 .ensures ∙ ap (λ (q : Trapezoid). bucketIn (g .ix) (q .x1)) E) (l .entries) (l .starts) (let z = l .inv .2 in let y = p .3 in omega arith) (l .inv .4),
+      strip-room (g .ix) (g .standing .now) (l .i) (g .to) _ _ (c .before .before .before .before .before .loop-test .taken) (c .before .bucket .ensures ∙ ap (λ (q : Trapezoid). bucketIn (g .ix) (q .x0)) E) (c .bucket2 .ensures ∙ ap (λ (q : Trapezoid). bucketIn (g .ix) (q .x1)) E) (l .entries) (l .starts) (let z = l .inv .2 in let y = p .2 in omega arith) (l .inv .4),
     )
 
 add-i : tie.Need-add-i Inv-loop μ-loop
-add-i c = omega (arith, c .before .before .before .before .before .before .before .before .before .before .loop-test .taken, c .before .before .before .before .before .before .before .before .before .before .before .before .before .before .before .pre .2)
+add-i c = omega (arith, c .before .before .before .before .before .before .before .before .before .before .loop-test .taken, c .before .before .before .before .before .before .before .before .before .before .before .before .before .before .before .pre .1)
 
 loop-less : tie.Need-loop-less Inv-loop μ-loop
 loop-less c = omega (arith, c .before .before .before .before .before .before .before .before .before .before .loop-test .taken)
@@ -65,8 +64,8 @@ loop-again c = let l = c .before .before .before .before .before .before .before
     let g = c .before .before .before .before .before .before .before .before .before .before .before .before .before .before .before .args in
     let p = c .before .before .before .before .before .before .before .before .before .before .before .before .before .before .before .pre in
     let E = c .before .before .before .before .before .before .before .before .before .load .ensures in
-    let F = fill-turn (g .ix) (g .standing .now) (l .i) (g .to) _ _ (c .before .before .before .before .before .before .before .before .before .before .loop-test .taken) (c .before .before .before .before .before .before .bucket .ensures ∙ ap (λ (q : Trapezoid). bucketIn (g .ix) (q .x0)) E) (c .before .before .before .before .before .bucket2 .ensures ∙ ap (λ (q : Trapezoid). bucketIn (g .ix) (q .x1)) E) (l .entries) (l .starts) _ _ (let z = l .inv .2 in let y = p .3 in omega arith) (l .inv .4) (c .before .before .before .before .fill-strip .ensures) in
-    (omega (arith, l .inv .0), omega (arith, c .before .before .before .before .before .before .before .before .before .before .loop-test .taken), F .1 ∙ l .inv .2, F .0 .table ∙ sym (p .4 .table), F .0, λ j a. F .2 j a ∙ l .inv .5 j a)
+    let F = fill-turn (g .ix) (g .standing .now) (l .i) (g .to) _ _ (c .before .before .before .before .before .before .before .before .before .before .loop-test .taken) (c .before .before .before .before .before .before .bucket .ensures ∙ ap (λ (q : Trapezoid). bucketIn (g .ix) (q .x0)) E) (c .before .before .before .before .before .bucket2 .ensures ∙ ap (λ (q : Trapezoid). bucketIn (g .ix) (q .x1)) E) (l .entries) (l .starts) _ _ (let z = l .inv .2 in let y = p .2 in omega arith) (l .inv .4) (c .before .before .before .before .fill-strip .ensures) in
+    (omega (arith, l .inv .0), omega (arith, c .before .before .before .before .before .before .before .before .before .before .loop-test .taken), F .1 ∙ l .inv .2, F .0 .table ∙ sym (p .3 .table), F .0, λ j a. F .2 j a ∙ l .inv .5 j a)
 
 same-length : tie.Need-same-length Inv-loop μ-loop
 same-length c = c .before .loop .inv .2

@@ -46,21 +46,21 @@ slice-read-e c = omega arith
 set-entry-requires : tie.Need-set-entry-requires Inv-loop μ-loop
 set-entry-requires c κs = let l = c .before .before .before .loop in
     let p = c .before .before .before .before .before .before .pre in
-    let z = p .3 (l .b) (l .inv .0) (c .before .before .loop-test .taken) in
+    let z = p .2 (l .b) (l .inv .0) (c .before .before .loop-test .taken) in
     let y = l .inv .3 (l .b) (native.Mathlib.Nat.le-refl (l .b)) in
-    (omega (arith, l .inv .2), p .2)
+    omega (arith, l .inv .2)
 
 add-starts : tie.Need-add-starts Inv-loop μ-loop
 add-starts c = let l = c .before .before .before .before .before .before .loop in
     let p = c .before .before .before .before .before .before .before .before .before .pre in
-    let z = p .3 (l .b) (l .inv .0) (c .before .before .before .before .before .loop-test .taken) in
+    let z = p .2 (l .b) (l .inv .0) (c .before .before .before .before .before .loop-test .taken) in
     let y = l .inv .3 (l .b) (native.Mathlib.Nat.le-refl (l .b)) in
     omega arith
 
 add-starts-2 : tie.Need-add-starts-2 Inv-loop μ-loop
 add-starts-2 c = let l = c .before .before .before .before .before .before .loop in
     let p = c .before .before .before .before .before .before .before .before .before .pre in
-    let z = p .3 (l .b) (l .inv .0) (c .before .before .before .before .before .loop-test .taken) in
+    let z = p .2 (l .b) (l .inv .0) (c .before .before .before .before .before .loop-test .taken) in
     let y = l .inv .3 (l .b) (native.Mathlib.Nat.le-refl (l .b)) in
     omega arith
 

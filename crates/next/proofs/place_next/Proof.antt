@@ -21,7 +21,7 @@ under s n h = omega arith
 
 -- src/lib.rt:84:9
 place-copy-requires : tie.Need-place-copy-requires
-place-copy-requires c κs = let p = c .before .before .before .before .before .before .before .before .before .before .before .before .before .before .before .before .before .before .before .before .before .before .before .before .pre in (p .0, p .1, p .2, p .3, p .4, p .5, p .6, p .7)
+place-copy-requires c κs = let p = c .before .before .before .before .before .before .before .before .before .before .before .before .before .before .before .before .before .before .before .before .before .before .before .before .pre in (p .0, p .1, p .2, p .3, p .4, p .5, p .6)
 
 -- src/lib.rt:86:23
 number-of-requires : tie.Need-number-of-requires
@@ -29,11 +29,11 @@ number-of-requires c κs = (c .before .before .before .before .before .before .b
 
 -- src/lib.rt:86:5
 mul-orientation : tie.Need-mul-orientation
-mul-orientation c = record { fits = times-eight _ (c .before .before .before .before .before .before .before .before .before .before .before .before .before .before .before .before .before .before .before .before .before .before .before .before .before .before .before .before .before .before .before .before .before .before .before .before .before .before .before .before .pre .11) }
+mul-orientation c = record { fits = times-eight _ (c .before .before .before .before .before .before .before .before .before .before .before .before .before .before .before .before .before .before .before .before .before .before .before .before .before .before .before .before .before .before .before .before .before .before .before .before .before .before .before .before .pre .10) }
 
 -- src/lib.rt:86:5
 slice-write-orientation : tie.Need-slice-write-orientation
-slice-write-orientation c = c .before .before .before .before .before .before .before .before .before .before .before .before .before .before .before .before .before .before .before .before .before .before .before .before .before .before .before .before .before .before .before .before .before .before .before .before .before .before .before .before .pre .8
+slice-write-orientation c = c .before .before .before .before .before .before .before .before .before .before .before .before .before .before .before .before .before .before .before .before .before .before .before .before .before .before .before .before .before .before .before .before .before .before .before .before .before .before .before .before .pre .7
 
 -- src/lib.rt:87:13
 x-of-requires : tie.Need-x-of-requires
@@ -41,11 +41,11 @@ x-of-requires c κs = search needs
 
 -- src/lib.rt:87:5
 mul-x : tie.Need-mul-x
-mul-x c = record { fits = times-eight _ (c .before .before .before .before .before .before .before .before .before .before .before .before .before .before .before .before .before .before .before .before .before .before .before .before .before .before .before .before .before .before .before .before .before .before .before .before .before .before .before .before .before .pre .11) }
+mul-x c = record { fits = times-eight _ (c .before .before .before .before .before .before .before .before .before .before .before .before .before .before .before .before .before .before .before .before .before .before .before .before .before .before .before .before .before .before .before .before .before .before .before .before .before .before .before .before .before .pre .10) }
 
 -- src/lib.rt:87:5
 slice-write-x : tie.Need-slice-write-x
-slice-write-x c = c .before .before .before .before .before .before .before .before .before .before .before .before .before .before .before .before .before .before .before .before .before .before .before .before .before .before .before .before .before .before .before .before .before .before .before .before .before .before .before .before .before .pre .9
+slice-write-x c = c .before .before .before .before .before .before .before .before .before .before .before .before .before .before .before .before .before .before .before .before .before .before .before .before .before .before .before .before .before .before .before .before .before .before .before .before .before .before .before .before .before .pre .8
 
 -- src/lib.rt:88:13
 y-of-requires : tie.Need-y-of-requires
@@ -53,11 +53,11 @@ y-of-requires c κs = search needs
 
 -- src/lib.rt:88:5
 mul-y : tie.Need-mul-y
-mul-y c = record { fits = times-eight _ (c .before .before .before .before .before .before .before .before .before .before .before .before .before .before .before .before .before .before .before .before .before .before .before .before .before .before .before .before .before .before .before .before .before .before .before .before .before .before .before .before .before .before .pre .11) }
+mul-y c = record { fits = times-eight _ (c .before .before .before .before .before .before .before .before .before .before .before .before .before .before .before .before .before .before .before .before .before .before .before .before .before .before .before .before .before .before .before .before .before .before .before .before .before .before .before .before .before .before .pre .10) }
 
 -- src/lib.rt:88:5
 slice-write-y : tie.Need-slice-write-y
-slice-write-y c = c .before .before .before .before .before .before .before .before .before .before .before .before .before .before .before .before .before .before .before .before .before .before .before .before .before .before .before .before .before .before .before .before .before .before .before .before .before .before .before .before .before .before .pre .10
+slice-write-y c = c .before .before .before .before .before .before .before .before .before .before .before .before .before .before .before .before .before .before .before .before .before .before .before .before .before .before .before .before .before .before .before .before .before .before .before .before .before .before .before .before .before .before .pre .9
 
 -- src/lib.rt:51:1
 same-length : tie.Need-same-length

@@ -15,7 +15,7 @@ use Rattle.place.proofs.settle.Reads as settle-reads
 
 -- src/lib.rt:152:15
 mul-end : tie.Need-mul-end
-mul-end c = search needs
+mul-end c = record { fits = omega (arith, c .before .before .before .before .before .before .before .before .before .before .before .before .before .before .pre .5 .laid .room, c .before .before .before .before .before .before .before .before .before .before .before .before .before .before .good .1 .1 .1 .1 .1 .1 .1 .1 .1 .1 .1 .1 .1 .1 .0 .0) }
 
 -- src/lib.rt:153:137
 slice-reshare-prefix-choose : tie.Need-slice-reshare-prefix-choose
@@ -37,7 +37,7 @@ settle-requires : tie.Need-settle-requires
 settle-requires c κs = let a = c .before .before .before .before .before .before .before .before .before .before .before .before .before .before .before .before .before .before .before .before .before .before .before .before .before .before .before .before .before .before .before .args in
     let p = c .before .before .before .before .before .before .before .before .before .before .before .before .before .before .before .before .before .before .before .before .before .before .before .before .before .before .before .before .before .before .before .pre in
     let w = world (length (a .room .now) / 2) (a .bounds) (a .resolution) (a .inset-bounds .now) (a .parts .now) (a .apart .now) (a .inset .now) (a .sheet .now) (take (6 * a .t .«placed_strips») (a .placed .now)) in
-    (p .5 .laid, p .5 .short, p .6, p .7, (λ o h. p .0 o h .parted), chosen-among w (a .slot) (a .n) (c .before .before .before .before .before .before .before .before .before .before .choose .result) (a .look-counts .now) (a .next-column .now) _ _ (c .before .before .before .before .before .before .before .before .before .before .choose .ensures), p .4)
+    (p .5 .laid, p .6, (λ o h. p .0 o h .parted), chosen-among w (a .slot) (a .n) (c .before .before .before .before .before .before .before .before .before .before .choose .result) (a .look-counts .now) (a .next-column .now) _ _ (c .before .before .before .before .before .before .before .before .before .before .choose .ensures), p .4)
 
 -- src/lib.rt:123:1
 same-length : tie.Need-same-length

@@ -2,7 +2,8 @@ use mathlib.Core.Path.{_≡_, sym, ap, _∙_, refl, subst}
 use native.Mathlib.Omega.{arith}
 use Prim.Native.Nat.{ℕ, _/_, _+_, _-_, _*_, _≤_, _<_, _^_}
 use lib.ListN.{length, take}
-use Rattle.place.proofs.Putting.{part-short, sum-fits, put-is, put-laid}
+use Rattle.place.proofs.Putting.{put-is, put-laid}
+use Rattle.store.proofs.Whole.{sum-fits}
 use borrow.Author.Needs.{needs}
 use Rattle.place.proofs.put_copy.Statement.{statement}
 use Rattle.place.proofs.put_copy.Tie as tie
@@ -23,15 +24,13 @@ capacity-requires c κs = search needs
 
 -- src/lib.rt:78:9
 store-copy-requires : tie.Need-store-copy-requires
-store-copy-requires c κs = let a = c .before .before .before .before .before .before .before .before .before .before .before .before .args in
-    let p = c .before .before .before .before .before .before .before .before .before .before .before .before .pre in
-    (p .0, p .1, part-short _ (a .apart .now) _ _ (c .before .before .before .before .before .strips-of .ensures) (p .2), p .3)
+store-copy-requires c κs = let p = c .before .before .before .before .before .before .before .before .before .before .before .before .pre in (p .0, p .1)
 
 -- src/lib.rt:79:5
 after-requires : tie.Need-after-requires
 after-requires c κs = let a = c .before .before .before .before .before .before .before .before .before .before .before .before .before .before .before .before .before .before .before .before .before .args in
     let p = c .before .before .before .before .before .before .before .before .before .before .before .before .before .before .before .before .before .before .before .before .before .pre in
-    sum-fits _ (a .placed .now) (a .t .«placed_strips») _ (p .0 .room) (p .1) (c .before .before .before .before .before .before .before .before .before .before .before .before .before .capacity .ensures) (part-short _ (a .apart .now) _ _ (c .before .before .before .before .before .before .before .before .before .before .before .before .before .before .strips-of .ensures) (p .2))
+    sum-fits (a .placed .now) (c .before .before .before .before .before .before .before .before .before .before .before .before .before .before .strips-of .result .now) (a .t .«placed_strips») _ (p .0 .room) (c .before .before .before .before .before .before .before .before .before .before .before .before .before .before .before .before .before .before .before .before .before .good .1 .1 .1 .1 .1 .1 .0 .0) (c .before .before .before .before .before .before .before .before .before .before .before .before .before .capacity .ensures) (c .before .before .before .before .before .before .before .before .before .before .before .before .before .before .strips-of .ok .0)
 
 -- src/lib.rt:61:1
 same-length : tie.Need-same-length

@@ -23,17 +23,17 @@ enum-known-winner c = search needs
 add-part-at : tie.Need-add-part-at
 add-part-at c = let a = c .before .before .before .before .before .before .before .before .before .before .before .args in
     let p = c .before .before .before .before .before .before .before .before .before .before .before .pre in
-    record { fits = slot-fits (a .slot) _ (a .n) (among-at (a .n) (a .winner) _ (p .5) (c .before .before .winner .given .1)) (p .6) }
+    record { fits = slot-fits (a .slot) _ (a .n) (among-at (a .n) (a .winner) _ (p .3) (c .before .before .winner .given .1)) (p .4) }
 
 -- src/lib.rt:113:17
 part-at-requires : tie.Need-part-at-requires
 part-at-requires c κs = let a = c .before .before .before .before .before .before .before .before .before .before .before .args in
     let p = c .before .before .before .before .before .before .before .before .before .before .before .pre in
-    p .4 _ (among-at (a .n) (a .winner) _ (p .5) (c .before .before .winner .given .1))
+    p .2 _ (among-at (a .n) (a .winner) _ (p .3) (c .before .before .winner .given .1))
 
 -- src/lib.rt:114:13
 put-copy-requires : tie.Need-put-copy-requires
-put-copy-requires c κs = let p = c .before .before .before .before .before .before .before .before .before .before .before .before .before .before .before .before .pre in (p .0, p .1, p .2, p .3)
+put-copy-requires c κs = let p = c .before .before .before .before .before .before .before .before .before .before .before .before .before .before .before .before .pre in (p .0, p .1)
 
 -- src/lib.rt:116:28
 enum-told : tie.Need-enum-told

@@ -1,0 +1,79 @@
+-- `copy_order::sort_kinds` meets its contract. Assumes nothing.
+use Prim.Native.Nat.{ℕ, _≤_, _<_, _-_}
+use lib.ListN.{length}
+use mathlib.Core.Path.{_≡_, refl, _∙_}
+use denote.Ref.{now}
+use native.Mathlib.Omega.{arith}
+use Rattle.slab.specs.Slab.{up, sort}
+use Rattle.slab.specs.Tables.{down}
+use Rattle.nesting.specs.CopyOrder.{ahead}
+use Rattle.copy_order.specs.KindTables.{numberedAt}
+use Rattle.copy_order.proofs.Lines.{at, sorted-none, sorted-more, sorted-all}
+use Rattle.copy_order.proofs.sort_kinds.Statement.{statement}
+use Rattle.copy_order.proofs.sort_kinds.Tie as tie
+
+abbrev Inv-loop : tie.InvT-loop
+Inv-loop rows areas kinds line₀ k₀ line k =
+    (k ≤ kinds) × (length line ≡ length line₀) × ((q : ℕ) → q < kinds - k → at line q < 64)
+    × (down (λ (q : ℕ). numberedAt rows areas (at line q)) (kinds - k) ≡ sort ahead (up (numberedAt rows areas) k (kinds - k)))
+
+abbrev μ-loop : tie.MeasureT-loop
+μ-loop rows areas kinds line₀ k₀ line k =
+    k
+
+loop-holds : tie.Need-loop-holds Inv-loop μ-loop
+loop-holds c =
+    (omega arith, refl, λ q h. absurd (omega arith), sorted-none ahead (numberedAt (now (c .before .before .before .args .rows)) (now (c .before .before .before .args .areas))) (λ (q : ℕ). (numberedAt (now (c .before .before .before .args .rows)) (now (c .before .before .before .args .areas))) (at (now (c .before .before .before .args .line)) q)) (c .before .before .before .args .kinds))
+
+sub-k : tie.Need-sub-k Inv-loop μ-loop
+sub-k c =
+    omega arith
+
+sub-insert-kind : tie.Need-sub-insert-kind Inv-loop μ-loop
+sub-insert-kind c =
+    omega arith
+
+sub-insert-kind-2 : tie.Need-sub-insert-kind-2 Inv-loop μ-loop
+sub-insert-kind-2 c =
+    omega arith
+
+insert-kind-requires : tie.Need-insert-kind-requires Inv-loop μ-loop
+insert-kind-requires c κs =
+    (omega arith, omega arith, omega arith, omega arith, λ q h. c .before .before .loop .inv .2 q (omega arith))
+
+loop-less : tie.Need-loop-less Inv-loop μ-loop
+loop-less c =
+    omega arith
+
+loop-again : tie.Need-loop-again Inv-loop μ-loop
+loop-again c =
+    let l = c .before .before .before .before .before .loop in let g = c .before .before .insert-kind in (
+      omega arith,
+      g .kept .1 .1 .0 ∙ l .inv .1,
+      λ q h. g .ensures .1 q (omega arith),
+      sorted-more ahead (numberedAt (now (c .before .before .before .before .before .before .before .before .before .args .rows)) (now (c .before .before .before .before .before .before .before .before .before .args .areas))) (λ (q : ℕ). (numberedAt (now (c .before .before .before .before .before .before .before .before .before .args .rows)) (now (c .before .before .before .before .before .before .before .before .before .args .areas))) (at (l .line) q)) (λ (q : ℕ). (numberedAt (now (c .before .before .before .before .before .before .before .before .before .args .rows)) (now (c .before .before .before .before .before .before .before .before .before .args .areas))) (at (g .last .1 .1 .0) q)) (l .k) (c .before .before .before .before .before .before .before .before .before .args .kinds) (omega arith) (l .inv .0) (g .ensures .0) (l .inv .3),
+    )
+
+same-length : tie.Need-same-length Inv-loop μ-loop
+same-length c =
+    c .before .loop .inv .1
+
+returns : tie.Need-returns Inv-loop μ-loop
+returns c =
+    (sorted-all ahead (numberedAt (now (c .before .before .before .before .before .args .rows)) (now (c .before .before .before .before .before .args .areas))) (λ (q : ℕ). (numberedAt (now (c .before .before .before .before .before .args .rows)) (now (c .before .before .before .before .before .args .areas))) (at (c .before .loop .line) q)) (c .before .loop .k) (c .before .before .before .before .before .args .kinds) (omega arith) (c .before .loop .inv .3), λ q h. c .before .loop .inv .2 q (omega arith))
+
+pub sort-kinds-spec : {M : Type 1} → statement M
+sort-kinds-spec =
+    tie.close
+    (tie.spec
+    Inv-loop
+    μ-loop
+    loop-holds
+    sub-k
+    sub-insert-kind
+    sub-insert-kind-2
+    insert-kind-requires
+    loop-less
+    loop-again
+    same-length
+    returns)

@@ -1,0 +1,5 @@
+pub mod Few
+pub mod Suffice
+pub mod Numbers
+pub mod Stays
+pub mod Left

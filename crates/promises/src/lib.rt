@@ -1,0 +1,1 @@
+// What follows from the definitions of filling for every job: laws in proofs/ alone.
