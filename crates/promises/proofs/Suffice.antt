@@ -221,7 +221,7 @@ pub record AmpleStart (j : Job) (l : Lent) : Type 0 where
   pub sheet-entries : length (entriesFor (plannerOf j .bounds) (plannerOf j .sheet)) ≤ length (l .rooms .sheet-entries)
   pub shapes : capacity (apartStrips (plannerOf j) ++ insetStrips (plannerOf j)) ≤ capacity (l .rooms .shapes)
 
-start-fits : (j : Job) (order : List ℕ) (l : Lent) → rearranged j order ≡ true → AmpleStart j l → startVerdict j order l ≡ Accepted
+pub start-fits : (j : Job) (order : List ℕ) (l : Lent) → rearranged j order ≡ true → AmpleStart j l → startVerdict j order l ≡ Accepted
 unfolding startVerdict prepareVerdict refuseIf
 start-fits j order l r a =
     let p = plannerOf j in
@@ -257,11 +257,14 @@ module _ (bytes : List ℕ) (j : Job) (e : readJob bytes ≡ accepted j) (order 
   unfolding goodStart
   calls-are cs h = rw start-takes (calls-take bytes j e order r m n cs (firstState (plannerOf j) order) (firstRooms (plannerOf j) (l .rooms)) (plainStart (plannerOf j) order) start-ready (unfold firstState in (let q = h in omega arith)))
 
+  -- a filling reaches its end
+  pub fill-ends : AmpleIntervals j m n (l .intervals) → (s : State) × (fillOrder j l order ≡ filled s)
+  unfolding fillOrder
+  fill-ends i = fill-takes bytes j e order r m n (l .intervals) i (length order) (firstState (plannerOf j) order) (firstRooms (plannerOf j) (l .rooms)) (plainStart (plannerOf j) order) start-ready (unfold firstState in (let q = rearranged-length j order r in omega arith))
+
   fill-is : AmpleIntervals j m n (l .intervals) → fillOf bytes order l .verdict ≡ Accepted
-  unfolding fillOf fillGiven fillJob fillOrder plannedBy
-  fill-is i =
-      let g = fill-takes bytes j e order r m n (l .intervals) i (length order) (firstState (plannerOf j) order) (firstRooms (plannerOf j) (l .rooms)) (plainStart (plannerOf j) order) start-ready (unfold firstState in (let q = rearranged-length j order r in omega arith)) in
-      rw (e, begins, fillJob) (rw (g .1, plannedBy) (unfold plannedWith in refl))
+  unfolding fillOf fillGiven fillJob plannedBy
+  fill-is i = let g = fill-ends i in rw (e, begins, fillJob) (rw (g .1, plannedBy) (unfold plannedWith in refl))
 
   -- an accepted job in a given order, with rooms that suffice: the start is accepted, so is every call up to the last copy, so is the filling
   pub rooms-suffice : (startOf bytes order l .verdict ≡ Accepted)
