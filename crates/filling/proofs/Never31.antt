@@ -272,7 +272,7 @@ core-not j s w iv = go (drop (s .taken) (orderOf j s))
 
 -- ---- the start
 
-first-fine : (j : Job) (z : Sized j) → WithinBounds (plannerOf j) → (order : List ℕ) → length order ≡ j .copies → Fine j (firstState (plannerOf j) order)
+pub first-fine : (j : Job) (z : Sized j) → WithinBounds (plannerOf j) → (order : List ℕ) → length order ≡ j .copies → Fine j (firstState (plannerOf j) order)
 first-fine j z b order n =
     record {
       strips = ap (λ c. stripsFit (standingStrips (plannerOf j) c)) (first-standing j z order n) ∙ none-fit j;
@@ -289,15 +289,15 @@ first-fine j z b order n =
     first-area : (j : Job) (order : List ℕ) → firstState (plannerOf j) order .layout .«unplaced_area» ≡ summed (plannerOf j) posZero []
     first-area j order = unfold firstState in (unfold emptyLayout in (unfold summed in refl))
 
-first-few : (j : Job) (order : List ℕ) → firstState (plannerOf j) order .taken ≤ j .copies
+pub first-few : (j : Job) (order : List ℕ) → firstState (plannerOf j) order .taken ≤ j .copies
 unfolding firstState
 first-few j order = omega arith
 
-first-sheet : (j : Job) (w : Rooms) → entriesLie (entriesFor (plannerOf j .bounds) (plannerOf j .sheet)) (firstRooms (plannerOf j) w .sheet-entries) ≡ true
+pub first-sheet : (j : Job) (w : Rooms) → entriesLie (entriesFor (plannerOf j .bounds) (plannerOf j .sheet)) (firstRooms (plannerOf j) w .sheet-entries) ≡ true
 unfolding firstRooms
 first-sheet j w = entries-laid (entriesFor (plannerOf j .bounds) (plannerOf j .sheet)) (zeros 0 (w .sheet-entries))
 
-first-placed : (j : Job) (z : Sized j) (order : List ℕ) → length order ≡ j .copies → (room : List ℕ) → entriesLie (entriesFor (plannerOf j .bounds) (standingStrips (plannerOf j) (standingOf (firstState (plannerOf j) order)))) room ≡ true
+pub first-placed : (j : Job) (z : Sized j) (order : List ℕ) → length order ≡ j .copies → (room : List ℕ) → entriesLie (entriesFor (plannerOf j .bounds) (standingStrips (plannerOf j) (standingOf (firstState (plannerOf j) order)))) room ≡ true
 unfolding standingStrips flatMap
 first-placed j z order n room =
     ap (λ c. entriesLie (entriesFor (plannerOf j .bounds) (standingStrips (plannerOf j) c)) room) (first-standing j z order n)
