@@ -18,7 +18,7 @@ use Rattle.entries.proofs.Following.{follows-on, follows-short, follows-other, 
 use Rattle.filling.specs.Consistent.{sameNumbers, entriesLie}
 use Rattle.filling.proofs.Lists.{clash}
 
-pub ends : Walked → Bool
+abbrev pub ends : Walked → Bool
 ends (At e) = true
 ends Wrong = false
 

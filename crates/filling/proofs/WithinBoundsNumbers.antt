@@ -184,7 +184,7 @@ sum-grows {x} {y} X Y a b =
     z p q r e f h = omega arith
 
 -- "an area outside 0..1e16"
-most : T (fits binary64 (fromInt 10_000_000_000_000_000)) × T (finite (fromInt 10_000_000_000_000_000)) × lib.Ieee.Exact.HasValue (fromInt 10_000_000_000_000_000) false 10000000000000000 1
+pub most : T (fits binary64 (fromInt 10_000_000_000_000_000)) × T (finite (fromInt 10_000_000_000_000_000)) × lib.Ieee.Exact.HasValue (fromInt 10_000_000_000_000_000) false 10000000000000000 1
 unfolding fits ofInt
 most = (tt, tt, (refl, refl))
 

@@ -93,7 +93,7 @@ unfolding countedOf
 counted-of-fits yl yh standing moving x =
     all-kept (λ (i : Interval). T (fits binary64 (i .to))) (λ (i : Interval). T (fits binary64 (i .to))) (countsOf yl yh) (forbiddenOf standing moving x) (forbidden-fits standing moving x) (λ i p e. p)
 
-counted-fits : (x yl yh : Float) (inset apart sheet placed : List Float) → Fitted (countedIn x yl yh inset apart sheet placed)
+pub counted-fits : (x yl yh : Float) (inset apart sheet placed : List Float) → Fitted (countedIn x yl yh inset apart sheet placed)
 unfolding countedIn
 counted-fits x yl yh inset apart sheet placed =
     all-append (λ (i : Interval). T (fits binary64 (i .to))) (countedOf yl yh sheet inset x) (countedOf yl yh placed apart x) (counted-of-fits yl yh sheet inset x) (counted-of-fits yl yh placed apart x)

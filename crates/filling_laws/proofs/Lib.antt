@@ -2,3 +2,8 @@ pub mod SameSearch
 pub mod SameChoice
 pub mod SameCopy
 pub mod SameCore
+pub mod ReadyNumbers
+pub mod ReadyColumns
+pub mod ReadyStrips
+pub mod Ready
+pub mod ReadyOrder

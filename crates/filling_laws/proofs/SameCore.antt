@@ -29,7 +29,7 @@ rows-at f k [] i h = absurd (no h)
 rows-at f k (n ∷ ns) zero h = let e : k + 0 ≡ k = omega arith in rw e
 rows-at f k (n ∷ ns) (suc i) h = let e : suc k + i ≡ k + suc i = omega arith in rows-at f (suc k) ns i (omega arith) ∙ ap (λ (z : ℕ). map (λ o. f (16 * z + o)) (upFrom (getD ns i 0) 0)) e
 
-row : {A : Type 0} (f : ℕ → A) (ns : List ℕ) (k : ℕ) → k < length ns → getD (slotRows f 0 ns) k [] ≡ map (λ o. f (16 * k + o)) (upFrom (getD ns k 0) 0)
+pub row : {A : Type 0} (f : ℕ → A) (ns : List ℕ) (k : ℕ) → k < length ns → getD (slotRows f 0 ns) k [] ≡ map (λ o. f (16 * k + o)) (upFrom (getD ns k 0) 0)
 row f ns k h = rows-at f 0 ns k h ∙ ap (λ (z : ℕ). map (λ o. f (16 * z + o)) (upFrom (getD ns k 0) 0)) (let e : 0 + k ≡ k = omega arith in e)
 
 module _ (j : Job) (s : State) (w : Rooms) (intervals : List Float) (k : ℕ) (starts : List ℕ) (kind : k < length (orientationCounts j)) (room : 6 * s .«placed_strips» ≤ length (w .placed))

@@ -97,7 +97,7 @@ pub record Sound (s : State) (w : Rooms) : Type 0 where
   pub right : Small 710000 (s .layout .right)
   pub orientations : (i : ℕ) → getD (s .layout .orientation) i 0 ≤ 16
 
-best-all : (Q : Choice → Type 0) (a : Choice) (cs : List Choice) → Q a → All Q cs → Q (best a cs)
+pub best-all : (Q : Choice → Type 0) (a : Choice) (cs : List Choice) → Q a → All Q cs → Q (best a cs)
 unfolding best
 best-all Q a [] q h = q
 best-all Q a (b ∷ cs) q h = go (wins b a) (best-all Q b cs (h .0) (h .1)) (best-all Q a cs q (h .1))
@@ -107,7 +107,7 @@ best-all Q a (b ∷ cs) q h = go (wins b a) (best-all Q b cs (h .0) (h .1)) (bes
     go false x y = y
 
 -- an orientation that is chosen is one of the kind's
-choices-under : (p : Planner) (m o : ℕ) (ss : List Shape) (fs : List Found) → o + length ss ≤ m → All (λ (c : Choice). c .orientation < m) (choices p o ss fs)
+pub choices-under : (p : Planner) (m o : ℕ) (ss : List Shape) (fs : List Found) → o + length ss ≤ m → All (λ (c : Choice). c .orientation < m) (choices p o ss fs)
 unfolding choices
 choices-under p m o [] fs h = tt
 choices-under p m o (s ∷ ss) [] h = tt

@@ -1,0 +1,83 @@
+-- The whole plan of a state whose order, places, look counts and totals are given. Assumes nothing.
+use Prim.Native.Nat.{ℕ, zero, suc, _+_, _-_, _*_, _≤_, _<_}
+use mathlib.Core.Path.{_≡_, refl, sym, ap, ap₂, _∙_, subst}
+use mathlib.Core.List.{List, [], _∷_, _++_, map, flatMap}
+use native.Mathlib.Omega.{arith}
+use lib.ListN.{length, getD}
+use lib.Ieee.{Float, nan}
+use Rattle.numbers.specs.Numbers.{_⊖_}
+use Rattle.index.specs.Buckets.{upFrom}
+use Rattle.job.specs.Jobs.{Job}
+use Rattle.filling.specs.declared.State.{State}
+use Rattle.filling.specs.declared.Plan.{Plan}
+use Rattle.filling.specs.Shapes.{Standing}
+use Rattle.filling.specs.Rooms.{laid}
+use Rattle.filling.specs.State.{bySlot, copyAt, standsAt, standingTo, withoutTo, standingOf, withoutOf}
+use Rattle.filling.specs.Accounts.{positionsOfKind, positions, flatPositions, placedOf, unplacedOf, looksBySlot, lookCountsOf, planOf}
+use Rattle.filling.proofs.Reading.{upFrom-same}
+use Rattle.tables.specs.Tabled.{Tabled}
+use Rattle.accounts.specs.Counting.{sumTo, kindTo, standsIn, missesIn, byKind, lookIn}
+use Rattle.accounts.specs.Laying.{stateOf}
+use Rattle.accounts.specs.Told.{Told, Totalled}
+use Rattle.accounts.proofs.ByKind.{kind-count, missing-count, standing-count, without-count}
+use Rattle.accounts.proofs.Looks.{looks-same}
+
+-- ---- two states with the same order and places
+
+stands-as : (s t : State) → s .order ≡ t .order → s .layout .x ≡ t .layout .x → s .layout .y ≡ t .layout .y → (i o : ℕ) → standsAt s i o ≡ standsAt t i o
+unfolding standsAt copyAt
+stands-as s t a b d i zero = refl
+stands-as s t a b d i (suc o) =
+    ap (λ (k : ℕ). record { copy = record { place = i; kind = k }; orientation = o; x = getD (s .layout .x) i nan; y = getD (s .layout .y) i nan } ∷ []) (ap (λ (l : List ℕ). getD l i 0) a)
+    ∙ (ap (λ (v : Float). record { copy = record { place = i; kind = getD (t .order) i 0 }; orientation = o; x = v; y = getD (s .layout .y) i nan } ∷ []) (ap (λ (l : List Float). getD l i nan) b)
+    ∙ ap (λ (v : Float). record { copy = record { place = i; kind = getD (t .order) i 0 }; orientation = o; x = getD (t .layout .x) i nan; y = v } ∷ []) (ap (λ (l : List Float). getD l i nan) d))
+
+standing-as : (s t : State) → s .order ≡ t .order → s .layout .orientation ≡ t .layout .orientation → s .layout .x ≡ t .layout .x → s .layout .y ≡ t .layout .y → (n : ℕ) → standingTo s n ≡ standingTo t n
+unfolding standingTo
+standing-as s t a e b d zero = refl
+standing-as s t a e b d (suc n) = ap₂ _++_ (standing-as s t a e b d n) (stands-as s t a b d n (getD (s .layout .orientation) n 0) ∙ ap (λ (l : List ℕ). standsAt t n (getD l n 0)) e)
+
+module _ (j : Job) (rows : List ℕ) (areas : List Float) (s : State) (order orientation : List ℕ) (x y : List Float) (looks : List ℕ) (kinds taken : ℕ) (h : Tabled j rows areas) (k : length (j .kinds) ≡ kinds) (t : Told s order orientation x y looks taken) where
+  pub positions-are : (room before : List Float) → room ≡ laid (flatPositions (flatMap (λ k. positionsOfKind k 0 (standingTo (stateOf order orientation x y) taken)) (upFrom kinds 0))) before → room ≡ laid (flatPositions (positions j (standingOf s))) before
+  unfolding positions standingOf
+  positions-are room before e =
+      e ∙ ap (λ (l : List Standing). laid (flatPositions (flatMap (λ k. positionsOfKind k 0 l) (upFrom kinds 0))) before) (sym (standing-as s (stateOf order orientation x y) (t .order-is) (t .orientation-is) (t .x-is) (t .y-is) taken) ∙ ap (standingTo s) (sym (t .taken-is)))
+      ∙ ap (λ (m : ℕ). laid (flatPositions (flatMap (λ k. positionsOfKind k 0 (standingTo s (s .taken))) (upFrom m 0))) before) (sym k)
+
+  pub placed-is : sumTo (standsIn orientation) taken ≡ length (standingOf s)
+  unfolding standingOf
+  placed-is = sym (standing-count s (s .taken) ∙ (ap (λ (l : List ℕ). sumTo (standsIn l) (s .taken)) (t .orientation-is) ∙ ap (sumTo (standsIn orientation)) (t .taken-is)))
+
+  pub unplaced-is : taken - sumTo (standsIn orientation) taken ≡ length (withoutOf s)
+  unfolding withoutOf
+  unplaced-is =
+      ap (λ (l : List ℕ). taken - sumTo (standsIn l) taken) (sym (t .orientation-is))
+      ∙ (ap (λ (n : ℕ). n - sumTo (standsIn (s .layout .orientation)) n) (sym (t .taken-is)) ∙ without-count s (s .taken))
+
+  kind-as : (f : List ℕ → ℕ → ℕ) (q : ℕ) → kindTo (f orientation) order q taken ≡ kindTo (f (s .layout .orientation)) (s .order) q (s .taken)
+  kind-as f q =
+      ap (λ (l : List ℕ). kindTo (f l) order q taken) (sym (t .orientation-is))
+      ∙ (ap (λ (l : List ℕ). kindTo (f (s .layout .orientation)) l q taken) (sym (t .order-is)) ∙ ap (kindTo (f (s .layout .orientation)) (s .order) q) (sym (t .taken-is)))
+
+  pub placed-of-is : byKind (λ q. kindTo (standsIn orientation) order q taken) ≡ placedOf (standingOf s)
+  unfolding placedOf standingOf
+  placed-of-is = upFrom-same (λ q. kindTo (standsIn orientation) order q taken) (λ q. length (positionsOfKind q 0 (standingTo s (s .taken)))) 64 0 (λ q a b. kind-as standsIn q ∙ sym (kind-count s q (s .taken)))
+
+  pub unplaced-of-is : byKind (λ q. kindTo (missesIn orientation) order q taken) ≡ unplacedOf (withoutOf s)
+  unfolding unplacedOf withoutOf
+  unplaced-of-is = upFrom-same (λ q. kindTo (missesIn orientation) order q taken) (λ q. countInMap q) 64 0 (λ q a b. kind-as missesIn q ∙ sym (missing-count s q (s .taken)))
+    where
+      countInMap : ℕ → ℕ
+      countInMap q = Rattle.filling.specs.Order.countIn q (map (λ c. c .kind) (withoutTo s (s .taken)))
+
+  pub looks-are : bySlot (lookIn rows kinds looks) ≡ looksBySlot (lookCountsOf j s)
+  looks-are = ap (λ (m : ℕ). bySlot (lookIn rows m looks)) (sym k) ∙ (ap (λ (l : List ℕ). bySlot (lookIn rows (length (j .kinds)) l)) (sym (t .looks-are)) ∙ looks-same j s rows areas h)
+
+  pub plan-is : (right area sheet-right : Float) (improvements placed : ℕ) (placed-of unplaced-of counts : List ℕ) → Totalled s right area sheet-right
+      → placed ≡ sumTo (standsIn orientation) taken → placed-of ≡ byKind (λ q. kindTo (standsIn orientation) order q taken) → unplaced-of ≡ byKind (λ q. kindTo (missesIn orientation) order q taken) → counts ≡ bySlot (lookIn rows kinds looks)
+      → _≡_ {A = Plan} (record { placed = placed; unplaced = taken - placed; improvements = improvements; «placed_of» = placed-of; «unplaced_of» = unplaced-of; «look_counts» = counts; right = right; «unplaced_area» = area; offcut = sheet-right ⊖ right })
+      (planOf j s improvements)
+  unfolding planOf
+  plan-is right area sheet-right improvements placed placed-of unplaced-of counts u a b d e =
+      let v : taken - placed ≡ length (withoutOf s) = ap (λ (n : ℕ). taken - n) a ∙ unplaced-is in
+      rw (v, a ∙ placed-is, b ∙ placed-of-is, d ∙ unplaced-of-is, e ∙ looks-are, u .right-is, u .area-is, u .sheet-is)

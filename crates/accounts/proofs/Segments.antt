@@ -1,0 +1,93 @@
+-- Positions stored in their room: the part that each kind has, and what is left alone. Assumes nothing.
+use Prim.Native.Nat.{ℕ, zero, suc, _+_, _-_, _*_, _≤_, _<_}
+use mathlib.Core.Path.{_≡_, refl, sym, ap, _∙_, subst}
+use mathlib.Core.Logic.{_⊎_, inl, inr}
+use mathlib.Core.List.{List, [], _∷_, _++_, append-assoc}
+use native.Mathlib.Omega.{arith}
+use lib.ListN.{length, set, take, drop, getD, length-append, length-set, length-take}
+use lib.Seq.{sets, sets-eq, length-sets, length-take-le, take-set-le, drop-set-lt, drop-set-add, drop-at, drop-drop, take-add, set-getD}
+use lib.Ieee.{Float}
+use Rattle.numbers.specs.Numbers.{fromInt}
+use Rattle.filling.specs.Accounts.{Position, flatPositions}
+use Rattle.accounts.specs.Counting.{stands}
+use Rattle.accounts.specs.Laying.{setPosition, putPosition}
+
+-- ---- a run of stores
+
+module _ {A : Type 0} where
+  drop-sets : (vs l : List A) (i a : ℕ) → i + length vs ≤ a → drop a (sets l i vs) ≡ drop a l
+  drop-sets [] l i a h = refl
+  drop-sets (v ∷ vs) l i a h = drop-sets vs (set l i v) (suc i) a (omega arith) ∙ drop-set-lt a l i v (omega arith)
+
+  window-set : (l : List A) (i a n : ℕ) (v : A) → a + n ≤ i → take n (drop a (set l i v)) ≡ take n (drop a l)
+  window-set l i a n v h =
+      let e : a + (i - a) ≡ i = omega arith in
+      subst (λ (k : ℕ). take n (drop a (set l k v)) ≡ take n (drop a l)) e
+      (ap (take n) (drop-set-add a l (i - a) v) ∙ take-set-le n (drop a l) (i - a) v (omega arith))
+
+  window-sets : (vs l : List A) (i a n : ℕ) → a + n ≤ i → take n (drop a (sets l i vs)) ≡ take n (drop a l)
+  window-sets [] l i a n h = refl
+  window-sets (v ∷ vs) l i a n h = window-sets vs (set l i v) (suc i) a n (omega arith) ∙ window-set l i a n v h
+
+-- ---- one position
+
+stored : (room : List Float) (p : ℕ) (q : Position) → setPosition room p q ≡ sets room (5 * p) (flatPositions (q ∷ []))
+unfolding setPosition flatPositions
+stored room p q =
+    let a : 5 * p + 1 ≡ suc (5 * p) = omega arith in
+    let b : 5 * p + 2 ≡ suc (suc (5 * p)) = omega arith in
+    let d : 5 * p + 3 ≡ suc (suc (suc (5 * p))) = omega arith in
+    let e : 5 * p + 4 ≡ suc (suc (suc (suc (5 * p)))) = omega arith in
+    rw (a, b, d, e)
+
+one-long : (q : Position) → length (flatPositions (q ∷ [])) ≡ 5
+unfolding flatPositions
+one-long q = refl
+
+module _ (room : List Float) (p : ℕ) (q : Position) where
+  pub position-long : length (setPosition room p q) ≡ length room
+  position-long = rw stored (length-sets room (5 * p) (flatPositions (q ∷ [])))
+
+  pub position-after : (a : ℕ) → 5 * p + 5 ≤ a → drop a (setPosition room p q) ≡ drop a room
+  position-after a h = rw (stored room p q) (drop-sets (flatPositions (q ∷ [])) room (5 * p) a (rw (one-long q) h))
+
+  pub position-before : (a n : ℕ) → a + n ≤ 5 * p → take n (drop a (setPosition room p q)) ≡ take n (drop a room)
+  position-before a n h = rw (stored room p q) (window-sets (flatPositions (q ∷ [])) room (5 * p) a n h)
+
+  pub position-here : 5 * p + 5 ≤ length room → take 5 (drop (5 * p) (setPosition room p q)) ≡ flatPositions (q ∷ [])
+  unfolding flatPositions
+  position-here h =
+      let v = flatPositions (q ∷ []) in
+      ap (λ (l : List Float). take 5 (drop (5 * p) l)) (stored room p q ∙ (sets-eq v room (5 * p) (omega arith) ∙ append-assoc (take (5 * p) room) v (drop (5 * p + length v) room)))
+      ∙ ap (take 5) (drop-at (take (5 * p) room) (v ++ drop (5 * p + length v) room) (5 * p) (length-take-le (5 * p) room (omega arith)))
+
+-- a kind's positions, from s on, with one more
+pub segment-next : (room : List Float) (s c : ℕ) (q : Position) (ps : List Float) → 5 * (s + c) + 5 ≤ length room → take (5 * c) (drop (5 * s) room) ≡ ps → take (5 * (c + 1)) (drop (5 * s) (setPosition room (s + c) q)) ≡ ps ++ flatPositions (q ∷ [])
+segment-next room s c q ps h e =
+    let a : 5 * (c + 1) ≡ 5 * c + 5 = omega arith in
+    let b : 5 * s + 5 * c ≡ 5 * (s + c) = omega arith in
+    rw a
+    (take-add (5 * c) 5 (drop (5 * s) (setPosition room (s + c) q))
+    ∙ (ap (λ (l : List Float). l ++ take 5 (drop (5 * c) (drop (5 * s) (setPosition room (s + c) q)))) (position-before room (s + c) q (5 * s) (5 * c) (omega arith) ∙ e)
+    ∙ ap (λ (l : List Float). ps ++ l)
+    (ap (take 5) (drop-drop (5 * c) (5 * s) (setPosition room (s + c) q)) ∙ (ap (λ (n : ℕ). take 5 (drop n (setPosition room (s + c) q))) b ∙ position-here room (s + c) q h))))
+
+-- ---- a copy that has no place, and one that stands
+
+pub put-none : (copies : List ℕ) (k number : ℕ) → number ≡ 0 → copies ≡ set copies k (getD copies k 0 + stands number)
+unfolding stands
+put-none copies k number e = let z : getD copies k 0 + 0 ≡ getD copies k 0 = omega arith in rw (e, z, set-getD copies k 0)
+
+pub put-none-room : (room : List Float) (p k c number : ℕ) (x y : Float) → number ≡ 0 → room ≡ putPosition number room p k c x y
+unfolding putPosition
+put-none-room room p k c number x y e = rw e
+
+pub put-some : (copies : List ℕ) (k number : ℕ) → (number ≡ 0 → ⊥) → set copies k (getD copies k 0 + 1) ≡ set copies k (getD copies k 0 + stands number)
+unfolding stands
+put-some copies k zero h = absurd (h refl)
+put-some copies k (suc o) h = refl
+
+pub put-some-room : (room : List Float) (p k c number : ℕ) (x y : Float) → (number ≡ 0 → ⊥) → setPosition room p (record { kind = k; copy = c; orientation = number - 1; x = x; y = y }) ≡ putPosition number room p k c x y
+unfolding putPosition
+put-some-room room p k c zero x y h = absurd (h refl)
+put-some-room room p k c (suc o) x y h = let z : suc o - 1 ≡ o = omega arith in rw z

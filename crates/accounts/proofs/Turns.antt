@@ -1,0 +1,62 @@
+-- Where each kind starts, and one turn of the loop that lays the positions. Assumes nothing.
+use Prim.Native.Nat.{ℕ, _+_, _*_, _≤_, _<_}
+use mathlib.Core.Path.{_≡_, refl, sym, ap, _∙_, subst}
+use mathlib.Core.List.{List, map}
+use native.Mathlib.Omega.{arith}
+use lib.ListN.{length, getD, set, length-map}
+use lib.Ieee.{Float, nan}
+use Rattle.index.specs.Buckets.{upFrom}
+use Rattle.filling.proofs.Reading.{length-upFrom, upFrom-same}
+use Rattle.accounts.specs.Counting.{stands, sumTo, kindTo, standsIn, byKind, startsBy}
+use Rattle.accounts.specs.Laying.{putPosition, stateOf}
+use Rattle.accounts.proofs.Counts.{stands-most, sum-few, sum-same, kinds-few, Counted, counted-next, at-kind}
+use Rattle.accounts.proofs.ByKind.{Filled, filled-next, place-fits, startOf}
+
+module _ (order orientation : List ℕ) (n : ℕ) (t : List ℕ) (e : t ≡ byKind (λ k. kindTo (standsIn orientation) order k n)) where
+  sums-are : (k : ℕ) → k ≤ 64 → sumTo (λ i. getD t i 0) k ≡ sumTo (λ q. kindTo (standsIn orientation) order q n) k
+  sums-are k h = sum-same (λ i. getD t i 0) (λ q. kindTo (standsIn orientation) order q n) k (λ i l. ap (λ (v : List ℕ). getD v i 0) e ∙ at-kind (λ q. kindTo (standsIn orientation) order q n) i (omega arith))
+
+  pub sums-few : n ≤ 4096 → (k : ℕ) → k ≤ 64 → sumTo (λ i. getD t i 0) k ≤ 4294967296
+  sums-few l k h =
+      let a = sums-are k h in
+      let b = kinds-few (standsIn orientation) order k n in
+      let d = sum-few (standsIn orientation) n (λ i. stands-most (getD orientation i 0)) in
+      omega arith
+
+  pub starts-are : startsBy (λ i. getD t i 0) ≡ startsBy (λ k. kindTo (standsIn orientation) order k n)
+  starts-are = upFrom-same (sumTo (λ i. getD t i 0)) (sumTo (λ q. kindTo (standsIn orientation) order q n)) 64 0 (λ i a b. sums-are i (omega arith))
+
+module _ (order orientation : List ℕ) (x y : List Float) (n : ℕ) (starts copies : List ℕ) (before room : List Float) (i : ℕ)
+    (h : i < n) (b : getD order i 0 < 64) (e : starts ≡ startsBy (λ k. kindTo (standsIn orientation) order k n)) (w : 5 * n ≤ length before)
+    (q : Counted (standsIn orientation) order copies i) (f : Filled (stateOf order orientation x y) n before room i) where
+  abbrev k : ℕ
+  k = getD order i 0
+
+  start : getD starts k 0 ≡ startOf (stateOf order orientation x y) n k
+  start = ap (λ (l : List ℕ). getD l k 0) e ∙ at-kind (sumTo (λ k. kindTo (standsIn orientation) order k n)) k b
+
+  starts-long : length starts ≡ 64
+  starts-long = ap length e ∙ (length-map (upFrom 64 0) (sumTo (λ k. kindTo (standsIn orientation) order k n)) ∙ length-upFrom 64 0)
+
+  pub put-fits : (k < length starts) × (k < length copies) × (5 * (getD starts k 0 + getD copies k 0) + 5 * stands (getD orientation i 0) ≤ length room)
+  put-fits =
+      let l = starts-long in
+      let m = q .long in
+      let a = start in
+      let c = q .count k b in
+      let d = place-fits (stateOf order orientation x y) n i h in
+      let r = f .long in
+      (omega arith, omega arith, omega arith)
+
+  pub put-counted : (after : List ℕ) → after ≡ set copies k (getD copies k 0 + stands (getD orientation i 0)) → Counted (standsIn orientation) order after (i + 1)
+  put-counted after u = subst (λ (l : List ℕ). Counted (standsIn orientation) order l (i + 1)) (sym u) (counted-next (standsIn orientation) order copies i (stands (getD orientation i 0)) q b refl)
+
+  pub put-filled : (after : List Float) → after ≡ putPosition (getD orientation i 0) room (getD starts k 0 + getD copies k 0) k (getD copies k 0) (getD x i nan) (getD y i nan) → Filled (stateOf order orientation x y) n before after (i + 1)
+  put-filled after u =
+      let c = q .count k b in
+      let r = f .long in
+      let p : getD starts k 0 + getD copies k 0 ≡ startOf (stateOf order orientation x y) n k + kindTo (standsIn orientation) order k i = let a = start in omega arith in
+      subst (λ (l : List Float). Filled (stateOf order orientation x y) n before l (i + 1))
+      (sym (u ∙ (ap (λ (v : ℕ). putPosition (getD orientation i 0) room v k (getD copies k 0) (getD x i nan) (getD y i nan)) p
+      ∙ ap (λ (v : ℕ). putPosition (getD orientation i 0) room (startOf (stateOf order orientation x y) n k + kindTo (standsIn orientation) order k i) k v (getD x i nan) (getD y i nan)) c)))
+      (filled-next (stateOf order orientation x y) n i h before room (omega arith) f)

@@ -1,0 +1,21 @@
+-- For inner functions' contracts only: what a state says, in the slices that a function is given. Definitions only. Assumes nothing.
+use Prim.Native.Nat.{ℕ}
+use mathlib.Core.Path.{_≡_}
+use mathlib.Core.List.{List}
+use lib.Ieee.{Float}
+use Rattle.filling.specs.declared.State.{State}
+
+-- the order, the copies' places, the look counts, and how many copies are taken
+pub record Told (s : State) (order orientation : List ℕ) (x y : List Float) (looks : List ℕ) (taken : ℕ) : Type 0 where
+  pub order-is : s .order ≡ order
+  pub orientation-is : s .layout .orientation ≡ orientation
+  pub x-is : s .layout .x ≡ x
+  pub y-is : s .layout .y ≡ y
+  pub looks-are : s .«look_counts» ≡ looks
+  pub taken-is : s .taken ≡ taken
+
+-- its totals, and the sheet's right side
+pub record Totalled (s : State) (right area sheet-right : Float) : Type 0 where
+  pub right-is : s .layout .right ≡ right
+  pub area-is : s .layout .«unplaced_area» ≡ area
+  pub sheet-is : s .tables .«sheet_bounds» .right ≡ sheet-right

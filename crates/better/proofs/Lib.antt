@@ -1,0 +1,3 @@
+pub mod MaySwap
+pub mod Copied
+pub mod Judging

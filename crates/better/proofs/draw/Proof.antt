@@ -1,0 +1,19 @@
+-- `better::draw` meets its contract. Assumes nothing.
+use Prim.Native.Nat.{ℕ, _%_}
+use mathlib.Core.Path.{ap}
+use borrow.Author.Needs.{needs}
+use Rattle.better.proofs.draw.Statement.{statement}
+use Rattle.better.proofs.draw.Tie as tie
+
+next-random-requires : tie.Need-next-random-requires
+next-random-requires c κs = search needs
+
+rem-result : tie.Need-rem-result
+rem-result c = search needs
+
+returns : tie.Need-returns
+returns c =
+    (c .next-random .ensures .0, ap (λ (z : ℕ). z % c .before .before .args .n) (c .next-random .ensures .1))
+
+pub draw-spec : {M : Type 1} → statement M
+draw-spec = tie.close (tie.spec next-random-requires rem-result returns)

@@ -1,0 +1,3 @@
+pub mod SameSlots
+pub mod SameTests
+pub mod Cases

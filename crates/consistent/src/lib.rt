@@ -1,0 +1,283 @@
+// Whether a single step's state and rooms agree (document 01, refusal 31): the definition's tests,
+// one function each, those first on which the safety of others rests. Only crates of ours call it.
+ghost use mathlib.Core.Path.{_≡_};
+ghost use mathlib.Core.Bool.{true};
+ghost use mathlib.Core.List.{List};
+ghost use Prim.Native.Nat.{ℕ, _+_, _*_, _≤_, _<_};
+ghost use lib.ListN.{length, getD, take};
+ghost use lib.Dec.{leb};
+ghost use lib.Ieee.{Float};
+ghost use Rattle.trapezoid.specs.Strip.{capacity};
+ghost use Rattle.index.specs.Buckets.{buckets, entriesOf};
+ghost use Rattle.index.specs.Listing.{Laid};
+ghost use Rattle.columns.proofs.Sizes.{BoundedRect, Resolving};
+ghost use Rattle.job.specs.Jobs.{Job};
+ghost use Rattle.filling.specs.Order.{rearranged};
+ghost use Rattle.filling.specs.Consistent.{entriesLie, sheetIndex, consistent};
+ghost use Rattle.tables.specs.Tabled.{Tabled};
+ghost use Rattle.slot_tests.specs.Slots.{Given, slotsTest};
+ghost use Rattle.consistent.specs.Tests.{stateOf, roomsOf, slotsOf, stateTest, countsTest, standingTest, roomsTest};
+use entries::Walked;
+use index::Entry;
+use index::Index;
+use strips::Rect;
+
+// The copies taken: at most the job's.
+fn taken_fits(taken: usize, copies: usize) -> bool
+    ensures { λ r. ⌜ r ≡ leb taken copies ⌝ }
+{
+    taken <= copies
+}
+
+// Strips lie within their rooms.
+fn strip_counts_fit(
+    sheet_strips: usize,
+    apart_strips: usize,
+    placed_strips: usize,
+    sheet: &[f64],
+    shapes: &[f64],
+    placed: &[f64],
+) -> bool
+    ensures { λ r. ⌜ (r ≡ countsTest «sheet_strips» «apart_strips» «placed_strips» (now (sheet .entry)) (now (shapes .entry)) (now (placed .entry))) × (r ≡ true → (6 * «sheet_strips» ≤ length (now (sheet .entry))) × (6 * «apart_strips» ≤ length (now (shapes .entry))) × (6 * «placed_strips» ≤ length (now (placed .entry)))) ⌝ }
+{
+    if sheet_strips > trapezoid::capacity(sheet) {
+        return false;
+    }
+    if apart_strips > trapezoid::capacity(shapes) {
+        return false;
+    }
+    placed_strips <= trapezoid::capacity(placed)
+}
+
+// The copies taken, resolution, sheet bounds, right and unplaced area, and the order.
+fn state_fits(
+    taken: usize,
+    right: f64,
+    unplaced_area: f64,
+    resolution: f64,
+    bounds: Rect,
+    order: &[usize],
+    rows: &[u64],
+    kinds: usize,
+    copies: usize,
+) -> bool
+    requires { ⌜ (kinds ≤ 64) × (256 ≤ length (now rows)) × (copies ≤ length (now order)) ⌝ }
+    ensures { λ r. ⌜ ((j : Job) (areas : List Float) → Tabled j (now (rows .entry)) areas → length (j .kinds) ≡ kinds → j .copies ≡ copies → r ≡ stateTest taken copies resolution bounds right «unplaced_area» (rearranged j (take copies (now (order .entry))))) × (r ≡ true → (taken ≤ copies) × BoundedRect bounds × Resolving resolution) ⌝ }
+{
+    if !taken_fits(taken, copies) {
+        return false;
+    }
+    if !strip_tests::resolution_fits(resolution) {
+        return false;
+    }
+    if !strip_tests::bounds_fit(bounds) {
+        return false;
+    }
+    if !strip_tests::layout_fits(right, unplaced_area) {
+        return false;
+    }
+    order::rearranged(&order[..copies], rows, kinds, copies)
+}
+
+// The room begins with the entries of the strips; if so, starts has where each bucket's begin.
+fn entries_lie(ix: Index, part: &[f64], entries: &[Entry], starts: &mut [usize]) -> bool
+    requires { ⌜ length (now starts) ≡ buckets + 1 ⌝ }
+    ensures { λ r. ⌜ (r ≡ entriesLie (entriesOf ix (now (part .entry)) (capacity (now (part .entry)))) (now (entries .entry))) × (r ≡ true → Laid ix (now (part .entry)) (capacity (now (part .entry))) (now (entries .entry)) (now (starts .exit))) ⌝ }
+{
+    match entries::walk_all(ix, part, trapezoid::capacity(part), entries, starts) {
+        Walked::At(_) => true,
+        Walked::Wrong => false,
+    }
+}
+
+// The strips of the sheet and of the placed copies, and their entries.
+fn standing_fit(
+    bounds: Rect,
+    sheet: &[f64],
+    placed: &[f64],
+    sheet_entries: &[Entry],
+    placed_entries: &[Entry],
+    sheet_starts: &mut [usize],
+    placed_starts: &mut [usize],
+) -> bool
+    requires { ⌜ (length (now «sheet_starts») ≡ buckets + 1) × (length (now «placed_starts») ≡ buckets + 1) ⌝ }
+    ensures { λ r. ⌜ (r ≡ standingTest bounds (now (sheet .entry)) (now (placed .entry)) (now («sheet_entries» .entry)) (now («placed_entries» .entry))) × (r ≡ true → Laid (sheetIndex bounds) (now (sheet .entry)) (capacity (now (sheet .entry))) (now («sheet_entries» .entry)) (now («sheet_starts» .exit)) × Laid (sheetIndex bounds) (now (placed .entry)) (capacity (now (placed .entry))) (now («placed_entries» .entry)) (now («placed_starts» .exit))) ⌝ }
+{
+    if !strip_tests::strips_fit(sheet) {
+        return false;
+    }
+    if !strip_tests::strips_fit(placed) {
+        return false;
+    }
+    let ix = Index::new(bounds.left, bounds.right);
+    if !entries_lie(ix, sheet, sheet_entries, sheet_starts) {
+        return false;
+    }
+    entries_lie(ix, placed, placed_entries, placed_starts)
+}
+
+// Parts, shapes and tracks of every orientation.
+fn shapes_fit<'a>(
+    taken: usize,
+    resolution: f64,
+    bounds: Rect,
+    apart_strips: usize,
+    inset_bounds: &[f64],
+    parts: &[usize],
+    next_column: &[usize],
+    look_counts: &[usize],
+    rows: &[u64],
+    kinds: usize,
+    shapes: &'a [f64],
+) -> bool
+    requires { ⌜ Given (slotsOf bounds resolution taken (now «inset_bounds») (now parts) (now shapes) «apart_strips» (now «next_column») (now «look_counts»)) × (6 * «apart_strips» ≤ length (now shapes)) × (kinds ≤ 64) × (256 ≤ length (now rows)) × ((k : ℕ) → k < kinds → getD (now rows) (4 * k + 3) 0 ≤ 16) ⌝ }
+    ensures { λ r. ⌜ r ≡ slotsTest (slotsOf bounds resolution taken (now («inset_bounds» .entry)) (now (parts .entry)) (now (shapes .entry)) «apart_strips» (now («next_column» .entry)) (now («look_counts» .entry))) (now (rows .entry)) kinds ⌝ }
+{
+    let end = 6 * apart_strips;
+    slot_tests::slots_fit(
+        bounds,
+        resolution,
+        taken,
+        rows,
+        kinds,
+        inset_bounds,
+        parts,
+        &shapes[..end],
+        &shapes[end..],
+        next_column,
+        look_counts,
+    )
+}
+
+// What is tested with the rooms.
+fn rooms_fit(
+    taken: usize,
+    placed_strips: usize,
+    resolution: f64,
+    bounds: Rect,
+    sheet_strips: usize,
+    apart_strips: usize,
+    inset_bounds: &[f64],
+    parts: &[usize],
+    next_column: &[usize],
+    look_counts: &[usize],
+    rows: &[u64],
+    kinds: usize,
+    shapes: &[f64],
+    sheet: &[f64],
+    placed: &[f64],
+    sheet_entries: &[Entry],
+    placed_entries: &[Entry],
+    sheet_starts: &mut [usize],
+    placed_starts: &mut [usize],
+) -> bool
+    requires { ⌜ Given (slotsOf bounds resolution taken (now «inset_bounds») (now parts) (now shapes) «apart_strips» (now «next_column») (now «look_counts»)) × (kinds ≤ 64) × (256 ≤ length (now rows)) × ((k : ℕ) → k < kinds → getD (now rows) (4 * k + 3) 0 ≤ 16) × (length (now «sheet_starts») ≡ buckets + 1) × (length (now «placed_starts») ≡ buckets + 1) ⌝ }
+    ensures { λ r. ⌜ (r ≡ roomsTest (slotsOf bounds resolution taken (now («inset_bounds» .entry)) (now (parts .entry)) (now (shapes .entry)) «apart_strips» (now («next_column» .entry)) (now («look_counts» .entry))) (now (rows .entry)) kinds (countsTest «sheet_strips» «apart_strips» «placed_strips» (now (sheet .entry)) (now (shapes .entry)) (now (placed .entry))) (standingTest bounds (take (6 * «sheet_strips») (now (sheet .entry))) (take (6 * «placed_strips») (now (placed .entry))) (now («sheet_entries» .entry)) (now («placed_entries» .entry))))
+        × (r ≡ true → Laid (sheetIndex bounds) (take (6 * «sheet_strips») (now (sheet .entry))) (capacity (take (6 * «sheet_strips») (now (sheet .entry)))) (now («sheet_entries» .entry)) (now («sheet_starts» .exit)) × Laid (sheetIndex bounds) (take (6 * «placed_strips») (now (placed .entry))) (capacity (take (6 * «placed_strips») (now (placed .entry)))) (now («placed_entries» .entry)) (now («placed_starts» .exit))) ⌝ }
+{
+    if !strip_counts_fit(
+        sheet_strips,
+        apart_strips,
+        placed_strips,
+        sheet,
+        shapes,
+        placed,
+    ) {
+        return false;
+    }
+    if !shapes_fit(
+        taken,
+        resolution,
+        bounds,
+        apart_strips,
+        inset_bounds,
+        parts,
+        next_column,
+        look_counts,
+        rows,
+        kinds,
+        shapes,
+    ) {
+        return false;
+    }
+    let sheet_end = 6 * sheet_strips;
+    let placed_end = 6 * placed_strips;
+    standing_fit(
+        bounds,
+        &sheet[..sheet_end],
+        &placed[..placed_end],
+        sheet_entries,
+        placed_entries,
+        sheet_starts,
+        placed_starts,
+    )
+}
+
+// Whether state and rooms agree; if so, the starts tables have where each bucket's entries begin.
+// Only crates of ours call it: rows and kinds must be a job's, copies its copies, and the tables as
+// long as a state has them.
+pub fn consistent(
+    taken: usize,
+    placed_strips: usize,
+    right: f64,
+    unplaced_area: f64,
+    resolution: f64,
+    bounds: Rect,
+    sheet_strips: usize,
+    apart_strips: usize,
+    inset_bounds: &[f64],
+    parts: &[usize],
+    order: &[usize],
+    next_column: &[usize],
+    look_counts: &[usize],
+    rows: &[u64],
+    kinds: usize,
+    copies: usize,
+    shapes: &[f64],
+    sheet: &[f64],
+    placed: &[f64],
+    sheet_entries: &[Entry],
+    placed_entries: &[Entry],
+    sheet_starts: &mut [usize],
+    placed_starts: &mut [usize],
+) -> bool
+    requires { ⌜ (kinds ≤ 64) × (256 ≤ length (now rows)) × ((k : ℕ) → k < kinds → getD (now rows) (4 * k + 3) 0 ≤ 16) × (copies ≤ 4096) × (4096 ≤ length (now order)) × (4096 ≤ length (now «inset_bounds»)) × (4096 ≤ length (now parts)) × (1024 ≤ length (now «next_column»)) × (1024 ≤ length (now «look_counts»)) × (length (now «sheet_starts») ≡ buckets + 1) × (length (now «placed_starts») ≡ buckets + 1) ⌝ }
+    ensures { λ r. ⌜ ((j : Job) (areas : List Float) (orientation : List ℕ) (x y : List Float) → Tabled j (now (rows .entry)) areas → length (j .kinds) ≡ kinds → j .copies ≡ copies
+        → r ≡ consistent j (stateOf taken «placed_strips» right «unplaced_area» resolution bounds «sheet_strips» «apart_strips» (now («inset_bounds» .entry)) (now (parts .entry)) (now (order .entry)) (now («next_column» .entry)) (now («look_counts» .entry)) orientation x y) (roomsOf (now (shapes .entry)) (now (sheet .entry)) (now (placed .entry)) (now («sheet_entries» .entry)) (now («placed_entries» .entry))))
+        × (r ≡ true → Laid (sheetIndex bounds) (take (6 * «sheet_strips») (now (sheet .entry))) (capacity (take (6 * «sheet_strips») (now (sheet .entry)))) (now («sheet_entries» .entry)) (now («sheet_starts» .exit)) × Laid (sheetIndex bounds) (take (6 * «placed_strips») (now (placed .entry))) (capacity (take (6 * «placed_strips») (now (placed .entry)))) (now («placed_entries» .entry)) (now («placed_starts» .exit))) ⌝ }
+{
+    if state_fits(
+        taken,
+        right,
+        unplaced_area,
+        resolution,
+        bounds,
+        order,
+        rows,
+        kinds,
+        copies,
+    ) {
+        return rooms_fit(
+            taken,
+            placed_strips,
+            resolution,
+            bounds,
+            sheet_strips,
+            apart_strips,
+            inset_bounds,
+            parts,
+            next_column,
+            look_counts,
+            rows,
+            kinds,
+            shapes,
+            sheet,
+            placed,
+            sheet_entries,
+            placed_entries,
+            sheet_starts,
+            placed_starts,
+        );
+    }
+    false
+}

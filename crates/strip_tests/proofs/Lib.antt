@@ -1,0 +1,2 @@
+pub mod Bounding
+pub mod Everyone
