@@ -1,5 +1,5 @@
 -- Buckets moved up from the back, one after the other. Assumes nothing.
-use Prim.Native.Nat.{ℕ, zero, suc, _+_, _-_, _*_, _<_, _≤_}
+use Prim.Native.Nat.{ℕ, zero, suc, _+_, _-_, _*_, _<_, _≤_, min}
 use native.Mathlib.Omega.{arith}
 use native.Mathlib.Nat.{eq-or-lt-of-le}
 use mathlib.Core.Path.{_≡_, refl, sym, ap, _∙_, subst}
@@ -9,6 +9,7 @@ use lib.ListN.{length, getD, set, length-set}
 use lib.Seq.{getD-set-same, getD-set-other}
 use lib.Ieee.{Float}
 use Rattle.index.specs.declared.Index.{Index}
+use Rattle.index.proofs.Collecting.{lt-or-ge}
 use Rattle.index.specs.Buckets.{buckets, entered}
 use Rattle.index.specs.Listing.{Laid}
 use Rattle.enter.specs.EntryRoom.{startOf}
@@ -53,11 +54,46 @@ moved-four j to by s r h l M =
 
 -- a part and the part before it
 pub moved-join : (from mid to by : ℕ) (s r q : List ℕ) → from ≤ mid → mid ≤ to → Moved mid to by s r → Moved from mid by r q → Moved from to by s q
-moved-join from mid to by s r q h l M N = record { size = N .size ∙ M .size; up = λ j a b. up j a b (Rattle.index.proofs.Collecting.lt-or-ge j mid); front = λ j a. N .front j a ∙ M .front j (omega arith); back = λ j a. N .back j (omega arith) ∙ M .back j a }
+moved-join from mid to by s r q h l M N = record { size = N .size ∙ M .size; up = λ j a b. up j a b (lt-or-ge j mid); front = λ j a. N .front j a ∙ M .front j (omega arith); back = λ j a. N .back j (omega arith) ∙ M .back j a }
   where
     up : (j : ℕ) → from ≤ j → j < to → (j < mid) ⊎ (mid ≤ j) → getD q (j + by) 0 ≡ getD s j 0
     up j a b (inl c) = N .up j a c ∙ M .front j (omega arith)
     up j a b (inr c) = N .back (j + by) (omega arith) ∙ M .up j c b
+
+-- a value is put at its new place, just before those that are moved or among them
+moved-over : (j m to by v : ℕ) (s r : List ℕ) → m ≤ j + 1 → j < to → to + by ≤ length s → v ≡ getD s j 0 → Moved m to by s r → Moved (min m j) to by s (set r (j + by) v)
+moved-over j m to by v s r w h l x M = record { size = length-set r (j + by) v ∙ M .size; up = λ i a b. up i a b (lt-or-ge i j) (lt-or-ge j i); front = λ i a. getD-set-other r (j + by) i v 0 (λ e. no i a e) ∙ M .front i (omega arith); back = λ i a. getD-set-other r (j + by) i v 0 (λ e. never i a e) ∙ M .back i a }
+  where
+    no : (i : ℕ) → i < min m j + by → i ≡ j + by → ⊥
+    no i a e = omega arith
+
+    never : (i : ℕ) → to + by ≤ i → i ≡ j + by → ⊥
+    never i a e = omega arith
+
+    below : (i : ℕ) → i < j → i + by ≡ j + by → ⊥
+    below i a e = omega arith
+
+    above : (i : ℕ) → j < i → i + by ≡ j + by → ⊥
+    above i a e = omega arith
+
+    up : (i : ℕ) → min m j ≤ i → i < to → (i < j) ⊎ (j ≤ i) → (j < i) ⊎ (i ≤ j) → getD (set r (j + by) v) (i + by) 0 ≡ getD s i 0
+    up i a b (inl c) d = getD-set-other r (j + by) (i + by) v 0 (λ q. below i c q) ∙ M .up i (omega arith) b
+    up i a b (inr c) (inl d) = getD-set-other r (j + by) (i + by) v 0 (λ q. above i d q) ∙ M .up i (omega arith) b
+    up i a b (inr c) (inr d) = let e : j ≡ i = omega arith in subst (λ (k : ℕ). getD (set r (j + by) v) (k + by) 0 ≡ getD s k 0) e (getD-set-same r (j + by) v 0 (let z = M .size in omega arith) ∙ x)
+
+-- the first four once more
+pub moved-head : (f m to by : ℕ) (s r : List ℕ) → f ≤ m → m < f + 4 → f + 4 ≤ to → to + by ≤ length s → Moved m to by s r
+    → Moved f to by s (set (set (set (set r (f + by + 3) (getD s (f + 3) 0)) (f + by + 2) (getD s (f + 2) 0)) (f + by + 1) (getD s (f + 1) 0)) (f + by) (getD s f 0))
+moved-head f m to by s r a b h l M =
+    let e : min (min (min (min m (f + 3)) (f + 2)) (f + 1)) f ≡ f = omega arith in
+    let e3 : f + 3 + by ≡ f + by + 3 = omega arith in
+    let e2 : f + 2 + by ≡ f + by + 2 = omega arith in
+    let e1 : f + 1 + by ≡ f + by + 1 = omega arith in
+    let M3 = subst (λ (k : ℕ). Moved (min m (f + 3)) to by s (set r k (getD s (f + 3) 0))) e3 (moved-over (f + 3) m to by (getD s (f + 3) 0) s r (omega arith) (omega arith) l refl M) in
+    let M2 = subst (λ (k : ℕ). Moved (min (min m (f + 3)) (f + 2)) to by s (set (set r (f + by + 3) (getD s (f + 3) 0)) k (getD s (f + 2) 0))) e2 (moved-over (f + 2) (min m (f + 3)) to by (getD s (f + 2) 0) s (set r (f + by + 3) (getD s (f + 3) 0)) (omega arith) (omega arith) l refl M3) in
+    let M1 = subst (λ (k : ℕ). Moved (min (min (min m (f + 3)) (f + 2)) (f + 1)) to by s (set (set (set r (f + by + 3) (getD s (f + 3) 0)) (f + by + 2) (getD s (f + 2) 0)) k (getD s (f + 1) 0))) e1 (moved-over (f + 1) (min (min m (f + 3)) (f + 2)) to by (getD s (f + 1) 0) s (set (set r (f + by + 3) (getD s (f + 3) 0)) (f + by + 2) (getD s (f + 2) 0)) (omega arith) (omega arith) l refl M2) in
+    let M0 = moved-over f (min (min (min m (f + 3)) (f + 2)) (f + 1)) to by (getD s f 0) s (set (set (set r (f + by + 3) (getD s (f + 3) 0)) (f + by + 2) (getD s (f + 2) 0)) (f + by + 1) (getD s (f + 1) 0)) (omega arith) (omega arith) l refl M1 in
+    subst (λ (k : ℕ). Moved k to by s (set (set (set (set r (f + by + 3) (getD s (f + 3) 0)) (f + by + 2) (getD s (f + 2) 0)) (f + by + 1) (getD s (f + 1) 0)) (f + by) (getD s f 0))) e M0
 
 -- ---- opening the gaps
 pub opened-start : (top : ℕ) (st g e₀ : List ℕ) → Opened top st g e₀ top e₀ st

@@ -22,7 +22,7 @@ pub fn set_entry(entries: &mut [Entry], e: usize, number: usize)
 // those begin that are left.
 fn move_fours(s: &mut [Entry], from: usize, to: usize, by: usize) -> usize
     requires { ⌜ (from ≤ to) × (to + by ≤ length (now s)) ⌝ }
-    ensures { λ r. ⌜ (from ≤ r) × (r ≤ to) × Moved r to by (now (s .entry)) (now (s .exit)) ⌝ }
+    ensures { λ r. ⌜ (from ≤ r) × (r ≤ to) × (r < from + 4) × Moved r to by (now (s .entry)) (now (s .exit)) ⌝ }
 {
     let mut j = to;
     while j - from >= 4 {
@@ -51,13 +51,43 @@ fn move_ones(s: &mut [Entry], from: usize, to: usize, by: usize)
     }
 }
 
-// Moves the entries from `from` to below `to` up by `by`, the last first.
-fn move_up(s: &mut [Entry], from: usize, to: usize, by: usize)
+// Moves the entries from `from` to below `to` up by `by`: those of many buckets.
+fn move_block(s: &mut [Entry], from: usize, to: usize, by: usize)
     requires { ⌜ (from ≤ to) × (to + by ≤ length (now s)) ⌝ }
     ensures { λ _. ⌜ Moved from to by (now (s .entry)) (now (s .exit)) ⌝ }
 {
     let j = move_fours(s, from, to, by);
     move_ones(s, from, j, by);
+}
+
+// Moves the entries from `from` to below `to`, four or more, up by `by`: by fours, and the first four
+// once more from what they were, which spares the single ones.
+fn move_long(s: &mut [Entry], from: usize, to: usize, by: usize)
+    requires { ⌜ (from + 4 ≤ to) × (to + by ≤ length (now s)) ⌝ }
+    ensures { λ _. ⌜ Moved from to by (now (s .entry)) (now (s .exit)) ⌝ }
+{
+    let a = s[from];
+    let b = s[from + 1];
+    let c = s[from + 2];
+    let d = s[from + 3];
+    move_fours(s, from, to, by);
+    let at = from + by;
+    s[at + 3] = d;
+    s[at + 2] = c;
+    s[at + 1] = b;
+    s[at] = a;
+}
+
+// Moves the entries from `from` to below `to` up by `by`: those of one bucket.
+fn move_up(s: &mut [Entry], from: usize, to: usize, by: usize)
+    requires { ⌜ (from ≤ to) × (to + by ≤ length (now s)) ⌝ }
+    ensures { λ _. ⌜ Moved from to by (now (s .entry)) (now (s .exit)) ⌝ }
+{
+    if to - from < 4 {
+        move_ones(s, from, to, by);
+        return;
+    }
+    move_long(s, from, to, by);
 }
 
 // Adds `by` to the starts from number `from` on.
@@ -191,7 +221,7 @@ fn open_all(entries: &mut [Entry], starts: &mut [usize], gains: &[usize], more: 
 {
     let from = starts[end];
     let to = starts[Index::BUCKETS];
-    move_up(entries, from, to, more);
+    move_block(entries, from, to, more);
     shift(starts, end + 1, more);
     open_gaps(entries, starts, gains, more, end);
 }

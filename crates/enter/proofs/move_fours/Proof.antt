@@ -14,7 +14,7 @@ use Rattle.index.proofs.Steps.{bucket-top}
 use Rattle.enter.specs.EntryRoom.{entriesIn, startOf, startsOf, Rooms, Entering, enterOf}
 use Rattle.enter.specs.Gaps.{Moved, before, Opened, Blocks, filled, rooms, entering, newIn, one, Counted, Shifted}
 use Rattle.enter.proofs.Starts.{CountedTo, counted-start, counted-step, counted-end, cleared-step, count-turn, counted-none, before-first, before-next, before-pos, before-back, before-rise, start-gain, start-last, start-rise, laid-starts, laid-entries, laid-table, enter-fits, enter-over}
-use Rattle.enter.proofs.Opening.{moved-start, moved-step, moved-four, moved-join, opened-start, opened-turn, opened-end, opened-blocks}
+use Rattle.enter.proofs.Opening.{moved-start, moved-step, moved-four, moved-head, opened-start, opened-turn, opened-end, opened-blocks}
 use Rattle.enter.proofs.GapFilling.{filled-on, filled-end, strip-room, fill-turn, all-entries, copy-blocks, copy-laid, copy-entered, copy-refused}
 use Rattle.enter.proofs.Tail.{shifted-start, shifted-step, before-flat, end-turn, tail-rise, tail-more, tail-fits, opened-tail}
 use Rattle.enter.proofs.move_fours.Statement.{statement}
@@ -162,7 +162,7 @@ same-length c = c .before .loop .inv .2
 
 -- src/lib.rt:23:1
 returns : tie.Need-returns Inv-loop μ-loop
-returns c = (c .before .loop .inv .0, c .before .loop .inv .1, c .before .loop .inv .3)
+returns c = (c .before .loop .inv .0, c .before .loop .inv .1, omega arith, c .before .loop .inv .3)
 
 pub move-fours-spec : {M : Type 1} → statement M
 move-fours-spec =

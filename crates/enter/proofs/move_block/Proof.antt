@@ -17,10 +17,10 @@ use Rattle.enter.proofs.Opening.{moved-start, moved-step, moved-four, m
 use Rattle.enter.proofs.GapFilling.{filled-on, filled-end, strip-room, fill-turn, all-entries, copy-blocks, copy-laid, copy-entered, copy-refused}
 use Rattle.enter.proofs.Tail.{shifted-start, shifted-step, before-flat, end-turn, tail-rise, tail-more, tail-fits, opened-tail}
 use borrow.Author.Needs.{needs}
-use Rattle.enter.proofs.move_up.Statement.{statement}
-use Rattle.enter.proofs.move_up.Tie as tie
-use Rattle.enter.proofs.move_up.Reads as reads
-use Rattle.enter.proofs.move_up.Lts as lts
+use Rattle.enter.proofs.move_block.Statement.{statement}
+use Rattle.enter.proofs.move_block.Tie as tie
+use Rattle.enter.proofs.move_block.Reads as reads
+use Rattle.enter.proofs.move_block.Lts as lts
 use Rattle.enter.proofs.move_fours.Reads as move-fours-reads
 use Rattle.enter.proofs.move_ones.Reads as move-ones-reads
 
@@ -40,7 +40,7 @@ same-length c = search needs
 returns : tie.Need-returns
 returns c = let g = c .before .before .before .before .before .before .before .before .before .args in
     let M = c .before .before .before .before .before .before .move-fours .ensures in
-    moved-join (g .from) (c .before .before .before .before .before .before .move-fours .result) (g .to) (g .by) (g .s .now) _ _ (M .0) (M .1) (M .2) (c .before .before .move-ones .ensures)
+    moved-join (g .from) (c .before .before .before .before .before .before .move-fours .result) (g .to) (g .by) (g .s .now) _ _ (M .0) (M .1) (M .3) (c .before .before .move-ones .ensures)
 
-pub move-up-spec : {M : Type 1} → statement M
-move-up-spec = tie.close (tie.spec move-fours-requires move-ones-requires same-length returns)
+pub move-block-spec : {M : Type 1} → statement M
+move-block-spec = tie.close (tie.spec move-fours-requires move-ones-requires same-length returns)
