@@ -1,15 +1,15 @@
 -- The groups of 31's tests by cases, in the code's order. Assumes nothing.
-use Prim.Native.Nat.{ℕ, _+_, _-_, _*_, _/_, _≤_, _<_}
+use Prim.Native.Nat.{ℕ, _-_, _*_, _≤_, _<_}
 use native.Mathlib.Nat.{le-of-eq}
 use native.Mathlib.Omega.{arith}
-use mathlib.Core.Path.{_≡_, refl, sym, ap, subst, _∙_}
+use mathlib.Core.Path.{_≡_, sym, ap, subst, _∙_}
 use mathlib.Core.Bool.{Bool, true, false, _&&_}
 use mathlib.Core.List.{List}
 use lib.ListN.{length, take, drop, length-drop}
 use lib.Seq.{take-all}
 use lib.Dec.{leb}
 use lib.Ieee.{Float}
-use borrow.Author.Tests.{leb-true, lt-leb, le-leb}
+use borrow.Author.Tests.{lt-leb, le-leb}
 use Rattle.trapezoid.specs.Strip.{capacity}
 use Rattle.strips.specs.declared.Rect.{Rect}
 use Rattle.index.specs.declared.Index.{Index}
@@ -20,7 +20,7 @@ use Rattle.entries.specs.declared.Walked.the-variants.{At, Wrong}
 use Rattle.entries.specs.Walk.{follows, Known}
 use Rattle.filling.specs.Consistent.{stripsFit, boundsFit, resolutionFits, layoutFits, entriesLie, entriesFor, sheetIndex}
 use Rattle.filling.proofs.EntryWalk.{ends, walk-decides}
-use Rattle.slot_tests.specs.Slots.{Slots, slotsTest}
+use Rattle.slot_tests.specs.Slots.{Slots, slots, slotsTest}
 use Rattle.consistent.specs.Tests.{stateTest, countsTest, standingTest, roomsTest}
 
 -- ---- strip counts
@@ -151,5 +151,10 @@ both-yes a b e = sym (ap (λ t. t && b) e)
 
 -- ---- the second part of the shapes room
 
-pub rest-is : (n : ℕ) (room : List Float) → take (length room - n) (drop n room) ≡ drop n room
+rest-is : (n : ℕ) (room : List Float) → take (length room - n) (drop n room) ≡ drop n room
 rest-is n room = take-all (length room - n) (drop n room) (le-of-eq (length-drop n room))
+
+pub slots-rest : {r : Bool} (bounds : Rect) (resolution : Float) (taken : ℕ) (inset-bounds : List Float) (parts : List ℕ) (apart : List Float) (n : ℕ) (room : List Float) (next looks rows : List ℕ) (kinds : ℕ)
+    → r ≡ slotsTest (slots bounds resolution taken inset-bounds parts apart (take (length room - n) (drop n room)) next looks) rows kinds
+    → r ≡ slotsTest (slots bounds resolution taken inset-bounds parts apart (drop n room) next looks) rows kinds
+slots-rest bounds resolution taken inset-bounds parts apart n room next looks rows kinds e = e ∙ ap (λ (l : List Float). slotsTest (slots bounds resolution taken inset-bounds parts apart l next looks) rows kinds) (rest-is n room)

@@ -1,5 +1,5 @@
 -- The tests of the slots are the definition's: of every orientation its part, its shape and its track. Assumes nothing.
-use Prim.Native.Nat.{ℕ, zero, suc, _+_, _-_, _*_, _≤_, _<_}
+use Prim.Native.Nat.{ℕ, zero, suc, _+_, _*_, _<_}
 use native.Mathlib.Numerals.{add-one}
 use native.Mathlib.Omega.{arith}
 use mathlib.Core.Path.{_≡_, refl, sym, ap, ap₂, _∙_}
@@ -10,17 +10,15 @@ use lib.Dec.{leb, leb·suc-suc}
 use lib.Ieee.{Float}
 use borrow.Author.Tests.{le-leb}
 use Rattle.trapezoid.specs.Strip.{capacity}
-use Rattle.strips.specs.declared.Rect.{Rect}
 use Rattle.index.specs.Buckets.{upFrom}
 use Rattle.filling.specs.declared.Tables.{Tables}
-use Rattle.filling.specs.Columns as Definition
 use Rattle.filling.specs.Shapes.{Shape, Planner}
 use Rattle.filling.specs.Search as Search
-use Rattle.filling.specs.Search.{Track, rangesOf, reversedFor}
+use Rattle.filling.specs.Search.{rangesOf, reversedFor}
 use Rattle.filling.specs.State.{Part, slotRows, rememberedOf, trackAt, apartRoom, insetRoom, shapeAt}
 use Rattle.filling.specs.State as States
 use Rattle.filling.specs.Consistent.{every, shapeFits, partFits, columnFits, trackFits, tracksFit, trackTableFits}
-use Rattle.columns.specs.Stands.{columnsOf, reversedOf, lastOf}
+use Rattle.columns.specs.Stands.{columnsOf, lastOf}
 use Rattle.columns.proofs.Same.{reversed-same, last-same}
 use Rattle.choose.specs.Choosing.{boundsAt, partAt}
 use Rattle.slot_tests.specs.Slots.{Slots, slots, partTest, lastFor, trackTest, shapeTest, slotTest, kindTest, slotsTest}

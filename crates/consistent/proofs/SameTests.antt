@@ -1,27 +1,24 @@
 -- 31's tests in the code's order are the definition's; the tests by cases. Assumes nothing.
-use Prim.Native.Nat.{ℕ, zero, suc, _+_, _-_, _*_, _/_, _≤_, _<_}
+use Prim.Native.Nat.{ℕ, _+_, _*_, _<_}
 use native.Mathlib.Omega.{arith}
 use mathlib.Core.Path.{_≡_, refl, sym, ap, ap₂, _∙_}
 use mathlib.Core.Bool.{Bool, true, false, _&&_}
-use mathlib.Core.List.{List, [], _∷_, map}
-use lib.ListN.{length, getD, take, drop, length-map}
+use mathlib.Core.List.{List}
+use lib.ListN.{length, getD, take, length-map}
 use lib.Dec.{leb}
 use lib.Ieee.{Float}
-use borrow.Author.Tests.{leb-true, lt-leb, le-leb}
 use Rattle.trapezoid.specs.Strip.{capacity}
-use Rattle.strips.specs.declared.Rect.{Rect}
 use Rattle.job.specs.Jobs.{Job}
 use Rattle.filling.specs.declared.Tables.{Tables}
 use Rattle.filling.specs.declared.State.{State}
-use Rattle.filling.specs.Shapes.{Planner}
 use Rattle.filling.specs.Rooms.{Rooms}
 use Rattle.filling.specs.Order.{rearranged}
-use Rattle.filling.specs.State.{orientationCounts, shapeAt, trackAt, slotRows, plannerAt, orderOf, tracksOf}
+use Rattle.filling.specs.State.{orientationCounts, plannerAt, orderOf, tracksOf}
 use Rattle.filling.specs.Consistent.{every, stripsFit, boundsFit, takenFits, stripCountsFit, partsFit, trackTableFits, resolutionFits, shapeFits, plannerFits, layoutFits, entriesLie, entriesFor, entriesFit, placedStrips, consistent}
 use Rattle.filling.proofs.Lists.{both-first, both-second}
 use Rattle.tables.specs.Tabled.{Tabled}
 use Rattle.slot_tests.specs.Slots.{Slots, slotsTest}
-use Rattle.consistent.specs.Tests.{slotsOf, stateTest, countsTest, standingTest, roomsTest}
+use Rattle.consistent.specs.Tests.{stateOf, roomsOf, slotsOf, stateTest, countsTest, standingTest, roomsTest}
 use Rattle.consistent.proofs.SameSlots.{slots-same}
 
 -- ---- the same tests in another order
@@ -120,3 +117,14 @@ module _ (j : Job) (s : State) (w : Rooms) (rows : List ℕ) (areas : List Float
       ∙ reordered (leb (s .taken) (j .copies)) counts (partsFit j t w) (rearranged j (take (j .copies) (s .order))) (resolutionFits (t .resolution)) (stripsFit sheet) (boundsFit (t .«sheet_bounds»))
       (every (every shapeFits) (plannerAt j t w .shapes)) (stripsFit standing) (layoutFits (s .layout .right) (s .layout .«unplaced_area»)) (trackTableFits (plannerAt j t w) (s .taken) (plannerAt j t w .shapes) (tracksOf j s))
       (entriesLie (entriesFor (t .«sheet_bounds») sheet) (w .sheet-entries)) (entriesLie (entriesFor (t .«sheet_bounds») standing) (w .placed-entries))
+
+-- ---- for the caller: a state and rooms are those of their parts
+
+pub state-whole : (s : State)
+    → stateOf (s .taken) (s .«placed_strips») (s .layout .right) (s .layout .«unplaced_area») (s .tables .resolution) (s .tables .«sheet_bounds») (s .tables .«sheet_strips») (s .tables .«apart_strips») (s .tables .«inset_bounds») (s .tables .parts)
+    (s .order) (s .«next_column») (s .«look_counts») (s .layout .orientation) (s .layout .x) (s .layout .y)
+    ≡ s
+state-whole s = refl
+
+pub rooms-whole : (w : Rooms) → roomsOf (w .shapes) (w .sheet) (w .placed) (w .sheet-entries) (w .placed-entries) ≡ w
+rooms-whole w = refl

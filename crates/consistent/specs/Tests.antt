@@ -1,10 +1,9 @@
 -- For inner functions' contracts only: a state and rooms from what is lent, and 31's tests in the code's order. That they are the
 -- definition's is proved in proofs/. Definitions only. Assumes nothing.
-use Prim.Native.Nat.{ℕ, _+_, _*_, _<_, _≤_}
-use mathlib.Core.Path.{_≡_}
+use Prim.Native.Nat.{ℕ, _*_}
 use mathlib.Core.Bool.{Bool, _&&_}
 use mathlib.Core.List.{List}
-use lib.ListN.{length, getD, take, drop}
+use lib.ListN.{take, drop}
 use lib.Dec.{leb}
 use lib.Ieee.{Float}
 use Rattle.trapezoid.specs.Strip.{capacity}

@@ -1,17 +1,16 @@
 -- Counting the kinds of an order in one pass, and the counts against the quantities. Assumes nothing.
-use Prim.Native.Nat.{ℕ, zero, suc, _+_, _-_, _*_, _≤_, _<_}
-use native.Mathlib.Nat.{eq-or-lt-of-le}
+use Prim.Native.Nat.{ℕ, suc, _+_, _-_, _*_, _≤_, _<_}
 use native.Mathlib.Numerals.{add-one}
 use native.Mathlib.Omega.{arith}
-use mathlib.Core.Path.{_≡_, refl, sym, ap, ap₂, subst, _∙_}
+use mathlib.Core.Path.{_≡_, refl, sym, ap, ap₂, _∙_}
 use mathlib.Core.Logic.{_⊎_, inl, inr}
-use mathlib.Core.Bool.{Bool, true, false, _&&_}
+use mathlib.Core.Bool.{true, false, _&&_}
 use mathlib.Core.List.{List, [], _∷_, map}
 use lib.ListN.{length, getD, set, drop, length-set, length-drop}
 use lib.Seq.{drop-cons, getD-set-same, getD-set-other}
 use lib.Dec.{eqb, eqb→eq, eqb-refl}
 use lib.Ieee.{Float}
-use Rattle.numbers.proofs.Truth.{either, is-true, is-false, holds, fails}
+use Rattle.numbers.proofs.Truth.{either, is-true, holds}
 use Rattle.kinds.specs.Kinds.{Kind}
 use Rattle.job.specs.Jobs.{Job}
 use Rattle.filling.specs.Order.{countIn, inFull, rearranged}

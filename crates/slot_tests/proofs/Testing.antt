@@ -1,26 +1,24 @@
 -- The tests of a slot by cases, and of the slots one after another. Assumes nothing.
-use Prim.Native.Nat.{ℕ, suc, _+_, _-_, _*_, _≤_, _<_}
-use native.Mathlib.Nat.{eq-or-lt-of-le}
+use Prim.Native.Nat.{ℕ, _+_, _-_, _≤_, _<_}
 use native.Mathlib.Omega.{arith}
-use mathlib.Core.Path.{_≡_, refl, sym, ap, ap₂, subst, _∙_}
+use mathlib.Core.Path.{_≡_, sym, ap, ap₂, subst, _∙_}
 use mathlib.Core.Logic.{_⊎_, inl, inr}
 use mathlib.Core.Bool.{Bool, true, false, _&&_}
 use mathlib.Core.List.{List}
-use lib.ListN.{length, getD}
+use lib.ListN.{getD}
 use lib.Dec.{leb}
 use lib.Ieee.{Float}
 use borrow.Author.Tests.{le-leb, lt-leb, leb-true, leb-false}
 use Rattle.numbers.proofs.Truth.{either}
 use Rattle.trapezoid.specs.Strip.{capacity}
 use Rattle.strips.specs.declared.Rect.{Rect}
-use Rattle.look.specs.Ready.{BoundedStrips}
-use Rattle.filling.specs.Consistent.{every, stripsFit, boundsFit}
+use Rattle.filling.specs.Consistent.{stripsFit, boundsFit}
 use Rattle.columns.specs.declared.Columns.{Columns}
 use Rattle.columns.specs.Stands.{columnsOf, reversedOf, lastOf}
-use Rattle.columns.proofs.Sizes.{BoundedRect, Resolving, few-columns}
+use Rattle.columns.proofs.Sizes.{BoundedRect, few-columns}
 use Rattle.choose.specs.declared.Part.{Part}
 use Rattle.choose.specs.Choosing.{boundsAt, partAt, insetPart, apartPart}
-use Rattle.slot_tests.specs.Slots.{Slots, partTest, lastFor, trackTest, shapeTest, slotTest, Given, GoodSlot}
+use Rattle.slot_tests.specs.Slots.{Slots, partTest, lastFor, trackTest, shapeTest, slotTest, Given}
 
 -- ---- a sum that may be no usize
 
@@ -77,9 +75,6 @@ pub track-far : (taken last next looks : ℕ) → last + 1 < next → trackTest 
 unfolding trackTest
 track-far taken last next looks l = ap (λ b. b && leb looks (last + 1 + taken)) (lt-leb next (last + 1) l)
 
-pub track-size : (taken last looks : ℕ) → last ≤ 4000000001 → taken ≤ 4096 → leb looks (last + 1 + taken) ≡ true → looks ≤ 4000004098
-track-size taken last looks l t e = let z = leb-true looks (last + 1 + taken) e in omega arith
-
 -- ---- a slot
 
 module _ (w : Slots) (i : ℕ) where
@@ -105,18 +100,6 @@ module _ (w : Slots) (i : ℕ) where
   unfolding slotTest
   slot-track p e = sym (ap₂ (λ a b. a && (b && Track)) p e)
 
-  pub slot-few : Given w → BoundedRect (boundsAt (w .inset-bounds) i) → columnsOf (w .bounds) (boundsAt (w .inset-bounds) i) (w .resolution) .count ≤ 4000000000
-  slot-few g b = few-columns (w .bounds) (boundsAt (w .inset-bounds) i) (w .resolution) (g .bounded) b (g .resolving)
-
--- ---- one after another
-
-pub one-more : (P : ℕ → Type 0) (i : ℕ) → ((q : ℕ) → q < i → P q) → P i → (q : ℕ) → q < i + 1 → P q
-one-more P i h b q l = go (eq-or-lt-of-le (let z : q ≤ i = omega arith in z))
-  where
-    go : (q ≡ i) ⊎ (q < i) → P q
-    go (inl e) = subst P (sym e) b
-    go (inr g) = h q g
-
 -- ---- what the parts of a slot's test told
 
 module _ (w : Slots) (i : ℕ) {a b : ℕ} {q : Part} (ea : a ≡ capacity (w .apart)) (eb : b ≡ capacity (w .inset)) (eq : q ≡ partAt (w .parts) i) where
@@ -126,15 +109,6 @@ module _ (w : Slots) (i : ℕ) {a b : ℕ} {q : Part} (ea : a ≡ capacity (w .a
 module _ (w : Slots) (i : ℕ) {q : Part} {t : Rect} (eq : q ≡ partAt (w .parts) i) (et : t ≡ boundsAt (w .inset-bounds) i) where
   pub told-shape : {r : Bool} → r ≡ shapeTest q t (w .apart) (w .inset) → r ≡ shapeTest (partAt (w .parts) i) (boundsAt (w .inset-bounds) i) (w .apart) (w .inset)
   told-shape e = e ∙ ap₂ (λ x y. shapeTest x y (w .apart) (w .inset)) eq et
-
-  pub told-sizes : BoundedRect t × BoundedStrips (insetPart q (w .inset)) × BoundedStrips (apartPart q (w .apart)) → getD (w .looks) i 0 ≤ 4000004098 → GoodSlot w i
-  told-sizes s l =
-      record {
-        bounds = subst BoundedRect et (s .0);
-        insets = subst (λ (p : Part). BoundedStrips (insetPart p (w .inset))) eq (s .1);
-        aparts = subst (λ (p : Part). BoundedStrips (apartPart p (w .apart))) eq (s .2);
-        looks = l;
-      }
 
 module _ (w : Slots) (i : ℕ) {t : Rect} {c : Columns} (et : t ≡ boundsAt (w .inset-bounds) i) (ec : c ≡ columnsOf (w .bounds) t (w .resolution)) where
   columns-same : c ≡ columnsOf (w .bounds) (boundsAt (w .inset-bounds) i) (w .resolution)

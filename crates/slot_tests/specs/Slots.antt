@@ -1,6 +1,6 @@
 -- For inner functions' contracts only: 31's tests of the slots in the code's order. That they are the definition's is proved in the crate
 -- consistent. Definitions only. Assumes nothing.
-use Prim.Native.Nat.{ℕ, _+_, _*_, _<_, _≤_}
+use Prim.Native.Nat.{ℕ, _+_, _*_, _≤_}
 use mathlib.Core.Bool.{Bool, true, false, _&&_}
 use mathlib.Core.List.{List}
 use lib.ListN.{length, getD}
@@ -9,7 +9,6 @@ use lib.Ieee.{Float}
 use Rattle.trapezoid.specs.Strip.{capacity}
 use Rattle.strips.specs.declared.Rect.{Rect}
 use Rattle.index.specs.Buckets.{upFrom}
-use Rattle.look.specs.Ready.{BoundedStrips}
 use Rattle.filling.specs.Consistent.{every, stripsFit, boundsFit}
 use Rattle.columns.specs.declared.Columns.{Columns}
 use Rattle.columns.specs.Stands.{columnsOf, reversedOf, lastOf}
@@ -63,7 +62,7 @@ kindTest w first n = every (λ o. slotTest w (first + o)) (upFrom n 0)
 unfoldable pub slotsTest : Slots → List ℕ → ℕ → Bool
 slotsTest w rows kinds = every (λ k. kindTest w (16 * k) (getD rows (4 * k + 3) 0)) (upFrom kinds 0)
 
--- ---- what the tests require, and what they say of a slot
+-- ---- what the tests require
 
 pub record Given (w : Slots) : Type 0 where
   pub bounded : BoundedRect (w .bounds)
@@ -73,9 +72,3 @@ pub record Given (w : Slots) : Type 0 where
   pub parts-long : 4096 ≤ length (w .parts)
   pub next-long : 1024 ≤ length (w .next)
   pub looks-long : 1024 ≤ length (w .looks)
-
-pub record GoodSlot (w : Slots) (i : ℕ) : Type 0 where
-  pub bounds : BoundedRect (boundsAt (w .inset-bounds) i)
-  pub insets : BoundedStrips (insetPart (partAt (w .parts) i) (w .inset))
-  pub aparts : BoundedStrips (apartPart (partAt (w .parts) i) (w .apart))
-  pub looks : getD (w .looks) i 0 ≤ 4000004098

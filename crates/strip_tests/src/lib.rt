@@ -1,12 +1,10 @@
-// What refusal 31 (document 01) asks of a state's numbers and strips: one test a function. A test
-// that succeeds also tells how large its numbers are. Only crates of ours call them.
+// What refusal 31 (document 01) asks of a state's numbers and strips: one test a function. Bounds and
+// a resolution that pass are also told to be of a bounded size. Only crates of ours call them.
 ghost use mathlib.Core.Path.{_≡_};
 ghost use mathlib.Core.Bool.{true};
-ghost use Rattle.trapezoid.specs.Strip.{capacity};
 ghost use Rattle.index.specs.Listing.{Bounded};
-ghost use Rattle.look.specs.Ready.{BoundedStrip, BoundedStrips};
 ghost use Rattle.columns.proofs.Sizes.{BoundedRect, Resolving};
-ghost use Rattle.strip_tests.specs.Heights.{heightsFit, BoundedHeights};
+ghost use Rattle.strip_tests.specs.Heights.{heightsFit};
 ghost use Rattle.filling.specs.Consistent.{bounded, stripFits, stripsFit, boundsFit, resolutionFits, layoutFits};
 use strips::Rect;
 use trapezoid::Trapezoid;
@@ -39,7 +37,7 @@ pub fn bounds_fit(b: Rect) -> bool
 
 // The four heights of a strip.
 fn heights_fit(p: Trapezoid) -> bool
-    ensures { λ r. ⌜ (r ≡ heightsFit p) × (r ≡ true → BoundedHeights p) ⌝ }
+    ensures { λ r. ⌜ r ≡ heightsFit p ⌝ }
 {
     if !bounded(p.low0) {
         return false;
@@ -55,7 +53,7 @@ fn heights_fit(p: Trapezoid) -> bool
 
 // A strip: x0 not above x1, and its six numbers.
 pub fn strip_fits(p: Trapezoid) -> bool
-    ensures { λ r. ⌜ (r ≡ stripFits p) × (r ≡ true → BoundedStrip p) ⌝ }
+    ensures { λ r. ⌜ r ≡ stripFits p ⌝ }
 {
     if p.x1 < p.x0 {
         return false;
@@ -71,7 +69,7 @@ pub fn strip_fits(p: Trapezoid) -> bool
 
 // Every strip of a part.
 pub fn strips_fit(part: &[f64]) -> bool
-    ensures { λ r. ⌜ (r ≡ stripsFit (now (part .entry))) × (r ≡ true → BoundedStrips (now (part .entry))) ⌝ }
+    ensures { λ r. ⌜ r ≡ stripsFit (now (part .entry)) ⌝ }
 {
     let n = trapezoid::capacity(part);
     let mut i = 0;

@@ -1,8 +1,6 @@
 -- `consistent::consistent` meets its contract. Assumes nothing.
-use Prim.Native.Nat.{ℕ, suc, _+_, _-_, _*_, _≤_, _<_}
-use native.Mathlib.Omega.{arith}
 use native.Mathlib.Nat.{le-trans}
-use mathlib.Core.Path.{_≡_, refl, sym, ap, subst, _∙_}
+use mathlib.Core.Path.{sym, _∙_}
 use Rattle.consistent.specs.Tests.{stateOf, roomsOf}
 use Rattle.consistent.proofs.SameTests.{consistent-is}
 use Rattle.strip_tests.proofs.Bounding.{never}
@@ -10,16 +8,10 @@ use Rattle.consistent.proofs.Cases.{both-yes, both-no}
 use borrow.Author.Needs.{needs}
 use Rattle.consistent.proofs.consistent.Statement.{statement}
 use Rattle.consistent.proofs.consistent.Tie as tie
-use Rattle.consistent.proofs.consistent.Reads as reads
-use Rattle.consistent.proofs.consistent.Lts as lts
-use Rattle.consistent.proofs.rooms_fit.Reads as rooms-fit-reads
-use Rattle.consistent.proofs.state_fits.Reads as state-fits-reads
 
--- src/lib.rt:242:8
 state-fits-requires : tie.Need-state-fits-requires
 state-fits-requires c κs = search needs
 
--- src/lib.rt:253:9
 rooms-fit-requires : tie.Need-rooms-fit-requires
 rooms-fit-requires c κs = (
   record { bounded = (c .before .before .before .state-fits .ensures .1 (c .before .before .if1 .taken)) .1; resolving = (c .before .before .before .state-fits .ensures .1 (c .before .before .if1 .taken)) .2; few = le-trans ((c .before .before .before .state-fits .ensures .1 (c .before .before .if1 .taken)) .0) (c .before .before .before .before .before .before .before .before .before .before .before .before .before .before .before .before .before .pre .3); bounds-long = c .before .before .before .before .before .before .before .before .before .before .before .before .before .before .before .before .before .pre .5; parts-long = c .before .before .before .before .before .before .before .before .before .before .before .before .before .before .before .before .before .pre .6; next-long = c .before .before .before .before .before .before .before .before .before .before .before .before .before .before .before .before .before .pre .7; looks-long = c .before .before .before .before .before .before .before .before .before .before .before .before .before .before .before .before .before .pre .8 },
@@ -30,19 +22,15 @@ rooms-fit-requires c κs = (
   c .before .before .before .before .before .before .before .before .before .before .before .before .before .before .before .before .before .pre .10,
 )
 
--- src/lib.rt:253:9
 same-length : tie.Need-same-length
 same-length c = search needs
 
--- src/lib.rt:253:9
 same-length-2 : tie.Need-same-length-2
 same-length-2 c = search needs
 
--- src/lib.rt:253:9
 returns : tie.Need-returns
 returns c = (λ j areas orientation x y t k n. c .before .before .before .before .rooms-fit .ensures .0 ∙ (both-yes _ _ (sym (c .before .before .before .before .before .before .before .before .state-fits .ensures .0 j areas t k n) ∙ c .before .before .before .before .before .before .before .if1 .taken) ∙ consistent-is j (stateOf (c .before .before .before .before .before .before .before .before .before .before .before .before .before .before .before .before .before .before .before .before .before .before .args .taken) (c .before .before .before .before .before .before .before .before .before .before .before .before .before .before .before .before .before .before .before .before .before .before .args .placed-strips) (c .before .before .before .before .before .before .before .before .before .before .before .before .before .before .before .before .before .before .before .before .before .before .args .right) (c .before .before .before .before .before .before .before .before .before .before .before .before .before .before .before .before .before .before .before .before .before .before .args .unplaced-area) (c .before .before .before .before .before .before .before .before .before .before .before .before .before .before .before .before .before .before .before .before .before .before .args .resolution) (c .before .before .before .before .before .before .before .before .before .before .before .before .before .before .before .before .before .before .before .before .before .before .args .bounds) (c .before .before .before .before .before .before .before .before .before .before .before .before .before .before .before .before .before .before .before .before .before .before .args .sheet-strips) (c .before .before .before .before .before .before .before .before .before .before .before .before .before .before .before .before .before .before .before .before .before .before .args .apart-strips) (c .before .before .before .before .before .before .before .before .before .before .before .before .before .before .before .before .before .before .before .before .before .before .args .inset-bounds .now) (c .before .before .before .before .before .before .before .before .before .before .before .before .before .before .before .before .before .before .before .before .before .before .args .parts .now) (c .before .before .before .before .before .before .before .before .before .before .before .before .before .before .before .before .before .before .before .before .before .before .args .order .now) (c .before .before .before .before .before .before .before .before .before .before .before .before .before .before .before .before .before .before .before .before .before .before .args .next-column .now) (c .before .before .before .before .before .before .before .before .before .before .before .before .before .before .before .before .before .before .before .before .before .before .args .look-counts .now) orientation x y) (roomsOf (c .before .before .before .before .before .before .before .before .before .before .before .before .before .before .before .before .before .before .before .before .before .before .args .shapes .now) (c .before .before .before .before .before .before .before .before .before .before .before .before .before .before .before .before .before .before .before .before .before .before .args .sheet .now) (c .before .before .before .before .before .before .before .before .before .before .before .before .before .before .before .before .before .before .before .before .before .before .args .placed .now) (c .before .before .before .before .before .before .before .before .before .before .before .before .before .before .before .before .before .before .before .before .before .before .args .sheet-entries .now) (c .before .before .before .before .before .before .before .before .before .before .before .before .before .before .before .before .before .before .before .before .before .before .args .placed-entries .now)) (c .before .before .before .before .before .before .before .before .before .before .before .before .before .before .before .before .before .before .before .before .before .before .args .rows .now) areas (c .before .before .before .before .before .before .before .before .before .before .before .before .before .before .before .before .before .before .before .before .before .before .args .kinds) (c .before .before .before .before .before .before .before .before .before .before .before .before .before .before .before .before .before .before .before .before .before .before .args .copies) t k n), c .before .before .before .before .rooms-fit .ensures .1)
 
--- src/lib.rt:212:1
 returns-2 : tie.Need-returns-2
 returns-2 c = (λ j areas orientation x y t k n. sym (sym (consistent-is j (stateOf (c .before .before .before .before .before .before .before .before .before .before .before .before .before .before .before .args .taken) (c .before .before .before .before .before .before .before .before .before .before .before .before .before .before .before .args .placed-strips) (c .before .before .before .before .before .before .before .before .before .before .before .before .before .before .before .args .right) (c .before .before .before .before .before .before .before .before .before .before .before .before .before .before .before .args .unplaced-area) (c .before .before .before .before .before .before .before .before .before .before .before .before .before .before .before .args .resolution) (c .before .before .before .before .before .before .before .before .before .before .before .before .before .before .before .args .bounds) (c .before .before .before .before .before .before .before .before .before .before .before .before .before .before .before .args .sheet-strips) (c .before .before .before .before .before .before .before .before .before .before .before .before .before .before .before .args .apart-strips) (c .before .before .before .before .before .before .before .before .before .before .before .before .before .before .before .args .inset-bounds .now) (c .before .before .before .before .before .before .before .before .before .before .before .before .before .before .before .args .parts .now) (c .before .before .before .before .before .before .before .before .before .before .before .before .before .before .before .args .order .now) (c .before .before .before .before .before .before .before .before .before .before .before .before .before .before .before .args .next-column .now) (c .before .before .before .before .before .before .before .before .before .before .before .before .before .before .before .args .look-counts .now) orientation x y) (roomsOf (c .before .before .before .before .before .before .before .before .before .before .before .before .before .before .before .args .shapes .now) (c .before .before .before .before .before .before .before .before .before .before .before .before .before .before .before .args .sheet .now) (c .before .before .before .before .before .before .before .before .before .before .before .before .before .before .before .args .placed .now) (c .before .before .before .before .before .before .before .before .before .before .before .before .before .before .before .args .sheet-entries .now) (c .before .before .before .before .before .before .before .before .before .before .before .before .before .before .before .args .placed-entries .now)) (c .before .before .before .before .before .before .before .before .before .before .before .before .before .before .before .args .rows .now) areas (c .before .before .before .before .before .before .before .before .before .before .before .before .before .before .before .args .kinds) (c .before .before .before .before .before .before .before .before .before .before .before .before .before .before .before .args .copies) t k n) ∙ both-no _ _ (sym (c .before .state-fits .ensures .0 j areas t k n) ∙ c .if1 .left)), never)
 

@@ -1,7 +1,5 @@
 -- `consistent::state_fits` meets its contract. Assumes nothing.
-use Prim.Native.Nat.{ℕ, suc, _+_, _-_, _*_, _≤_, _<_}
-use native.Mathlib.Omega.{arith}
-use mathlib.Core.Path.{_≡_, refl, sym, ap, subst, _∙_}
+use mathlib.Core.Path.{sym, _∙_}
 use lib.ListN.{take}
 use lib.Seq.{length-take-le}
 use borrow.Author.Tests.{leb-true, not-false}
@@ -11,55 +9,37 @@ use Rattle.consistent.proofs.Cases.{state-taken, state-resolution, stat
 use borrow.Author.Needs.{needs}
 use Rattle.consistent.proofs.state_fits.Statement.{statement}
 use Rattle.consistent.proofs.state_fits.Tie as tie
-use Rattle.consistent.proofs.state_fits.Reads as reads
-use Rattle.consistent.proofs.state_fits.Lts as lts
-use Rattle.consistent.proofs.taken_fits.Reads as taken-fits-reads
-use Rattle.order.proofs.rearranged.Reads as rearranged-reads
-use Rattle.strip_tests.proofs.bounds_fit.Reads as bounds-fit-reads
-use Rattle.strip_tests.proofs.layout_fits.Reads as layout-fits-reads
-use Rattle.strip_tests.proofs.resolution_fits.Reads as resolution-fits-reads
 
--- src/lib.rt:67:9
 taken-fits-requires : tie.Need-taken-fits-requires
 taken-fits-requires c κs = search needs
 
--- src/lib.rt:68:9
 returns : tie.Need-returns
 returns c = ((λ j areas t k n. sym (state-taken (c .before .before .before .before .args .taken) (c .before .before .before .before .args .copies) (c .before .before .before .before .args .resolution) (c .before .before .before .before .args .bounds) (c .before .before .before .before .args .right) (c .before .before .before .before .args .unplaced-area) (rearranged j (take (c .before .before .before .before .args .copies) (c .before .before .before .before .args .order .now))) (failed (c .before .taken-fits .ensures) (c .if1 .taken)))), never)
 
--- src/lib.rt:70:9
 resolution-fits-requires : tie.Need-resolution-fits-requires
 resolution-fits-requires c κs = search needs
 
--- src/lib.rt:71:9
 returns-2 : tie.Need-returns-2
 returns-2 c = ((λ j areas t k n. sym (state-resolution (c .before .before .before .before .before .before .args .taken) (c .before .before .before .before .before .before .args .copies) (c .before .before .before .before .before .before .args .resolution) (c .before .before .before .before .before .before .args .bounds) (c .before .before .before .before .before .before .args .right) (c .before .before .before .before .before .before .args .unplaced-area) (rearranged j (take (c .before .before .before .before .before .before .args .copies) (c .before .before .before .before .before .before .args .order .now))) (passed (c .before .before .before .taken-fits .ensures) (c .before .before .if1 .left)) (failed (c .before .resolution-fits .ensures .0) (c .if2 .taken)))), never)
 
--- src/lib.rt:73:9
 bounds-fit-requires : tie.Need-bounds-fit-requires
 bounds-fit-requires c κs = search needs
 
--- src/lib.rt:74:9
 returns-3 : tie.Need-returns-3
 returns-3 c = ((λ j areas t k n. sym (state-bounds (c .before .before .before .before .before .before .before .before .args .taken) (c .before .before .before .before .before .before .before .before .args .copies) (c .before .before .before .before .before .before .before .before .args .resolution) (c .before .before .before .before .before .before .before .before .args .bounds) (c .before .before .before .before .before .before .before .before .args .right) (c .before .before .before .before .before .before .before .before .args .unplaced-area) (rearranged j (take (c .before .before .before .before .before .before .before .before .args .copies) (c .before .before .before .before .before .before .before .before .args .order .now))) (passed (c .before .before .before .before .before .taken-fits .ensures) (c .before .before .before .before .if1 .left)) (passed (c .before .before .before .resolution-fits .ensures .0) (c .before .before .if2 .left)) (failed (c .before .bounds-fit .ensures .0) (c .if3 .taken)))), never)
 
--- src/lib.rt:76:9
 layout-fits-requires : tie.Need-layout-fits-requires
 layout-fits-requires c κs = search needs
 
--- src/lib.rt:77:9
 returns-4 : tie.Need-returns-4
 returns-4 c = ((λ j areas t k n. sym (state-layout (c .before .before .before .before .before .before .before .before .before .before .args .taken) (c .before .before .before .before .before .before .before .before .before .before .args .copies) (c .before .before .before .before .before .before .before .before .before .before .args .resolution) (c .before .before .before .before .before .before .before .before .before .before .args .bounds) (c .before .before .before .before .before .before .before .before .before .before .args .right) (c .before .before .before .before .before .before .before .before .before .before .args .unplaced-area) (rearranged j (take (c .before .before .before .before .before .before .before .before .before .before .args .copies) (c .before .before .before .before .before .before .before .before .before .before .args .order .now))) (passed (c .before .before .before .before .before .before .before .taken-fits .ensures) (c .before .before .before .before .before .before .if1 .left)) (passed (c .before .before .before .before .before .resolution-fits .ensures .0) (c .before .before .before .before .if2 .left)) (passed (c .before .before .before .bounds-fit .ensures .0) (c .before .before .if3 .left)) (failed (c .before .layout-fits .ensures) (c .if4 .taken)))), never)
 
--- src/lib.rt:79:23
 slice-aggregate-rearranged : tie.Need-slice-aggregate-rearranged
 slice-aggregate-rearranged c = sym (length-take-le (c .before .before .before .before .before .before .before .before .before .before .before .args .copies) (c .before .before .before .before .before .before .before .before .before .before .before .args .order .now) (c .before .before .before .before .before .before .before .before .before .before .before .pre .2))
 
--- src/lib.rt:79:5
 rearranged-requires : tie.Need-rearranged-requires
 rearranged-requires c κs = search needs
 
--- src/lib.rt:53:1
 returns-5 : tie.Need-returns-5
 returns-5 c = (
   (λ j areas t k n. c .rearranged .ensures j areas t k n ∙ state-order (c .before .before .before .before .before .before .before .before .before .before .before .before .args .taken) (c .before .before .before .before .before .before .before .before .before .before .before .before .args .copies) (c .before .before .before .before .before .before .before .before .before .before .before .before .args .resolution) (c .before .before .before .before .before .before .before .before .before .before .before .before .args .bounds) (c .before .before .before .before .before .before .before .before .before .before .before .before .args .right) (c .before .before .before .before .before .before .before .before .before .before .before .before .args .unplaced-area) (rearranged j (take (c .before .before .before .before .before .before .before .before .before .before .before .before .args .copies) (c .before .before .before .before .before .before .before .before .before .before .before .before .args .order .now))) (passed (c .before .before .before .before .before .before .before .before .before .taken-fits .ensures) (c .before .before .before .before .before .before .before .before .if1 .left)) (passed (c .before .before .before .before .before .before .before .resolution-fits .ensures .0) (c .before .before .before .before .before .before .if2 .left)) (passed (c .before .before .before .before .before .bounds-fit .ensures .0) (c .before .before .before .before .if3 .left)) (passed (c .before .before .before .layout-fits .ensures) (c .before .before .if4 .left))),

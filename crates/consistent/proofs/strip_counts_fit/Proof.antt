@@ -1,7 +1,7 @@
 -- `consistent::strip_counts_fit` meets its contract. Assumes nothing.
-use Prim.Native.Nat.{ℕ, suc, _+_, _-_, _*_, _≤_, _<_}
+use Prim.Native.Nat.{_≤_}
 use native.Mathlib.Omega.{arith}
-use mathlib.Core.Path.{_≡_, refl, sym, ap, subst, _∙_}
+use mathlib.Core.Path.{sym, ap, _∙_}
 use lib.Dec.{leb}
 use borrow.Author.Tests.{leb-true}
 use Rattle.trapezoid.specs.Strip.{capacity}
@@ -10,31 +10,22 @@ use Rattle.consistent.proofs.Cases.{counts-sheet, counts-apart, counts-
 use borrow.Author.Needs.{needs}
 use Rattle.consistent.proofs.strip_counts_fit.Statement.{statement}
 use Rattle.consistent.proofs.strip_counts_fit.Tie as tie
-use Rattle.consistent.proofs.strip_counts_fit.Reads as reads
-use Rattle.consistent.proofs.strip_counts_fit.Lts as lts
-use Rattle.trapezoid.proofs.capacity.Reads as capacity-reads
 
--- src/lib.rt:43:23
 capacity-requires : tie.Need-capacity-requires
 capacity-requires c κs = search needs
 
--- src/lib.rt:44:9
 returns : tie.Need-returns
 returns c = (sym (counts-sheet (c .before .before .before .before .before .args .sheet-strips) (c .before .before .before .before .before .args .apart-strips) (c .before .before .before .before .before .args .placed-strips) (c .before .before .before .before .before .args .sheet .now) (c .before .before .before .before .before .args .shapes .now) (c .before .before .before .before .before .args .placed .now) (let a = c .before .capacity .ensures in let b = c .if1 .taken in omega arith)), never)
 
--- src/lib.rt:46:23
 capacity-requires-2 : tie.Need-capacity-requires-2
 capacity-requires-2 c κs = search needs
 
--- src/lib.rt:47:9
 returns-2 : tie.Need-returns-2
 returns-2 c = (sym (counts-apart (c .before .before .before .before .before .before .before .args .sheet-strips) (c .before .before .before .before .before .before .before .args .apart-strips) (c .before .before .before .before .before .before .before .args .placed-strips) (c .before .before .before .before .before .before .before .args .sheet .now) (c .before .before .before .before .before .before .before .args .shapes .now) (c .before .before .before .before .before .before .before .args .placed .now) (let a = c .before .before .before .capacity .ensures in let b = c .before .before .if1 .left in omega arith) (let a = c .before .capacity2 .ensures in let b = c .if2 .taken in omega arith)), never)
 
--- src/lib.rt:49:22
 capacity-requires-3 : tie.Need-capacity-requires-3
 capacity-requires-3 c κs = search needs
 
--- src/lib.rt:33:1
 returns-3 : tie.Need-returns-3
 returns-3 c = let s : c .before .before .before .before .before .before .before .before .args .sheet-strips ≤ capacity (c .before .before .before .before .before .before .before .before .args .sheet .now) = (let a = c .before .before .before .before .capacity .ensures in let b = c .before .before .before .if1 .left in omega arith) in
     let a : c .before .before .before .before .before .before .before .before .args .apart-strips ≤ capacity (c .before .before .before .before .before .before .before .before .args .shapes .now) = (let a = c .before .before .capacity2 .ensures in let b = c .before .if2 .left in omega arith) in

@@ -1,16 +1,10 @@
 -- `order::count_kinds` meets its contract. Assumes nothing.
-use Prim.Native.Nat.{ℕ, zero, suc, _+_, _-_, _*_, _≤_, _<_}
-use native.Mathlib.Nat.{sub-zero}
+use Prim.Native.Nat.{_-_}
 use native.Mathlib.Omega.{arith}
-use mathlib.Core.Path.{_≡_, refl, sym, ap, _∙_}
-use lib.ListN.{length, getD}
-use borrow.Author.Needs.{needs}
-use Rattle.order.specs.Quantities.{inQuantity}
-use Rattle.order.proofs.Counting.{CountedTo, counted-start, counted-in, counted-out, counted-end, counted-small, quantity-on, quantity-not, quantity-end, rearranged-is, rearranged-not}
+use mathlib.Core.Path.{refl}
+use Rattle.order.proofs.Counting.{CountedTo, counted-start, counted-in, counted-out, counted-end, counted-small}
 use Rattle.order.proofs.count_kinds.Statement.{statement}
 use Rattle.order.proofs.count_kinds.Tie as tie
-use Rattle.order.proofs.count_kinds.Reads as reads
-use Rattle.order.proofs.count_kinds.Lts as lts
 
 abbrev Inv-loop : tie.InvT-loop
 Inv-loop order counts₀ n m i₀ counts i = CountedTo order m i counts
@@ -18,65 +12,50 @@ Inv-loop order counts₀ n m i₀ counts i = CountedTo order m i counts
 abbrev μ-loop : tie.MeasureT-loop
 μ-loop order counts₀ n m i₀ counts i = n - i
 
--- src/lib.rt:20:5
 loop-holds : tie.Need-loop-holds Inv-loop μ-loop
 loop-holds c = counted-start (c .args .order .now) _ (c .args .counts .now) refl (c .pre)
 
--- src/lib.rt:21:17
 mul-k : tie.Need-mul-k Inv-loop μ-loop
 mul-k c = omega arith
 
--- src/lib.rt:21:17
 shared-slice-read-k : tie.Need-shared-slice-read-k Inv-loop μ-loop
 shared-slice-read-k c = omega arith
 
--- src/lib.rt:22:9
 add-i : tie.Need-add-i Inv-loop μ-loop
 add-i c = omega arith
 
--- src/lib.rt:24:25
 mul-counts : tie.Need-mul-counts Inv-loop μ-loop
 mul-counts c = let z = c .before .before .before .loop .inv .size in omega arith
 
--- src/lib.rt:24:25
 slice-read-counts : tie.Need-slice-read-counts Inv-loop μ-loop
 slice-read-counts c = let z = c .before .before .before .before .loop .inv .size in omega arith
 
--- src/lib.rt:24:25
 add-counts : tie.Need-add-counts Inv-loop μ-loop
 add-counts c = let l = c .before .before .before .before .loop in
     let z = counted-small (c .before .before .before .before .before .args .order .now) _ (l .i) (l .counts) (l .inv) _ (c .before .if1 .taken) in
     omega arith
 
--- src/lib.rt:24:13
 mul-counts-2 : tie.Need-mul-counts-2 Inv-loop μ-loop
 mul-counts-2 c = let z = c .before .before .before .before .loop .inv .size in omega arith
 
--- src/lib.rt:24:13
 slice-write-counts : tie.Need-slice-write-counts Inv-loop μ-loop
 slice-write-counts c = let z = c .before .before .before .before .loop .inv .size in omega arith
 
--- src/lib.rt:20:5
 loop-less : tie.Need-loop-less Inv-loop μ-loop
 loop-less c = omega arith
 
--- src/lib.rt:20:5
 loop-again : tie.Need-loop-again Inv-loop μ-loop
 loop-again c = let l = c .before .before .before .before .loop in counted-in (c .before .before .before .before .before .args .order .now) _ (l .i) (l .counts) _ refl (omega arith) (omega arith) (l .inv)
 
--- src/lib.rt:20:5
 loop-less-2 : tie.Need-loop-less-2 Inv-loop μ-loop
 loop-less-2 c = omega arith
 
--- src/lib.rt:20:5
 loop-again-2 : tie.Need-loop-again-2 Inv-loop μ-loop
 loop-again-2 c = let l = c .before .before .before .loop in counted-out (c .before .before .before .before .args .order .now) _ (l .i) (l .counts) _ refl (omega arith) (omega arith) (l .inv)
 
--- src/lib.rt:13:1
 same-length : tie.Need-same-length Inv-loop μ-loop
 same-length c = c .before .loop .inv .size
 
--- src/lib.rt:13:1
 returns : tie.Need-returns Inv-loop μ-loop
 returns c = let l = c .before .loop in counted-end (c .before .before .args .order .now) _ (l .i) (l .counts) (omega arith) (l .inv)
 

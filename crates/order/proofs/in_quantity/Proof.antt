@@ -1,16 +1,13 @@
 -- `order::in_quantity` meets its contract. Assumes nothing.
-use Prim.Native.Nat.{ℕ, zero, suc, _+_, _-_, _*_, _≤_, _<_}
+use Prim.Native.Nat.{_-_}
 use native.Mathlib.Nat.{sub-zero}
 use native.Mathlib.Omega.{arith}
-use mathlib.Core.Path.{_≡_, refl, sym, ap, _∙_}
-use lib.ListN.{length, getD}
+use mathlib.Core.Path.{_≡_, sym, ap, _∙_}
 use borrow.Author.Tests.{ne-eqb}
 use Rattle.order.specs.Quantities.{inQuantity}
-use Rattle.order.proofs.Counting.{CountedTo, counted-start, counted-in, counted-out, counted-end, counted-small, quantity-on, quantity-not, quantity-end, rearranged-is, rearranged-not}
+use Rattle.order.proofs.Counting.{quantity-on, quantity-not, quantity-end}
 use Rattle.order.proofs.in_quantity.Statement.{statement}
 use Rattle.order.proofs.in_quantity.Tie as tie
-use Rattle.order.proofs.in_quantity.Reads as reads
-use Rattle.order.proofs.in_quantity.Lts as lts
 
 abbrev Inv-loop : tie.InvT-loop
 Inv-loop counts rows kinds k₀ k = inQuantity counts rows (kinds - k) k ≡ inQuantity counts rows kinds 0
@@ -18,47 +15,36 @@ Inv-loop counts rows kinds k₀ k = inQuantity counts rows (kinds - k) k ≡ inQ
 abbrev μ-loop : tie.MeasureT-loop
 μ-loop counts rows kinds k₀ k = kinds - k
 
--- src/lib.rt:35:5
 loop-holds : tie.Need-loop-holds Inv-loop μ-loop
 loop-holds c = ap (λ n. inQuantity (c .args .counts .now) (c .args .rows .now) n 0) (sub-zero (c .args .kinds))
 
--- src/lib.rt:36:12
 mul-if1 : tie.Need-mul-if1 Inv-loop μ-loop
 mul-if1 c = let z = c .loop-test .taken in omega arith
 
--- src/lib.rt:36:12
 shared-slice-read-if1 : tie.Need-shared-slice-read-if1 Inv-loop μ-loop
 shared-slice-read-if1 c = omega arith
 
--- src/lib.rt:36:37
 mul-if1-2 : tie.Need-mul-if1-2 Inv-loop μ-loop
 mul-if1-2 c = omega arith
 
--- src/lib.rt:36:32
 mul-if1-3 : tie.Need-mul-if1-3 Inv-loop μ-loop
 mul-if1-3 c = omega arith
 
--- src/lib.rt:36:32
 shared-slice-read-if1-2 : tie.Need-shared-slice-read-if1-2 Inv-loop μ-loop
 shared-slice-read-if1-2 c = omega arith
 
--- src/lib.rt:37:13
 add-k : tie.Need-add-k Inv-loop μ-loop
 add-k c = omega arith
 
--- src/lib.rt:35:5
 loop-less : tie.Need-loop-less Inv-loop μ-loop
 loop-less c = omega arith
 
--- src/lib.rt:35:5
 loop-again : tie.Need-loop-again Inv-loop μ-loop
 loop-again c = let l = c .before .before .before .before .loop in let a = c .before .before .before .before .before .args in sym (quantity-on (a .counts .now) (a .rows .now) (a .kinds) (l .k) (omega arith) (c .if1 .taken)) ∙ l .inv
 
--- src/lib.rt:39:13
 returns : tie.Need-returns Inv-loop μ-loop
 returns c = let l = c .before .before .before .before .loop in let a = c .before .before .before .before .before .args in sym (sym (l .inv) ∙ quantity-not (a .counts .now) (a .rows .now) (a .kinds) (l .k) (omega arith) (ne-eqb _ _ (c .if1 .left)))
 
--- src/lib.rt:30:1
 returns-2 : tie.Need-returns-2 Inv-loop μ-loop
 returns-2 c = let l = c .before .loop in let a = c .before .before .args in sym (sym (l .inv) ∙ quantity-end (a .counts .now) (a .rows .now) (a .kinds) (l .k) (omega arith))
 

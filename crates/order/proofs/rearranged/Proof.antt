@@ -1,38 +1,27 @@
 -- `order::rearranged` meets its contract. Assumes nothing.
-use native.Mathlib.Omega.{arith}
-use mathlib.Core.Path.{_≡_, refl, sym, ap, _∙_}
+use mathlib.Core.Path.{sym, _∙_}
 use lib.ListN.{getD-replicate}
 use borrow.Author.Needs.{needs}
 use borrow.Author.Tests.{ne-eqb}
 use Rattle.order.proofs.Counting.{rearranged-is, rearranged-not}
 use Rattle.order.proofs.rearranged.Statement.{statement}
 use Rattle.order.proofs.rearranged.Tie as tie
-use Rattle.order.proofs.rearranged.Reads as reads
-use Rattle.order.proofs.rearranged.Lts as lts
-use Rattle.order.proofs.count_kinds.Reads as count-kinds-reads
-use Rattle.order.proofs.in_quantity.Reads as in-quantity-reads
 
--- src/lib.rt:53:28
 slice-aggregate-count-kinds : tie.Need-slice-aggregate-count-kinds
 slice-aggregate-count-kinds c = search needs
 
--- src/lib.rt:53:9
 count-kinds-requires : tie.Need-count-kinds-requires
 count-kinds-requires c κs = λ k l. getD-replicate 64 k 0 0 l
 
--- src/lib.rt:54:28
 slice-aggregate-in-quantity : tie.Need-slice-aggregate-in-quantity
 slice-aggregate-in-quantity c = search needs
 
--- src/lib.rt:54:9
 in-quantity-requires : tie.Need-in-quantity-requires
 in-quantity-requires c κs = search needs
 
--- src/lib.rt:54:9
 returns : tie.Need-returns
 returns c = let a = c .before .before .before .before .before .before .before .before .args in λ j areas t e f. c .in-quantity .ensures ∙ rearranged-is j (a .rows .now) areas (a .order .now) _ (a .kinds) (a .copies) t e f (c .before .before .before .before .before .if1 .taken) (c .before .before .before .count-kinds .ensures)
 
--- src/lib.rt:47:1
 returns-2 : tie.Need-returns-2
 returns-2 c = let a = c .before .before .before .args in λ j areas t e f. sym (rearranged-not j (a .order .now) (a .copies) f (ne-eqb _ _ (c .if1 .left)))
 

@@ -1,26 +1,19 @@
 -- `slot_tests::part_fits` meets its contract. Assumes nothing.
-use mathlib.Core.Path.{_≡_, refl, sym, ap, subst, _∙_}
+use mathlib.Core.Path.{sym, _∙_}
 use Rattle.slot_tests.proofs.Testing.{part-yes, part-no}
 use borrow.Author.Needs.{needs}
 use Rattle.slot_tests.proofs.part_fits.Statement.{statement}
 use Rattle.slot_tests.proofs.part_fits.Tie as tie
-use Rattle.slot_tests.proofs.part_fits.Reads as reads
-use Rattle.slot_tests.proofs.part_fits.Lts as lts
-use Rattle.slot_tests.proofs.within.Reads as within-reads
 
--- src/lib.rt:31:8
 within-requires : tie.Need-within-requires
 within-requires c κs = search needs
 
--- src/lib.rt:32:9
 within-requires-2 : tie.Need-within-requires-2
 within-requires-2 c κs = search needs
 
--- src/lib.rt:32:9
 returns : tie.Need-returns
 returns c = c .within2 .ensures ∙ part-yes (c .before .before .before .args .apart) (c .before .before .before .args .inset) (c .before .before .before .args .p) (sym (c .before .before .within .ensures) ∙ c .before .if1 .taken)
 
--- src/lib.rt:28:1
 returns-2 : tie.Need-returns-2
 returns-2 c = sym (part-no (c .before .before .args .apart) (c .before .before .args .inset) (c .before .before .args .p) (sym (c .before .within .ensures) ∙ c .if1 .left))
 

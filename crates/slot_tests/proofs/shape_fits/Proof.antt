@@ -1,58 +1,37 @@
 -- `slot_tests::shape_fits` meets its contract. Assumes nothing.
-use mathlib.Core.Path.{_≡_, refl, sym, ap, subst, _∙_}
-use mathlib.Core.List.{List}
-use lib.Ieee.{Float}
-use borrow.Author.Tests.{not-false}
-use Rattle.look.specs.Ready.{BoundedStrips}
+use mathlib.Core.Path.{sym, ap, _∙_}
 use Rattle.filling.specs.Consistent.{stripsFit}
 use Rattle.strip_tests.proofs.Bounding.{never, passed, failed}
 use Rattle.slot_tests.proofs.Testing.{shape-apart, shape-inset, shape-bounds}
 use borrow.Author.Needs.{needs}
 use Rattle.slot_tests.proofs.shape_fits.Statement.{statement}
 use Rattle.slot_tests.proofs.shape_fits.Tie as tie
-use Rattle.slot_tests.proofs.shape_fits.Reads as reads
-use Rattle.slot_tests.proofs.shape_fits.Lts as lts
-use Rattle.strip_tests.proofs.bounds_fit.Reads as bounds-fit-reads
-use Rattle.strip_tests.proofs.strips_fit.Reads as strips-fit-reads
-use Rattle.trapezoid.proofs.strips_of.Reads as strips-of-reads
 
--- src/lib.rt:41:9
 strips-of-requires : tie.Need-strips-of-requires
 strips-of-requires c κs = search needs
 
--- src/lib.rt:42:9
 strips-fit-requires : tie.Need-strips-fit-requires
 strips-fit-requires c κs = search needs
 
--- src/lib.rt:43:9
 returns : tie.Need-returns
-returns c = (sym (shape-apart (c .before .before .before .before .before .args .p) (c .before .before .before .before .before .args .b) (c .before .before .before .before .before .args .apart .now) (c .before .before .before .before .before .args .inset .now) (ap stripsFit (sym (c .before .before .strips-of .ensures)) ∙ failed (c .before .strips-fit .ensures .0) (c .if1 .taken))), never)
+returns c = (sym (shape-apart (c .before .before .before .before .before .args .p) (c .before .before .before .before .before .args .b) (c .before .before .before .before .before .args .apart .now) (c .before .before .before .before .before .args .inset .now) (ap stripsFit (sym (c .before .before .strips-of .ensures)) ∙ failed (c .before .strips-fit .ensures) (c .if1 .taken))), never)
 
--- src/lib.rt:45:9
 strips-of-requires-2 : tie.Need-strips-of-requires-2
 strips-of-requires-2 c κs = search needs
 
--- src/lib.rt:46:9
 strips-fit-requires-2 : tie.Need-strips-fit-requires-2
 strips-fit-requires-2 c κs = search needs
 
--- src/lib.rt:47:9
 returns-2 : tie.Need-returns-2
-returns-2 c = (sym (shape-inset (c .before .before .before .before .before .before .before .before .args .p) (c .before .before .before .before .before .before .before .before .args .b) (c .before .before .before .before .before .before .before .before .args .apart .now) (c .before .before .before .before .before .before .before .before .args .inset .now) (ap stripsFit (sym (c .before .before .before .before .before .strips-of .ensures)) ∙ passed (c .before .before .before .before .strips-fit .ensures .0) (c .before .before .before .if1 .left)) (ap stripsFit (sym (c .before .before .strips-of2 .ensures)) ∙ failed (c .before .strips-fit2 .ensures .0) (c .if2 .taken))), never)
+returns-2 c = (sym (shape-inset (c .before .before .before .before .before .before .before .before .args .p) (c .before .before .before .before .before .before .before .before .args .b) (c .before .before .before .before .before .before .before .before .args .apart .now) (c .before .before .before .before .before .before .before .before .args .inset .now) (ap stripsFit (sym (c .before .before .before .before .before .strips-of .ensures)) ∙ passed (c .before .before .before .before .strips-fit .ensures) (c .before .before .before .if1 .left)) (ap stripsFit (sym (c .before .before .strips-of2 .ensures)) ∙ failed (c .before .strips-fit2 .ensures) (c .if2 .taken))), never)
 
--- src/lib.rt:49:5
 bounds-fit-requires : tie.Need-bounds-fit-requires
 bounds-fit-requires c κs = search needs
 
--- src/lib.rt:38:1
 returns-3 : tie.Need-returns-3
 returns-3 c = (
-  c .bounds-fit .ensures .0 ∙ shape-bounds (c .before .before .before .before .before .before .before .before .before .args .p) (c .before .before .before .before .before .before .before .before .before .args .b) (c .before .before .before .before .before .before .before .before .before .args .apart .now) (c .before .before .before .before .before .before .before .before .before .args .inset .now) (ap stripsFit (sym (c .before .before .before .before .before .before .strips-of .ensures)) ∙ passed (c .before .before .before .before .before .strips-fit .ensures .0) (c .before .before .before .before .if1 .left)) (ap stripsFit (sym (c .before .before .before .strips-of2 .ensures)) ∙ passed (c .before .before .strips-fit2 .ensures .0) (c .before .if2 .left)),
-  λ e. (
-    c .bounds-fit .ensures .1 e,
-    subst (λ (l : List Float). BoundedStrips l) (c .before .before .before .strips-of2 .ensures) (c .before .before .strips-fit2 .ensures .1 (not-false _ (c .before .if2 .left))),
-    subst (λ (l : List Float). BoundedStrips l) (c .before .before .before .before .before .before .strips-of .ensures) (c .before .before .before .before .before .strips-fit .ensures .1 (not-false _ (c .before .before .before .before .if1 .left))),
-  ),
+  c .bounds-fit .ensures .0 ∙ shape-bounds (c .before .before .before .before .before .before .before .before .before .args .p) (c .before .before .before .before .before .before .before .before .before .args .b) (c .before .before .before .before .before .before .before .before .before .args .apart .now) (c .before .before .before .before .before .before .before .before .before .args .inset .now) (ap stripsFit (sym (c .before .before .before .before .before .before .strips-of .ensures)) ∙ passed (c .before .before .before .before .before .strips-fit .ensures) (c .before .before .before .before .if1 .left)) (ap stripsFit (sym (c .before .before .before .strips-of2 .ensures)) ∙ passed (c .before .before .strips-fit2 .ensures) (c .before .if2 .left)),
+  c .bounds-fit .ensures .1,
 )
 
 pub shape-fits-spec : {M : Type 1} → statement M

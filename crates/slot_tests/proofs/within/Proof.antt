@@ -1,16 +1,12 @@
 -- `slot_tests::within` meets its contract. Assumes nothing.
-use mathlib.Core.Path.{_≡_, refl, sym, ap, subst, _∙_}
+use mathlib.Core.Path.{sym}
 use Rattle.slot_tests.proofs.Testing.{within-yes, within-no}
 use Rattle.slot_tests.proofs.within.Statement.{statement}
 use Rattle.slot_tests.proofs.within.Tie as tie
-use Rattle.slot_tests.proofs.within.Reads as reads
-use Rattle.slot_tests.proofs.within.Lts as lts
 
--- src/lib.rt:22:9
 returns : tie.Need-returns
 returns c = within-yes (c .before .args .start) (c .before .args .count) (c .before .args .whole) (c .if1 .taken)
 
--- src/lib.rt:18:1
 returns-2 : tie.Need-returns-2
 returns-2 c = sym (within-no (c .before .args .start) (c .before .args .count) (c .before .args .whole) (c .if1 .left))
 

@@ -1,19 +1,15 @@
 -- `strip_tests::bounded` meets its contract. Assumes nothing.
-use mathlib.Core.Path.{_≡_, refl, sym, ap, _∙_}
+use mathlib.Core.Path.{sym}
 use lib.Ieee.{neg, ofInt, ofBits}
 use Rattle.numbers.proofs.Truth.{holds}
 use Rattle.strip_tests.proofs.Bounding.{never, bounded-low, bounded-rest}
 use Rattle.strip_tests.proofs.bounded.Statement.{statement}
 use Rattle.strip_tests.proofs.bounded.Tie as tie
-use Rattle.strip_tests.proofs.bounded.Reads as reads
-use Rattle.strip_tests.proofs.bounded.Lts as lts
 
--- src/lib.rt:19:9
 returns : tie.Need-returns
 unfolding neg ofInt ofBits
 returns c = bounded-rest (c .before .args .x) (holds (c .before .good .0 .1)) (c .if1 .taken)
 
--- src/lib.rt:15:1
 returns-2 : tie.Need-returns-2
 unfolding neg ofInt ofBits
 returns-2 c = (sym (bounded-low (c .before .args .x) (c .if1 .left)), never)

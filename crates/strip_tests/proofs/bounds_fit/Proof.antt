@@ -1,43 +1,32 @@
 -- `strip_tests::bounds_fit` meets its contract. Assumes nothing.
-use mathlib.Core.Path.{_≡_, refl, sym, ap, _∙_}
+use mathlib.Core.Path.{sym, _∙_}
 use borrow.Author.Tests.{not-false}
 use Rattle.strip_tests.proofs.Bounding.{never, passed, failed, bounds-left, bounds-bottom, bounds-right, bounds-top}
 use borrow.Author.Needs.{needs}
 use Rattle.strip_tests.proofs.bounds_fit.Statement.{statement}
 use Rattle.strip_tests.proofs.bounds_fit.Tie as tie
-use Rattle.strip_tests.proofs.bounds_fit.Reads as reads
-use Rattle.strip_tests.proofs.bounds_fit.Lts as lts
-use Rattle.strip_tests.proofs.bounded.Reads as bounded-reads
 
--- src/lib.rt:28:9
 bounded-requires : tie.Need-bounded-requires
 bounded-requires c κs = search needs
 
--- src/lib.rt:29:9
 returns : tie.Need-returns
 returns c = (sym (bounds-left (c .before .before .args .b) (failed (c .before .bounded .ensures .0) (c .if1 .taken))), never)
 
--- src/lib.rt:31:9
 bounded-requires-2 : tie.Need-bounded-requires-2
 bounded-requires-2 c κs = search needs
 
--- src/lib.rt:32:9
 returns-2 : tie.Need-returns-2
 returns-2 c = (sym (bounds-bottom (c .before .before .before .before .args .b) (passed (c .before .before .before .bounded .ensures .0) (c .before .before .if1 .left)) (failed (c .before .bounded2 .ensures .0) (c .if2 .taken))), never)
 
--- src/lib.rt:34:9
 bounded-requires-3 : tie.Need-bounded-requires-3
 bounded-requires-3 c κs = search needs
 
--- src/lib.rt:35:9
 returns-3 : tie.Need-returns-3
 returns-3 c = (sym (bounds-right (c .before .before .before .before .before .before .args .b) (passed (c .before .before .before .before .before .bounded .ensures .0) (c .before .before .before .before .if1 .left)) (passed (c .before .before .before .bounded2 .ensures .0) (c .before .before .if2 .left)) (failed (c .before .bounded3 .ensures .0) (c .if3 .taken))), never)
 
--- src/lib.rt:37:5
 bounded-requires-4 : tie.Need-bounded-requires-4
 bounded-requires-4 c κs = search needs
 
--- src/lib.rt:25:1
 returns-4 : tie.Need-returns-4
 returns-4 c = (
   c .bounded4 .ensures .0 ∙ bounds-top (c .before .before .before .before .before .before .before .args .b) (passed (c .before .before .before .before .before .before .bounded .ensures .0) (c .before .before .before .before .before .if1 .left)) (passed (c .before .before .before .before .bounded2 .ensures .0) (c .before .before .before .if2 .left)) (passed (c .before .before .bounded3 .ensures .0) (c .before .if3 .left)),

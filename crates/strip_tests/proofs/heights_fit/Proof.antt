@@ -1,48 +1,33 @@
 -- `strip_tests::heights_fit` meets its contract. Assumes nothing.
-use mathlib.Core.Path.{_≡_, refl, sym, ap, _∙_}
-use borrow.Author.Tests.{not-false}
-use Rattle.strip_tests.proofs.Bounding.{never, passed, failed, heights-1, heights-2, heights-3, heights-4}
+use mathlib.Core.Path.{sym, _∙_}
+use Rattle.strip_tests.proofs.Bounding.{passed, failed, heights-1, heights-2, heights-3, heights-4}
 use borrow.Author.Needs.{needs}
 use Rattle.strip_tests.proofs.heights_fit.Statement.{statement}
 use Rattle.strip_tests.proofs.heights_fit.Tie as tie
-use Rattle.strip_tests.proofs.heights_fit.Reads as reads
-use Rattle.strip_tests.proofs.heights_fit.Lts as lts
-use Rattle.strip_tests.proofs.bounded.Reads as bounded-reads
 
--- src/lib.rt:44:9
 bounded-requires : tie.Need-bounded-requires
 bounded-requires c κs = search needs
 
--- src/lib.rt:45:9
 returns : tie.Need-returns
-returns c = (sym (heights-1 (c .before .before .args .p) (failed (c .before .bounded .ensures .0) (c .if1 .taken))), never)
+returns c = sym (heights-1 (c .before .before .args .p) (failed (c .before .bounded .ensures .0) (c .if1 .taken)))
 
--- src/lib.rt:47:9
 bounded-requires-2 : tie.Need-bounded-requires-2
 bounded-requires-2 c κs = search needs
 
--- src/lib.rt:48:9
 returns-2 : tie.Need-returns-2
-returns-2 c = (sym (heights-2 (c .before .before .before .before .args .p) (passed (c .before .before .before .bounded .ensures .0) (c .before .before .if1 .left)) (failed (c .before .bounded2 .ensures .0) (c .if2 .taken))), never)
+returns-2 c = sym (heights-2 (c .before .before .before .before .args .p) (passed (c .before .before .before .bounded .ensures .0) (c .before .before .if1 .left)) (failed (c .before .bounded2 .ensures .0) (c .if2 .taken)))
 
--- src/lib.rt:50:9
 bounded-requires-3 : tie.Need-bounded-requires-3
 bounded-requires-3 c κs = search needs
 
--- src/lib.rt:51:9
 returns-3 : tie.Need-returns-3
-returns-3 c = (sym (heights-3 (c .before .before .before .before .before .before .args .p) (passed (c .before .before .before .before .before .bounded .ensures .0) (c .before .before .before .before .if1 .left)) (passed (c .before .before .before .bounded2 .ensures .0) (c .before .before .if2 .left)) (failed (c .before .bounded3 .ensures .0) (c .if3 .taken))), never)
+returns-3 c = sym (heights-3 (c .before .before .before .before .before .before .args .p) (passed (c .before .before .before .before .before .bounded .ensures .0) (c .before .before .before .before .if1 .left)) (passed (c .before .before .before .bounded2 .ensures .0) (c .before .before .if2 .left)) (failed (c .before .bounded3 .ensures .0) (c .if3 .taken)))
 
--- src/lib.rt:53:5
 bounded-requires-4 : tie.Need-bounded-requires-4
 bounded-requires-4 c κs = search needs
 
--- src/lib.rt:41:1
 returns-4 : tie.Need-returns-4
-returns-4 c = (
-  c .bounded4 .ensures .0 ∙ heights-4 (c .before .before .before .before .before .before .before .args .p) (passed (c .before .before .before .before .before .before .bounded .ensures .0) (c .before .before .before .before .before .if1 .left)) (passed (c .before .before .before .before .bounded2 .ensures .0) (c .before .before .before .if2 .left)) (passed (c .before .before .bounded3 .ensures .0) (c .before .if3 .left)),
-  λ e. record { low0 = c .before .before .before .before .before .before .bounded .ensures .1 (not-false _ (c .before .before .before .before .before .if1 .left)); low1 = c .before .before .before .before .bounded2 .ensures .1 (not-false _ (c .before .before .before .if2 .left)); high0 = c .before .before .bounded3 .ensures .1 (not-false _ (c .before .if3 .left)); high1 = c .bounded4 .ensures .1 e },
-)
+returns-4 c = c .bounded4 .ensures .0 ∙ heights-4 (c .before .before .before .before .before .before .before .args .p) (passed (c .before .before .before .before .before .before .bounded .ensures .0) (c .before .before .before .before .before .if1 .left)) (passed (c .before .before .before .before .bounded2 .ensures .0) (c .before .before .before .if2 .left)) (passed (c .before .before .bounded3 .ensures .0) (c .before .if3 .left))
 
 pub heights-fit-spec : {M : Type 1} → statement M
 heights-fit-spec =

@@ -1,28 +1,21 @@
 -- `strip_tests::layout_fits` meets its contract. Assumes nothing.
-use mathlib.Core.Path.{_≡_, refl, sym, ap, _∙_}
+use mathlib.Core.Path.{sym}
 use lib.Ieee.{ofInt, ofBits}
 use Rattle.strip_tests.proofs.Bounding.{passed, failed, layout-right, layout-rest, layout-low}
 use borrow.Author.Needs.{needs}
 use Rattle.strip_tests.proofs.layout_fits.Statement.{statement}
 use Rattle.strip_tests.proofs.layout_fits.Tie as tie
-use Rattle.strip_tests.proofs.layout_fits.Reads as reads
-use Rattle.strip_tests.proofs.layout_fits.Lts as lts
-use Rattle.strip_tests.proofs.bounded.Reads as bounded-reads
 
--- src/lib.rt:102:9
 bounded-requires : tie.Need-bounded-requires
 bounded-requires c κs = search needs
 
--- src/lib.rt:103:9
 returns : tie.Need-returns
 returns c = sym (layout-right (c .before .before .args .right) (c .before .before .args .area) (failed (c .before .bounded .ensures .0) (c .if1 .taken)))
 
--- src/lib.rt:106:9
 returns-2 : tie.Need-returns-2
 unfolding ofInt ofBits
 returns-2 c = layout-rest (c .before .before .before .args .right) (c .before .before .before .args .area) (passed (c .before .before .bounded .ensures .0) (c .before .if1 .left)) (c .if2 .taken)
 
--- src/lib.rt:99:1
 returns-3 : tie.Need-returns-3
 unfolding ofInt ofBits
 returns-3 c = sym (layout-low (c .before .before .before .args .right) (c .before .before .before .args .area) (passed (c .before .before .bounded .ensures .0) (c .before .if1 .left)) (c .if2 .left))

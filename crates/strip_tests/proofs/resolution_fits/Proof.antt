@@ -1,19 +1,15 @@
 -- `strip_tests::resolution_fits` meets its contract. Assumes nothing.
-use mathlib.Core.Path.{_≡_, refl, sym, ap, _∙_}
+use mathlib.Core.Path.{sym}
 use lib.Ieee.{div, ofInt, ofBits}
 use Rattle.numbers.proofs.Truth.{holds}
 use Rattle.strip_tests.proofs.Bounding.{never, resolution-low, resolution-rest}
 use Rattle.strip_tests.proofs.resolution_fits.Statement.{statement}
 use Rattle.strip_tests.proofs.resolution_fits.Tie as tie
-use Rattle.strip_tests.proofs.resolution_fits.Reads as reads
-use Rattle.strip_tests.proofs.resolution_fits.Lts as lts
 
--- src/lib.rt:93:9
 returns : tie.Need-returns
 unfolding div ofInt ofBits
 returns c = resolution-rest (c .before .args .x) (holds (c .before .good .0 .1)) (c .if1 .taken)
 
--- src/lib.rt:89:1
 returns-2 : tie.Need-returns-2
 unfolding div ofInt ofBits
 returns-2 c = (sym (resolution-low (c .before .args .x) (c .if1 .left)), never)

@@ -1,0 +1,53 @@
+-- `lines::triple_line` meets its contract: word, fields and newline one after the other. Assumes nothing.
+use native.Mathlib.Omega.{arith}
+use Rattle.nesting.specs.Text.{decimal}
+use Rattle.lines.proofs.Appending.{wrote-both, wrote-same}
+use Rattle.lines.proofs.Digits.{decimal-length}
+use Rattle.lines.proofs.Lines.{line-three}
+use Rattle.lines.proofs.triple_line.Statement.{statement}
+use Rattle.lines.proofs.triple_line.Tie as tie
+
+put-word-requires : tie.Need-put-word-requires
+put-word-requires c κs = let p = c .before .before .before .pre in omega arith
+
+put-count-requires : tie.Need-put-count-requires
+put-count-requires c κs =
+    let p = c .before .before .before .before .before .before .before .pre in
+    let u0 = c .before .before .before .put-word .ensures in
+    omega arith
+
+put-count-requires-2 : tie.Need-put-count-requires-2
+put-count-requires-2 c κs =
+    let p = c .before .before .before .before .before .before .before .before .before .before .before .pre in
+    let u0 = c .before .before .before .before .before .before .before .put-word .ensures in
+    let u1 = c .before .before .before .put-count .ensures in
+    omega (arith, decimal-length (c .before .before .before .before .before .before .before .before .before .before .before .args .a))
+
+put-count-requires-3 : tie.Need-put-count-requires-3
+put-count-requires-3 c κs =
+    let p = c .before .before .before .before .before .before .before .before .before .before .before .before .before .before .before .pre in
+    let u0 = c .before .before .before .before .before .before .before .before .before .before .before .put-word .ensures in
+    let u1 = c .before .before .before .before .before .before .before .put-count .ensures in
+    let u2 = c .before .before .before .put-count2 .ensures in
+    omega (arith, decimal-length (c .before .before .before .before .before .before .before .before .before .before .before .before .before .before .before .args .a), decimal-length (c .before .before .before .before .before .before .before .before .before .before .before .before .before .before .before .args .b))
+
+put-byte-requires : tie.Need-put-byte-requires
+put-byte-requires c κs =
+    let p = c .before .before .before .before .before .before .before .before .before .before .before .before .before .before .before .before .before .before .before .pre in
+    let u0 = c .before .before .before .before .before .before .before .before .before .before .before .before .before .before .before .put-word .ensures in
+    let u1 = c .before .before .before .before .before .before .before .before .before .before .before .put-count .ensures in
+    let u2 = c .before .before .before .before .before .before .before .put-count2 .ensures in
+    let u3 = c .before .before .before .put-count3 .ensures in
+    omega (arith, decimal-length (c .before .before .before .before .before .before .before .before .before .before .before .before .before .before .before .before .before .before .before .args .a), decimal-length (c .before .before .before .before .before .before .before .before .before .before .before .before .before .before .before .before .before .before .before .args .b), decimal-length (c .before .before .before .before .before .before .before .before .before .before .before .before .before .before .before .before .before .before .before .args .c))
+
+same-length : tie.Need-same-length
+same-length c = let w = wrote-both (c .before .before .before .before .before .before .before .before .before .before .before .before .before .before .before .before .before .before .put-word .ensures) (wrote-both (c .before .before .before .before .before .before .before .before .before .before .before .before .before .before .put-count .ensures) (wrote-both (c .before .before .before .before .before .before .before .before .before .before .put-count2 .ensures) (wrote-both (c .before .before .before .before .before .before .put-count3 .ensures) (c .before .before .put-byte .ensures)))) in w .long
+
+returns : tie.Need-returns
+returns c =
+    let a = c .before .before .before .before .before .before .before .before .before .before .before .before .before .before .before .before .before .before .before .before .before .before .args in
+    wrote-same (line-three (a .word .now) (decimal (a .a)) (decimal (a .b)) (decimal (a .c)))
+    (wrote-both (c .before .before .before .before .before .before .before .before .before .before .before .before .before .before .before .before .before .before .put-word .ensures) (wrote-both (c .before .before .before .before .before .before .before .before .before .before .before .before .before .before .put-count .ensures) (wrote-both (c .before .before .before .before .before .before .before .before .before .before .put-count2 .ensures) (wrote-both (c .before .before .before .before .before .before .put-count3 .ensures) (c .before .before .put-byte .ensures)))))
+
+pub triple-line-spec : {M : Type 1} → statement M
+triple-line-spec = tie.close (tie.spec put-word-requires put-count-requires put-count-requires-2 put-count-requires-3 put-byte-requires same-length returns)

@@ -1,0 +1,55 @@
+// The public operation `next_copy` (document 01): a single step over a state and its rooms.
+ghost use mathlib.Core.Path.{_≡_};
+ghost use Rattle.filling.specs.NextCopy.{nextCopyOf};
+ghost use Rattle.core_step.specs.Checked.{rooms};
+ghost use Rattle.step.specs.Going.{stepOf};
+use filling::Refusal;
+use filling::State;
+use index::Entry;
+use job::JobRead;
+use step::Stepped;
+
+// One copy of the order, over a state that a start or a step returned and the rooms as it left them.
+// A refused step leaves state, strip and entry rooms as they were; every step leaves zeros in the
+// interval room.
+pub fn next_copy(
+    bytes: &[u8],
+    state: State,
+    shapes: &[f64],
+    sheet: &[f64],
+    placed: &mut [f64],
+    sheet_entries: &[Entry],
+    placed_entries: &mut [Entry],
+    intervals: &mut [f64],
+) -> Stepped
+    ensures { λ r. ⌜ stepOf r (rooms (now (shapes .entry)) (now (sheet .entry)) (now (placed .exit)) (now («sheet_entries» .entry)) (now («placed_entries» .exit))) (now (intervals .exit)) ≡ nextCopyOf (now (bytes .entry)) state (rooms (now (shapes .entry)) (now (sheet .entry)) (now (placed .entry)) (now («sheet_entries» .entry)) (now («placed_entries» .entry))) (now (intervals .entry)) ⌝ }
+{
+    let mut rows = [0u64; 256];
+    let mut areas = [0.0; 64];
+    let mut places = [0u32; 2048];
+    let mut room = [0.0; 1024];
+    let mut ends = [0usize; 64];
+    match job::read_job(
+        bytes,
+        &mut rows,
+        &mut areas,
+        &mut places,
+        &mut room,
+        &mut ends,
+    ) {
+        JobRead::Good(h, _, c) => step_job::step_job(
+            &rows,
+            &areas,
+            h.kinds as usize,
+            c as usize,
+            state,
+            shapes,
+            sheet,
+            sheet_entries,
+            placed,
+            placed_entries,
+            intervals,
+        ),
+        JobRead::NoJob(k) => step_job::refuse(Refusal::Job(k), state, intervals),
+    }
+}

@@ -1,0 +1,123 @@
+// The start (document 01: "a start (it leaves strips and entries for single steps)").
+ghost use mathlib.Core.Path.{_≡_};
+ghost use mathlib.Core.List.{List};
+ghost use Prim.Native.Nat.{_≤_};
+ghost use lib.ListN.{length};
+ghost use lib.Ieee.{Float};
+ghost use Rattle.job.specs.declared.JobRead.the-variants.{Good};
+ghost use Rattle.job.specs.Jobs.{Job, accepted, readJob};
+ghost use Rattle.job.specs.Meaning.{jobRead};
+ghost use Rattle.filling.specs.Rooms.{Lent, positionCapacity};
+ghost use Rattle.filling.specs.Start.{startJob, startOf};
+ghost use Rattle.begin.specs.Beginning.{Cleared, Begun};
+ghost use Rattle.start.specs.Answered.{lentOf, answered};
+use filling::Refusal;
+use index::Entry;
+use job::Header;
+use job::JobRead;
+use started::Started;
+
+// The start of a job that was read into the tables.
+fn begin_job(
+    bytes: &[u8],
+    order: &[usize],
+    positions: usize,
+    h: Header,
+    at: u32,
+    copies: u64,
+    rows: &[u64],
+    places: &[u32],
+    shapes: &mut [f64],
+    sheet: &mut [f64],
+    sheet_entries: &mut [Entry],
+) -> Started
+    requires { ⌜ (256 ≤ length (now rows)) × (2048 ≤ length (now places)) × ((areas : List Float) × (64 ≤ length areas) × (readJob (now bytes) ≡ jobRead (Good h at copies) (now bytes) (now rows) areas (now places))) ⌝ }
+    ensures { λ r. ⌜ ((j : Job) (l : Lent) → readJob (now (bytes .entry)) ≡ accepted j → Cleared l (now (shapes .entry)) (now (sheet .entry)) (now («sheet_entries» .entry)) → positionCapacity (l .positions) ≡ positions → Begun r (startJob j (now (order .entry)) l) (now (shapes .exit)) (now (sheet .exit)) (now («sheet_entries» .exit))) ⌝ }
+{
+    let n = copies as usize;
+    if positions < n {
+        return started::refused(Refusal::PositionRoom);
+    }
+    let kinds = h.kinds as usize;
+    if order::rearranged(order, rows, kinds, n) {
+        return begin::begin_order(
+            bytes,
+            order,
+            h,
+            at,
+            rows,
+            places,
+            shapes,
+            sheet,
+            sheet_entries,
+        );
+    }
+    started::refused(Refusal::WrongOrder)
+}
+
+// The start over zeroed rooms; the position room holds so many positions.
+fn begin(
+    bytes: &[u8],
+    order: &[usize],
+    positions: usize,
+    shapes: &mut [f64],
+    sheet: &mut [f64],
+    sheet_entries: &mut [Entry],
+) -> Started
+    ensures { λ r. ⌜ ((l : Lent) → Cleared l (now (shapes .entry)) (now (sheet .entry)) (now («sheet_entries» .entry)) → positionCapacity (l .positions) ≡ positions → Begun r (startOf (now (bytes .entry)) (now (order .entry)) l) (now (shapes .exit)) (now (sheet .exit)) (now («sheet_entries» .exit))) ⌝ }
+{
+    let mut rows = [0u64; 256];
+    let mut areas = [0.0; 64];
+    let mut places = [0u32; 2048];
+    let mut room = [0.0; 1024];
+    let mut ends = [0usize; 64];
+    match job::read_job(
+        bytes,
+        &mut rows,
+        &mut areas,
+        &mut places,
+        &mut room,
+        &mut ends,
+    ) {
+        JobRead::Good(h, at, copies) => begin_job(
+            bytes,
+            order,
+            positions,
+            h,
+            at,
+            copies,
+            &rows,
+            &places,
+            shapes,
+            sheet,
+            sheet_entries,
+        ),
+        JobRead::NoJob(k) => started::refused(Refusal::Job(k)),
+    }
+}
+
+// The public operation `start`: the job's number, 30, 10, then what cannot be prepared; or the state
+// before the first copy, with strips and entries in the rooms and zeros elsewhere.
+pub fn start(
+    bytes: &[u8],
+    order: &[usize],
+    shapes: &mut [f64],
+    sheet: &mut [f64],
+    placed: &mut [f64],
+    sheet_entries: &mut [Entry],
+    placed_entries: &mut [Entry],
+    intervals: &mut [f64],
+    positions: &mut [f64],
+) -> Started
+    ensures { λ r. ⌜ answered r (lentOf (now (shapes .exit)) (now (sheet .exit)) (now (placed .exit)) (now («sheet_entries» .exit)) (now («placed_entries» .exit)) (now (intervals .exit)) (now (positions .exit))) ≡ startOf (now (bytes .entry)) (now (order .entry)) (lentOf (now (shapes .entry)) (now (sheet .entry)) (now (placed .entry)) (now («sheet_entries» .entry)) (now («placed_entries» .entry)) (now (intervals .entry)) (now (positions .entry))) ⌝ }
+{
+    let held = positions.len() / 5;
+    rooms::zero(shapes);
+    rooms::zero(sheet);
+    rooms::zero(placed);
+    rooms::zero_numbers(sheet_entries);
+    rooms::zero_numbers(placed_entries);
+    rooms::zero(intervals);
+    rooms::zero(positions);
+    begin(bytes, order, held, shapes, sheet, sheet_entries)
+}

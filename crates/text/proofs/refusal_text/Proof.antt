@@ -1,0 +1,41 @@
+-- `text::refusal_text` meets its contract. Assumes nothing.
+use Prim.Native.Nat.{ℕ}
+use mathlib.Core.Path.{ap, _∙_}
+use mathlib.Core.List.{[], _∷_}
+use native.Mathlib.Omega.{arith}
+use Rattle.nesting.specs.Text.{decimal, line, noWord, refusalText}
+use Rattle.lines.specs.Writing.{Wrote}
+use Rattle.text.proofs.ByKind.{count-most}
+use borrow.Author.Needs.{needs}
+use Rattle.text.proofs.refusal_text.Statement.{statement}
+use Rattle.text.proofs.refusal_text.Tie as tie
+
+slice-aggregate-count-line : tie.Need-slice-aggregate-count-line
+slice-aggregate-count-line c = search needs
+
+number-of-requires : tie.Need-number-of-requires
+number-of-requires c κs = search needs
+
+count-line-requires : tie.Need-count-line-requires
+count-line-requires c κs = search needs
+
+same-length : tie.Need-same-length
+same-length c = search needs
+
+returns : tie.Need-returns
+unfolding refusalText
+returns c =
+    let n = c .before .before .before .number-of .result in
+    let u : Wrote (c .before .before .before .before .before .before .before .args .out .now) 0 (line noWord (decimal n ∷ [])) (c .before .before .count-line .last .0) (c .before .before .count-line .result) = c .before .before .count-line .ensures in
+    let m = count-most noWord n in
+    (omega (arith, u .next), u .written ∙ ap (λ (n : ℕ). line noWord (decimal n ∷ [])) (c .before .before .before .number-of .ensures))
+
+pub refusal-text-spec : {M : Type 1} → statement M
+refusal-text-spec =
+    tie.close
+    (tie.spec
+    slice-aggregate-count-line
+    number-of-requires
+    count-line-requires
+    same-length
+    returns)
