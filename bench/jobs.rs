@@ -4,9 +4,10 @@
 #![allow(dead_code, improper_ctypes)]
 #[path = "../oracle/src/job.rs"]
 mod job;
+mod timing;
 
 use std::hint::black_box;
-use std::time::Instant;
+use timing::least;
 
 extern "C" {
     fn panel_judge(bytes: &[u8]) -> u64;
@@ -60,21 +61,6 @@ fn packed(kinds: u64, points: usize) -> Vec<u8> {
         b.set(points);
     }
     b.0
-}
-
-fn least(mut run: impl FnMut()) -> f64 {
-    let start = Instant::now();
-    run();
-    let calls = (2_000_000 / start.elapsed().as_nanos().max(1)).clamp(1, 20_000) as u32;
-    let mut best = f64::MAX;
-    for _ in 0..20 {
-        let start = Instant::now();
-        for _ in 0..calls {
-            run();
-        }
-        best = best.min(start.elapsed().as_nanos() as f64 / calls as f64);
-    }
-    best
 }
 
 fn main() {

@@ -4,10 +4,12 @@
 //! between calls. Both answers are compared before they are timed.
 #![allow(dead_code, improper_ctypes)]
 
+mod timing;
+
 include!("build/lifted_strips.rs");
 
 use std::hint::black_box;
-use std::time::Instant;
+use timing::least;
 
 extern "C" {
     fn panel_trapezoids(
@@ -29,21 +31,6 @@ struct Tables {
 fn proved(points: &[f64], ends: &[u16], sheet: bool, t: &mut Tables) -> usize {
     let n = points.len() / 2;
     unsafe { panel_trapezoids(points, n, ends, sheet, &mut t.es, &mut t.rows, &mut t.line, &mut t.room) }
-}
-
-fn least(mut run: impl FnMut()) -> f64 {
-    let start = Instant::now();
-    run();
-    let calls = (2_000_000 / start.elapsed().as_nanos().max(1)).clamp(1, 20_000) as u32;
-    let mut best = f64::MAX;
-    for _ in 0..20 {
-        let start = Instant::now();
-        for _ in 0..calls {
-            run();
-        }
-        best = best.min(start.elapsed().as_nanos() as f64 / calls as f64);
-    }
-    best
 }
 
 /// A convex outline of n points.

@@ -2,6 +2,7 @@
 """Tests of the oracle itself: the starred cases of document 01, the order of
 refusals where two hold, and every room exact and one short by --rooms."""
 import os
+import re
 import subprocess
 import sys
 
@@ -198,13 +199,13 @@ def test_trace():
     # The interval room is each call's own: 22 changes nothing.
     text = oracle(case4(), "--trace", "--intervals", "0,0,2,0,8", "--calls", "7")
     expect("trace with 22", replies(text), ["ok", "ok", "no 22", "ok", "no 22", "ok", "ok", "ok"])
-    calls = text.split("call ")
+    calls = re.sub(r"most \d+\n", "", text).split("call ")
     state = [c.split("\n", 2)[2] for c in calls[1:]]
     expect("22 leaves all as it was", state[2].replace("intervals 0", "intervals 2"),
            state[1].replace("intervals 0", "intervals 2"))
     expect("the rest as without", state[7].split("room intervals")[0],
            oracle(case4(), "--trace").split("call 5\n")[1].split("call 6")[0]
-           .split("\n", 1)[1].split("room intervals")[0])
+           .split("\n", 2)[2].split("room intervals")[0])
 
 
 def main():

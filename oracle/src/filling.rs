@@ -69,12 +69,14 @@ pub fn ranges(s: &[f64; 4], b: &[f64; 4], resolution: f64) -> Option<Ranges> {
 }
 
 impl Ranges {
+    /// Where a column stands; a minus zero, which only an edited state can give, is plus zero.
     pub fn x(&self, column: usize, resolution: f64) -> f64 {
-        if column > self.columns {
+        let x = if column > self.columns {
             self.xs.1
         } else {
             self.xs.0 + column as f64 * resolution
-        }
+        };
+        x + 0.0
     }
 }
 

@@ -111,7 +111,7 @@ fn push(out: &mut [f64], count: &mut usize, low: f64, high: f64) -> Result<(), u
 }
 
 /// The smallest height from y_low on that lies in no interval, by a sweep
-/// over the intervals sorted by their low ends.
+/// over the intervals sorted by their low ends; plus zero for minus zero.
 pub fn height(room: &mut [f64], count: usize, y_low: f64) -> f64 {
     let mut list: Vec<(f64, f64)> =
         room[..count * INTERVAL].chunks(INTERVAL).map(|i| (i[0], i[1])).collect();
@@ -122,5 +122,5 @@ pub fn height(room: &mut [f64], count: usize, y_low: f64) -> f64 {
             y = high;
         }
     }
-    y
+    y + 0.0
 }

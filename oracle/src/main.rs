@@ -5,6 +5,7 @@
 mod batch;
 mod compare;
 mod filling;
+mod flat;
 mod index;
 mod job;
 mod modes;
@@ -13,6 +14,7 @@ mod plain;
 mod print;
 mod probed;
 mod rooms;
+mod script;
 mod strips;
 mod surroundings;
 mod timed;
@@ -36,6 +38,7 @@ pub struct Options {
     intervals: Option<String>,
     calls: Option<usize>,
     trace: bool,
+    script: bool,
     answer: bool,
     draws: bool,
     after: bool,
@@ -72,6 +75,7 @@ fn parse(args: &[String]) -> Result<Options, String> {
             "--intervals" => o.intervals = Some(value()?),
             "--calls" => o.calls = Some(number(value()?)? as usize),
             "--trace" => o.trace = true,
+            "--script" => o.script = true,
             "--answer" => o.answer = true,
             "--draws" => o.draws = true,
             "--after" => o.after = true,
@@ -219,7 +223,7 @@ fn oracle() -> Result<bool, String> {
     } else {
         let mut bytes = vec![];
         std::io::stdin().read_to_end(&mut bytes).map_err(|e| e.to_string())?;
-        answer_text(&bytes, &options, 0)?.0
+        if options.script { script::script(&bytes)? } else { answer_text(&bytes, &options, 0)?.0 }
     };
     std::io::stdout().write_all(text.as_bytes()).map_err(|e| e.to_string())?;
     Ok(true)

@@ -91,7 +91,9 @@ pub fn trace(job: &Job, calls: &Calls, watch: &mut Watch) -> Result<String, Stri
         let size = size.copied().unwrap_or(calls.sizes.intervals);
         rooms.intervals = vec![0.0; size];
         let before = state.clone();
+        watch.looks = Some(vec![]);
         let result = next_copy(job, &mut state, &mut rooms, watch);
+        let most = watch.looks.iter().flatten().map(|l| l.intervals).max().unwrap_or(0);
         if result.is_err() {
             state = before;
             refused += 1;
@@ -100,7 +102,8 @@ pub fn trace(job: &Job, calls: &Calls, watch: &mut Watch) -> Result<String, Stri
         }
         rooms.clear_intervals();
         n += 1;
-        out += &format!("call {n}\n{}{}{}", reply(result)?, state_text(&state), rooms_text(&rooms));
+        out += &format!("call {n}\n{}most {most}\n", reply(result)?);
+        out += &format!("{}{}", state_text(&state), rooms_text(&rooms));
     }
     Ok(out)
 }

@@ -1,12 +1,12 @@
 -- Counts by kind: one turn of each loop that works them out, and their bounds. Assumes nothing.
-use Prim.Native.Nat.{ℕ, zero, suc, _+_, _-_, _*_, _/_, _%_, _≤_, _<_}
-use mathlib.Core.Path.{_≡_, refl, sym, ap, _∙_, subst}
-use mathlib.Core.Logic.{_⊎_, inl, inr, _≢_}
-use mathlib.Core.Bool.{Bool, true, false}
-use mathlib.Core.List.{List, [], _∷_, map}
+use Prim.Native.Nat.{ℕ, zero, suc, _+_, _-_, _≤_, _<_}
+use mathlib.Core.Path.{_≡_, refl, sym, ap, _∙_}
+use mathlib.Core.Logic.{_⊎_, inl, inr}
+use mathlib.Core.Bool.{true, false}
+use mathlib.Core.List.{List}
 use native.Mathlib.Omega.{arith}
 use native.Mathlib.Numerals.{add-one}
-use lib.ListN.{length, getD, set, take, replicate, length-set, length-replicate, getD-replicate, length-map}
+use lib.ListN.{length, getD, set, replicate, length-set, length-replicate, getD-replicate}
 use lib.Seq.{getD-set-same, getD-set-other}
 use lib.Dec.{eqb, ltb}
 use borrow.Author.Tests.{eq-eqb, ne-eqb, eqb-true, eqb-false, lt-ltb, le-ltb}
@@ -14,8 +14,8 @@ use Rattle.numbers.proofs.Truth.{either}
 use Rattle.numbers.proofs.Rounding.{order}
 use Rattle.index.specs.Buckets.{upFrom}
 use Rattle.filling.specs.State.{bySlot}
-use Rattle.filling.proofs.Reading.{length-upFrom, getD-upFrom, upFrom-list}
-use Rattle.accounts.specs.Counting.{stands, misses, sumTo, countIf, kindTo, byKind, startsBy, lookIn}
+use Rattle.filling.proofs.Reading.{getD-upFrom, upFrom-list}
+use Rattle.accounts.specs.Counting.{stands, misses, sumTo, countIf, kindTo, byKind, startsBy}
 
 -- ---- two numbers
 

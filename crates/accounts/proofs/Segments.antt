@@ -1,10 +1,9 @@
 -- Positions stored in their room: the part that each kind has, and what is left alone. Assumes nothing.
-use Prim.Native.Nat.{ℕ, zero, suc, _+_, _-_, _*_, _≤_, _<_}
-use mathlib.Core.Path.{_≡_, refl, sym, ap, _∙_, subst}
-use mathlib.Core.Logic.{_⊎_, inl, inr}
+use Prim.Native.Nat.{ℕ, zero, suc, _+_, _-_, _*_, _≤_}
+use mathlib.Core.Path.{_≡_, refl, ap, _∙_, subst}
 use mathlib.Core.List.{List, [], _∷_, _++_, append-assoc}
 use native.Mathlib.Omega.{arith}
-use lib.ListN.{length, set, take, drop, getD, length-append, length-set, length-take}
+use lib.ListN.{length, set, take, drop, getD}
 use lib.Seq.{sets, sets-eq, length-sets, length-take-le, take-set-le, drop-set-lt, drop-set-add, drop-at, drop-drop, take-add, set-getD}
 use lib.Ieee.{Float}
 use Rattle.numbers.specs.Numbers.{fromInt}

@@ -1,7 +1,7 @@
 -- For inner functions' contracts only: counts of the copies by kind, as the loops work them out. Definitions only. Assumes nothing.
 use Prim.Native.Nat.{ℕ, zero, suc, _+_, _*_, _/_, _%_}
 use mathlib.Core.Bool.{Bool, true, false, _&&_, cond}
-use mathlib.Core.List.{List, [], _∷_, map}
+use mathlib.Core.List.{List, map}
 use lib.ListN.{getD}
 use lib.Dec.{eqb, ltb}
 use Rattle.index.specs.Buckets.{upFrom}

@@ -15,7 +15,8 @@ use Rattle.filling.specs.Fill.{filled}
 use Rattle.place.specs.declared.Totals.{Totals}
 use Rattle.nesting.specs.Rounds.{Kept, Swaps, kept, ended, betterThan, judged}
 use Rattle.better.specs.declared.Best.{Best}
-use Rattle.better.specs.Keeping.{stateBy, fillingBy, keptBy}
+use Rattle.fill_laws.specs.Prepared.{stateBy, fillingBy}
+use Rattle.better.specs.Keeping.{keptBy}
 
 judged-yes : (random : ℕ) (order : List ℕ) (q : Kept) (s : State) → betterThan (s .layout) (q .state .layout) ≡ true → judged random order q (filled s) ≡ kept (record { random = random; order = order; state = s; improvements = suc (q .improvements) })
 unfolding judged

@@ -1,6 +1,7 @@
 // The parts of a round (document 01, "Order and swaps"): a copy is drawn, whether two kinds may be
 // swapped, the swap, and the better of two fillings is kept. Only crates of ours call its functions.
 ghost use mathlib.Core.Path.{_≡_};
+ghost use mathlib.Core.Logic.{_⊎_};
 ghost use mathlib.Core.Bool.{not, _&&_, _||_};
 ghost use mathlib.Core.List.{List};
 ghost use Prim.Native.Nat.{ℕ, _+_, _*_, _%_, _≤_, _<_, _^_};
@@ -12,14 +13,15 @@ ghost use Rattle.job.specs.Jobs.{Job};
 ghost use Rattle.filling.specs.Shapes.{Planner};
 ghost use Rattle.tables.specs.Tabled.{Tabled};
 ghost use Rattle.nesting.specs.Rounds.{swappable, swapped, judged};
-ghost use Rattle.better.specs.Keeping.{fillingBy, keptBy, swapsBy};
+ghost use Rattle.fill_laws.specs.Prepared.{fillingBy};
+ghost use Rattle.better.specs.Keeping.{keptBy, swapsBy};
 use filling::Verdict;
 use place::Totals;
 
 // A place among n copies: the next draw modulo their number.
 pub fn draw(random: &mut u64, n: usize) -> usize
     requires { ⌜ 0 < n ⌝ }
-    ensures { λ r. ⌜ (now (random .exit) ≡ nextState (now (random .entry))) × (r ≡ mixed (nextState (now (random .entry))) % n) ⌝ }
+    ensures { λ r. ⌜ (now (random .exit) ≡ nextState (now (random .entry))) × (r ≡ mixed (nextState (now (random .entry))) % n) × (r < n) ⌝ }
 {
     let z = random::next_random(random);
     (z % (n as u64)) as usize
@@ -169,7 +171,8 @@ pub fn judge(
     requires { ⌜ (b .improvements + 1 < 2 ^ 64) × (i < length (now order)) × (k < length (now order)) × (length (now «next_column») ≡ 1024) × (length (now «look_counts») ≡ 1024) × (length (now «best_column») ≡ 1024) × (length (now «best_counts») ≡ 1024)
         × (length (now order) ≤ length (now orientation)) × (length (now order) ≤ length (now x)) × (length (now order) ≤ length (now y)) × (length (now order) ≤ length (now «best_orientation»)) × (length (now order) ≤ length (now «best_x»)) × (length (now order) ≤ length (now «best_y»)) ⌝ }
     ensures { λ r. ⌜ ((p : Planner) → swapsBy (r .verdict) (r .best) p (now (order .exit)) (now («best_column» .exit)) (now («best_counts» .exit)) (now («best_orientation» .exit)) (now («best_x» .exit)) (now («best_y» .exit))
-        ≡ judged (b .random) (now (order .entry)) (keptBy b p (swapped i k (now (order .entry))) (now («best_column» .entry)) (now («best_counts» .entry)) (now («best_orientation» .entry)) (now («best_x» .entry)) (now («best_y» .entry))) (fillingBy v p (now (order .entry)) (now («next_column» .entry)) (now («look_counts» .entry)) t (now (orientation .entry)) (now (x .entry)) (now (y .entry)))) ⌝ }
+        ≡ judged (b .random) (now (order .entry)) (keptBy b p (swapped i k (now (order .entry))) (now («best_column» .entry)) (now («best_counts» .entry)) (now («best_orientation» .entry)) (now («best_x» .entry)) (now («best_y» .entry))) (fillingBy v p (now (order .entry)) (now («next_column» .entry)) (now («look_counts» .entry)) t (now (orientation .entry)) (now (x .entry)) (now (y .entry))))
+        × ((now (order .exit) ≡ now (order .entry)) ⊎ (now (order .exit) ≡ swapped i k (now (order .entry)))) × (r .best .improvements ≤ b .improvements + 1) ⌝ }
 {
     match v {
         Verdict::Accepted => {

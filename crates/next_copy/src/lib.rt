@@ -1,8 +1,7 @@
 // The public operation `next_copy` (document 01): a single step over a state and its rooms.
 ghost use mathlib.Core.Path.{_≡_};
 ghost use Rattle.filling.specs.NextCopy.{nextCopyOf};
-ghost use Rattle.core_step.specs.Checked.{rooms};
-ghost use Rattle.step.specs.Going.{stepOf};
+ghost use Rattle.next_copy.specs.Reply.{roomsWith, replied};
 use filling::Refusal;
 use filling::State;
 use index::Entry;
@@ -22,7 +21,7 @@ pub fn next_copy(
     placed_entries: &mut [Entry],
     intervals: &mut [f64],
 ) -> Stepped
-    ensures { λ r. ⌜ stepOf r (rooms (now (shapes .entry)) (now (sheet .entry)) (now (placed .exit)) (now («sheet_entries» .entry)) (now («placed_entries» .exit))) (now (intervals .exit)) ≡ nextCopyOf (now (bytes .entry)) state (rooms (now (shapes .entry)) (now (sheet .entry)) (now (placed .entry)) (now («sheet_entries» .entry)) (now («placed_entries» .entry))) (now (intervals .entry)) ⌝ }
+    ensures { λ r. ⌜ replied r (roomsWith (now (shapes .entry)) (now (sheet .entry)) (now (placed .exit)) (now («sheet_entries» .entry)) (now («placed_entries» .exit))) (now (intervals .exit)) ≡ nextCopyOf (now (bytes .entry)) state (roomsWith (now (shapes .entry)) (now (sheet .entry)) (now (placed .entry)) (now («sheet_entries» .entry)) (now («placed_entries» .entry))) (now (intervals .entry)) ⌝ }
 {
     let mut rows = [0u64; 256];
     let mut areas = [0.0; 64];

@@ -1,14 +1,13 @@
 -- `accounts::lay` meets its contract: the first i copies are counted and laid. Assumes nothing.
-use Prim.Native.Nat.{ℕ, _+_, _-_, _*_, _≤_, _<_}
-use mathlib.Core.Path.{_≡_, refl, sym, ap, subst, _∙_}
+use Prim.Native.Nat.{ℕ, _-_, _≤_}
+use mathlib.Core.Path.{_≡_, refl, subst, _∙_}
 use native.Mathlib.Omega.{arith}
-use lib.ListN.{length, length-set, getD}
-use Rattle.accounts.specs.Counting.{standsIn, kindTo}
+use lib.ListN.{length}
+use Rattle.accounts.specs.Counting.{standsIn}
 use Rattle.accounts.specs.Laying.{stateOf}
 use Rattle.accounts.proofs.Counts.{Counted, counted-none}
 use Rattle.accounts.proofs.ByKind.{Filled, filled-none, filled-end}
 use Rattle.accounts.proofs.Turns.{put-fits, put-counted, put-filled}
-use borrow.Author.Needs.{needs}
 use Rattle.accounts.proofs.lay.Statement.{statement}
 use Rattle.accounts.proofs.lay.Tie as tie
 

@@ -1,11 +1,10 @@
 -- `accounts::look_table` meets its contract: the slots before i are filled. Assumes nothing.
-use Prim.Native.Nat.{ℕ, _+_, _-_, _*_, _≤_, _<_}
-use mathlib.Core.Path.{_≡_, refl, sym, ap, subst, _∙_}
+use Prim.Native.Nat.{ℕ, _-_, _≤_, _<_}
+use mathlib.Core.Path.{_≡_, sym, _∙_}
 use native.Mathlib.Omega.{arith}
 use lib.ListN.{length, length-set, getD}
 use Rattle.accounts.specs.Counting.{lookIn}
 use Rattle.accounts.proofs.Looks.{table-next, table-end}
-use borrow.Author.Needs.{needs}
 use Rattle.accounts.proofs.look_table.Statement.{statement}
 use Rattle.accounts.proofs.look_table.Tie as tie
 

@@ -1,6 +1,5 @@
 -- `accounts::plan_of` meets its contract: what each part counts is what the definition says. Assumes nothing.
-use Prim.Native.Nat.{ℕ, _≤_, _<_}
-use mathlib.Core.Path.{_≡_, refl, _∙_}
+use mathlib.Core.Path.{refl, _∙_}
 use native.Mathlib.Omega.{arith}
 use lib.ListN.{getD}
 use Rattle.accounts.specs.Counting.{standsIn}

@@ -1,8 +1,8 @@
 -- `accounts::put` meets its contract. Assumes nothing.
-use Prim.Native.Nat.{ℕ, _+_, _-_, _*_, _≤_, _<_}
-use mathlib.Core.Path.{_≡_, refl, sym, ap, subst, _∙_}
+use Prim.Native.Nat.{_+_}
+use mathlib.Core.Path.{_∙_}
 use native.Mathlib.Omega.{arith}
-use lib.ListN.{length, length-set, getD}
+use lib.ListN.{getD}
 use Rattle.accounts.proofs.Counts.{stands-some}
 use Rattle.accounts.proofs.Segments.{put-none, put-none-room, put-some, put-some-room}
 use borrow.Author.Needs.{needs}

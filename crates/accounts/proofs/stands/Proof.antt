@@ -1,6 +1,5 @@
 -- `accounts::stands` meets its contract. Assumes nothing.
 use Rattle.accounts.proofs.Counts.{stands-none, stands-some}
-use borrow.Author.Needs.{needs}
 use Rattle.accounts.proofs.stands.Statement.{statement}
 use Rattle.accounts.proofs.stands.Tie as tie
 

@@ -1,8 +1,6 @@
 -- `accounts::store_position` meets its contract. Assumes nothing.
-use Prim.Native.Nat.{ℕ, _+_, _-_, _*_, _≤_, _<_}
-use mathlib.Core.Path.{_≡_, refl, sym, ap, subst, _∙_}
 use native.Mathlib.Omega.{arith}
-use lib.ListN.{length, length-set, getD}
+use lib.ListN.{length-set}
 use Rattle.accounts.specs.Laying.{setPosition}
 use borrow.Author.Needs.{needs}
 use Rattle.accounts.proofs.store_position.Statement.{statement}

@@ -1,11 +1,10 @@
 -- `accounts::sum_up` meets its contract: the starts before k stand, and the sum is the next. Assumes nothing.
-use Prim.Native.Nat.{ℕ, _+_, _-_, _*_, _≤_, _<_}
-use mathlib.Core.Path.{_≡_, refl, sym, ap, subst, _∙_}
+use Prim.Native.Nat.{ℕ, _+_, _-_, _≤_, _<_}
+use mathlib.Core.Path.{_≡_, sym, ap, _∙_}
 use native.Mathlib.Omega.{arith}
 use lib.ListN.{length, length-set, getD}
 use Rattle.accounts.specs.Counting.{sumTo}
 use Rattle.accounts.proofs.Counts.{sum-none, sum-next, starts-next, starts-table}
-use borrow.Author.Needs.{needs}
 use Rattle.accounts.proofs.sum_up.Statement.{statement}
 use Rattle.accounts.proofs.sum_up.Tie as tie
 

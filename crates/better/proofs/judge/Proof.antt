@@ -1,4 +1,7 @@
 -- `better::judge` meets its contract. Assumes nothing.
+use mathlib.Core.Path.{refl}
+use mathlib.Core.Logic.{inl, inr}
+use native.Mathlib.Omega.{arith}
 use denote.Ref.{now}
 use Rattle.filling.specs.Shapes.{Planner}
 use Rattle.nesting.specs.Rounds.{swapped}
@@ -42,18 +45,18 @@ same-length-5 c = search needs
 
 returns : tie.Need-returns
 returns c =
-    λ (p : Planner). judge-better (c .before .before .before .before .before .before .before .before .before .before .before .before .before .before .before .before .before .before .before .before .before .before .before .before .before .before .before .before .before .before .before .before .args .v) p (c .before .before .before .before .before .before .before .before .before .before .before .before .before .before .before .before .before .before .before .before .before .before .before .before .before .before .before .before .before .before .before .before .args .b) (c .before .before .before .before .before .before .before .before .before .before .before .before .before .before .before .before .before .before .before .before .before .before .before .before .before .before .before .before .before .before .before .before .args .t) (now (c .before .before .before .before .before .before .before .before .before .before .before .before .before .before .before .before .before .before .before .before .before .before .before .before .before .before .before .before .before .before .before .before .args .order)) (swapped (c .before .before .before .before .before .before .before .before .before .before .before .before .before .before .before .before .before .before .before .before .before .before .before .before .before .before .before .before .before .before .before .before .args .i) (c .before .before .before .before .before .before .before .before .before .before .before .before .before .before .before .before .before .before .before .before .before .before .before .before .before .before .before .before .before .before .before .before .args .k) (now (c .before .before .before .before .before .before .before .before .before .before .before .before .before .before .before .before .before .before .before .before .before .before .before .before .before .before .before .before .before .before .before .before .args .order))) (now (c .before .before .before .before .before .before .before .before .before .before .before .before .before .before .before .before .before .before .before .before .before .before .before .before .before .before .before .before .before .before .before .before .args .next-column)) (now (c .before .before .before .before .before .before .before .before .before .before .before .before .before .before .before .before .before .before .before .before .before .before .before .before .before .before .before .before .before .before .before .before .args .look-counts)) (now (c .before .before .before .before .before .before .before .before .before .before .before .before .before .before .before .before .before .before .before .before .before .before .before .before .before .before .before .before .before .before .before .before .args .orientation)) (now (c .before .before .before .before .before .before .before .before .before .before .before .before .before .before .before .before .before .before .before .before .before .before .before .before .before .before .before .before .before .before .before .before .args .x)) (now (c .before .before .before .before .before .before .before .before .before .before .before .before .before .before .before .before .before .before .before .before .before .before .before .before .before .before .before .before .before .before .before .before .args .y)) (now (c .before .before .before .before .before .before .before .before .before .before .before .before .before .before .before .before .before .before .before .before .before .before .before .before .before .before .before .before .before .before .before .before .args .best-column)) (now (c .before .before .before .before .before .before .before .before .before .before .before .before .before .before .before .before .before .before .before .before .before .before .before .before .before .before .before .before .before .before .before .before .args .best-counts)) (now (c .before .before .before .before .before .before .before .before .before .before .before .before .before .before .before .before .before .before .before .before .before .before .before .before .before .before .before .before .before .before .before .before .args .best-orientation)) (now (c .before .before .before .before .before .before .before .before .before .before .before .before .before .before .before .before .before .before .before .before .before .before .before .before .before .before .before .before .before .before .before .before .args .best-x)) (now (c .before .before .before .before .before .before .before .before .before .before .before .before .before .before .before .before .before .before .before .before .before .before .before .before .before .before .before .before .before .before .before .before .args .best-y)) (c .before .before .before .before .before .before .before .before .before .before .before .before .before .before .before .before .before .before .before .enum-told .given .1) (c .before .before .before .before .before .before .before .before .before .before .before .before .before .before .before .before .before .before .better-than .result) (c .before .before .before .before .before .before .before .before .before .before .before .before .before .before .before .before .before .before .better-than .ensures) (c .before .before .before .before .before .before .before .before .before .before .before .before .before .before .before .before .before .if1 .taken) (c .before .before .before .before .before .before .before .before .before .before .before .keep .last .1 .1 .1 .1 .1 .1 .0) (c .before .before .before .before .before .before .before .before .before .before .before .keep .last .1 .1 .1 .1 .1 .1 .1 .0) (c .before .before .before .before .before .before .before .before .before .before .before .keep .last .1 .1 .1 .1 .1 .1 .1 .1 .0) (c .before .before .before .before .before .before .before .before .before .before .before .keep .last .1 .1 .1 .1 .1 .1 .1 .1 .1 .0) (c .before .before .before .before .before .before .before .before .before .before .before .keep .last .1 .1 .1 .1 .1 .1 .1 .1 .1 .1 .0) (c .before .before .before .before .before .before .before .before .before .before .before .keep .ensures .0) (c .before .before .before .before .before .before .before .before .before .before .before .keep .ensures .1) (c .before .before .before .before .before .before .before .before .before .before .before .keep .ensures .2) (c .before .before .before .before .before .before .before .before .before .before .before .keep .ensures .3) (c .before .before .before .before .before .before .before .before .before .before .before .keep .ensures .4)
+    let a = c .before .before .before .before .before .before .before .before .before .before .before .before .before .before .before .before .before .before .before .before .before .before .before .before .before .before .before .before .before .before .before .before .args in let g = c .before .before .before .before .before .before .before .before .before .before .before .keep in (λ (p : Planner). judge-better (a .v) p (a .b) (a .t) (now (a .order)) (swapped (a .i) (a .k) (now (a .order))) (now (a .next-column)) (now (a .look-counts)) (now (a .orientation)) (now (a .x)) (now (a .y)) (now (a .best-column)) (now (a .best-counts)) (now (a .best-orientation)) (now (a .best-x)) (now (a .best-y)) (c .before .before .before .before .before .before .before .before .before .before .before .before .before .before .before .before .before .before .before .enum-told .given .1) (c .before .before .before .before .before .before .before .before .before .before .before .before .before .before .before .before .before .before .better-than .result) (c .before .before .before .before .before .before .before .before .before .before .before .before .before .before .before .before .before .before .better-than .ensures) (c .before .before .before .before .before .before .before .before .before .before .before .before .before .before .before .before .before .if1 .taken) (g .last .1 .1 .1 .1 .1 .1 .0) (g .last .1 .1 .1 .1 .1 .1 .1 .0) (g .last .1 .1 .1 .1 .1 .1 .1 .1 .0) (g .last .1 .1 .1 .1 .1 .1 .1 .1 .1 .0) (g .last .1 .1 .1 .1 .1 .1 .1 .1 .1 .1 .0) (g .ensures .0) (g .ensures .1) (g .ensures .2) (g .ensures .3) (g .ensures .4), inl refl, omega arith)
 
 same-length-6 : tie.Need-same-length-6
 same-length-6 c = search needs
 
 returns-2 : tie.Need-returns-2
 returns-2 c =
-    λ (p : Planner). judge-worse (c .before .before .before .before .before .before .before .before .before .before .before .before .before .before .before .before .before .before .before .args .v) p (c .before .before .before .before .before .before .before .before .before .before .before .before .before .before .before .before .before .before .before .args .b) (c .before .before .before .before .before .before .before .before .before .before .before .before .before .before .before .before .before .before .before .args .t) (now (c .before .before .before .before .before .before .before .before .before .before .before .before .before .before .before .before .before .before .before .args .order)) (swapped (c .before .before .before .before .before .before .before .before .before .before .before .before .before .before .before .before .before .before .before .args .i) (c .before .before .before .before .before .before .before .before .before .before .before .before .before .before .before .before .before .before .before .args .k) (now (c .before .before .before .before .before .before .before .before .before .before .before .before .before .before .before .before .before .before .before .args .order))) (now (c .before .before .before .before .before .before .before .before .before .before .before .before .before .before .before .before .before .before .before .args .next-column)) (now (c .before .before .before .before .before .before .before .before .before .before .before .before .before .before .before .before .before .before .before .args .look-counts)) (now (c .before .before .before .before .before .before .before .before .before .before .before .before .before .before .before .before .before .before .before .args .orientation)) (now (c .before .before .before .before .before .before .before .before .before .before .before .before .before .before .before .before .before .before .before .args .x)) (now (c .before .before .before .before .before .before .before .before .before .before .before .before .before .before .before .before .before .before .before .args .y)) (now (c .before .before .before .before .before .before .before .before .before .before .before .before .before .before .before .before .before .before .before .args .best-column)) (now (c .before .before .before .before .before .before .before .before .before .before .before .before .before .before .before .before .before .before .before .args .best-counts)) (now (c .before .before .before .before .before .before .before .before .before .before .before .before .before .before .before .before .before .before .before .args .best-orientation)) (now (c .before .before .before .before .before .before .before .before .before .before .before .before .before .before .before .before .before .before .before .args .best-x)) (now (c .before .before .before .before .before .before .before .before .before .before .before .before .before .before .before .before .before .before .before .args .best-y)) (c .before .before .before .before .before .before .enum-told .given .1) (c .before .before .before .before .before .better-than .result) (c .before .before .before .before .before .better-than .ensures) (c .before .before .before .before .if1 .left) (c .before .before .swap .last .0) (c .before .before .swap .ensures)
+    let a = c .before .before .before .before .before .before .before .before .before .before .before .before .before .before .before .before .before .before .before .args in (λ (p : Planner). judge-worse (a .v) p (a .b) (a .t) (now (a .order)) (swapped (a .i) (a .k) (now (a .order))) (now (a .next-column)) (now (a .look-counts)) (now (a .orientation)) (now (a .x)) (now (a .y)) (now (a .best-column)) (now (a .best-counts)) (now (a .best-orientation)) (now (a .best-x)) (now (a .best-y)) (c .before .before .before .before .before .before .enum-told .given .1) (c .before .before .before .before .before .better-than .result) (c .before .before .before .before .before .better-than .ensures) (c .before .before .before .before .if1 .left) (c .before .before .swap .last .0) (c .before .before .swap .ensures), inr (c .before .before .swap .ensures), omega arith)
 
 returns-3 : tie.Need-returns-3
 returns-3 c =
-    λ (p : Planner). judge-refused (c .before .before .before .before .before .before .before .before .before .before .before .before .before .before .args .v) p (c .before .before .before .before .before .before .before .before .before .before .before .before .before .before .args .b) (c .before .before .before .before .before .before .before .before .before .before .before .before .before .before .args .t) (now (c .before .before .before .before .before .before .before .before .before .before .before .before .before .before .args .order)) (swapped (c .before .before .before .before .before .before .before .before .before .before .before .before .before .before .args .i) (c .before .before .before .before .before .before .before .before .before .before .before .before .before .before .args .k) (now (c .before .before .before .before .before .before .before .before .before .before .before .before .before .before .args .order))) (now (c .before .before .before .before .before .before .before .before .before .before .before .before .before .before .args .next-column)) (now (c .before .before .before .before .before .before .before .before .before .before .before .before .before .before .args .look-counts)) (now (c .before .before .before .before .before .before .before .before .before .before .before .before .before .before .args .orientation)) (now (c .before .before .before .before .before .before .before .before .before .before .before .before .before .before .args .x)) (now (c .before .before .before .before .before .before .before .before .before .before .before .before .before .before .args .y)) (now (c .before .before .before .before .before .before .before .before .before .before .before .before .before .before .args .best-column)) (now (c .before .before .before .before .before .before .before .before .before .before .before .before .before .before .args .best-counts)) (now (c .before .before .before .before .before .before .before .before .before .before .before .before .before .before .args .best-orientation)) (now (c .before .before .before .before .before .before .before .before .before .before .before .before .before .before .args .best-x)) (now (c .before .before .before .before .before .before .before .before .before .before .before .before .before .before .args .best-y)) (c .before .v .given .0 .0) (c .before .v .given .1)
+    let a = c .before .before .before .before .before .before .before .before .before .before .before .before .before .before .args in (λ (p : Planner). judge-refused (a .v) p (a .b) (a .t) (now (a .order)) (swapped (a .i) (a .k) (now (a .order))) (now (a .next-column)) (now (a .look-counts)) (now (a .orientation)) (now (a .x)) (now (a .y)) (now (a .best-column)) (now (a .best-counts)) (now (a .best-orientation)) (now (a .best-x)) (now (a .best-y)) (c .before .v .given .0 .0) (c .before .v .given .1), inl refl, omega arith)
 
 pub judge-spec : {M : Type 1} → statement M
 judge-spec =

@@ -13,19 +13,19 @@ use Rattle.start.proofs.begin.Reads as reads
 use Rattle.start.proofs.begin.Lts as lts
 
 slice-aggregate-read-job : tie.Need-slice-aggregate-read-job
-slice-aggregate-read-job c = search needs
+slice-aggregate-read-job c = refl
 
 slice-aggregate-read-job-2 : tie.Need-slice-aggregate-read-job-2
-slice-aggregate-read-job-2 c = search needs
+slice-aggregate-read-job-2 c = refl
 
 slice-aggregate-read-job-3 : tie.Need-slice-aggregate-read-job-3
-slice-aggregate-read-job-3 c = search needs
+slice-aggregate-read-job-3 c = refl
 
 slice-aggregate-read-job-4 : tie.Need-slice-aggregate-read-job-4
-slice-aggregate-read-job-4 c = search needs
+slice-aggregate-read-job-4 c = refl
 
 slice-aggregate-read-job-5 : tie.Need-slice-aggregate-read-job-5
-slice-aggregate-read-job-5 c = search needs
+slice-aggregate-read-job-5 c = refl
 
 read-job-requires : tie.Need-read-job-requires
 read-job-requires c κs = search needs
@@ -46,7 +46,7 @@ enum-known-k : tie.Need-enum-known-k
 enum-known-k c = search needs
 
 refused-requires : tie.Need-refused-requires
-refused-requires c κs = search needs
+refused-requires c κs = tt
 
 same-length : tie.Need-same-length
 same-length c = c .before .before .before .before .before .before .begin-job .kept .1 .1 .1 .1 .1 .1 .1 .1 .0

@@ -12,28 +12,28 @@ use Rattle.start.proofs.start.Reads as reads
 use Rattle.start.proofs.start.Lts as lts
 
 zero-requires : tie.Need-zero-requires
-zero-requires c κs = search needs
+zero-requires c κs = tt
 
 zero-requires-2 : tie.Need-zero-requires-2
-zero-requires-2 c κs = search needs
+zero-requires-2 c κs = tt
 
 zero-requires-3 : tie.Need-zero-requires-3
-zero-requires-3 c κs = search needs
+zero-requires-3 c κs = tt
 
 zero-numbers-requires : tie.Need-zero-numbers-requires
-zero-numbers-requires c κs = search needs
+zero-numbers-requires c κs = tt
 
 zero-numbers-requires-2 : tie.Need-zero-numbers-requires-2
-zero-numbers-requires-2 c κs = search needs
+zero-numbers-requires-2 c κs = tt
 
 zero-requires-4 : tie.Need-zero-requires-4
-zero-requires-4 c κs = search needs
+zero-requires-4 c κs = tt
 
 zero-requires-5 : tie.Need-zero-requires-5
-zero-requires-5 c κs = search needs
+zero-requires-5 c κs = tt
 
 begin-requires : tie.Need-begin-requires
-begin-requires c κs = search needs
+begin-requires c κs = tt
 
 same-length : tie.Need-same-length
 same-length c = c .before .before .before .before .before .before .begin .kept .1 .1 .1 .0 ∙ c .before .before .before .before .before .before .before .before .before .before .before .before .before .before .before .before .before .before .before .before .before .before .before .before .before .before .before .before .before .before .before .before .before .before .before .before .zero .kept .0

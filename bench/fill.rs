@@ -1,0 +1,131 @@
+//! Times of whole fillings, the proved `fill` and the lifted one, on the same jobs in the same run: the
+//! least of 10, the two in turn. The proved one reads the job's bytes, prepares strips and entries,
+//! fills, and clears its rooms; the lifted one is given the job read, prepares and fills. Positions
+//! are compared first. fill JOBS RUNS, with a container of jobs as oracle/README.md says.
+#![allow(dead_code, improper_ctypes)]
+#[path = "../oracle/src/job.rs"]
+mod job;
+#[path = "../oracle/src/surroundings.rs"]
+mod surroundings;
+#[path = "../oracle/src/timed.rs"]
+mod timed;
+mod timing;
+
+use job::Job;
+use std::hint::black_box;
+use timed::lifted::reach::{Filled, Lifted};
+
+extern "C" {
+    fn panel_fill(
+        bytes: &[u8], order: &[usize], shapes: &mut [f64], sheet: &mut [f64], placed: &mut [f64],
+        sheet_entries: &mut [usize], placed_entries: &mut [usize], intervals: &mut [f64],
+        positions: &mut [f64],
+    ) -> u64;
+}
+
+/// The rooms that the program `plan` lends.
+struct Rooms {
+    strips: [Vec<f64>; 3],
+    entries: [Vec<usize>; 2],
+    intervals: Vec<f64>,
+    positions: Vec<f64>,
+}
+
+impl Rooms {
+    fn new() -> Self {
+        Self {
+            strips: [(); 3].map(|_| vec![0.0; 8190]),
+            entries: [(); 2].map(|_| vec![0; 16384]),
+            intervals: vec![0.0; 8192],
+            positions: vec![0.0; 20480],
+        }
+    }
+
+    /// The number of a refusal, or 0.
+    fn fill(&mut self, bytes: &[u8], order: &[usize]) -> u64 {
+        let [shapes, sheet, placed] = &mut self.strips;
+        let [sheet_entries, placed_entries] = &mut self.entries;
+        // The function asks nothing of its caller but slices of its own.
+        unsafe {
+            panel_fill(
+                bytes, order, shapes, sheet, placed, sheet_entries, placed_entries,
+                &mut self.intervals, &mut self.positions,
+            )
+        }
+    }
+}
+
+fn lifted_fill(job: &Job, order: &[usize]) -> Filled {
+    Lifted::new(job, &timed::Signal).fill(order)
+}
+
+/// The copies as `nest` begins with them: ordinary kinds first, higher priority, larger area.
+fn copy_order(job: &Job) -> Vec<usize> {
+    let mut kinds: Vec<usize> = (0..job.parts.len()).collect();
+    kinds.sort_by(|&a, &b| {
+        let (p, q) = (&job.parts[a], &job.parts[b]);
+        let first = p.fill.cmp(&q.fill).then(q.priority.cmp(&p.priority));
+        first.then(q.area.total_cmp(&p.area)).then(a.cmp(&b))
+    });
+    kinds.iter().flat_map(|&k| vec![k; job.parts[k].quantity as usize]).collect()
+}
+
+/// The lifted places as they lie in the position room: by kind, then copy.
+fn positions(order: &[usize], filled: &Filled) -> Vec<f64> {
+    let mut list: Vec<(usize, usize, [f64; 3])> = vec![];
+    let mut copies = vec![0; 64];
+    for (&kind, place) in order.iter().zip(&filled.placed) {
+        if let Some((o, x, y)) = *place {
+            list.push((kind, copies[kind], [o as f64, x, y]));
+            copies[kind] += 1;
+        }
+    }
+    list.sort_by_key(|p| (p.0, p.1));
+    list.into_iter().flat_map(|(k, c, [o, x, y])| [k as f64, c as f64, o, x, y]).collect()
+}
+
+/// The jobs of a container, with their labels.
+fn records(data: &[u8]) -> Vec<(String, &[u8])> {
+    let (mut list, mut rest) = (vec![], data);
+    while let Some((&n, after)) = rest.split_first() {
+        let (label, after) = after.split_at(n as usize);
+        let (size, after) = after.split_at(4);
+        let size = size.iter().fold(0, |n, &b| n << 8 | b as usize);
+        let (job, after) = after.split_at(size);
+        list.push((String::from_utf8_lossy(label).into_owned(), job));
+        rest = after;
+    }
+    list
+}
+
+fn main() {
+    let args: Vec<String> = std::env::args().collect();
+    let [_, file, runs] = &args[..] else { panic!("fill JOBS RUNS") };
+    let data = std::fs::read(file).expect("a container of jobs");
+    let runs = runs.parse().expect("a number of runs");
+    let (mut rooms, mut logs, mut worst) = (Rooms::new(), vec![], 0f64);
+    println!("job          copies  placed   lifted ms   proved ms  ratio");
+    for (label, bytes) in records(&data) {
+        let job = job::read(bytes).ok().expect("an accepted job");
+        let order = copy_order(&job);
+        let filled = lifted_fill(&job, &order);
+        let number = rooms.fill(bytes, &order);
+        assert_eq!(number, 0, "{label}: refused");
+        let right = positions(&order, &filled);
+        let same = right.iter().zip(&rooms.positions).all(|(a, b)| a.to_bits() == b.to_bits());
+        let after = rooms.positions[right.len()..].iter().all(|x| x.to_bits() == 0);
+        assert!(same && after, "{label}: positions differ");
+        let [lifted, ours] = timing::alternating(
+            runs,
+            || _ = black_box(lifted_fill(black_box(&job), &order)),
+            || _ = black_box(rooms.fill(black_box(bytes), &order)),
+        );
+        let ratio = ours / lifted;
+        let (copies, placed) = (order.len(), right.len() / 5);
+        println!("{label:12} {copies:6} {placed:7} {:11.2} {:11.2} {ratio:6.2}", lifted / 1e6, ours / 1e6);
+        logs.push(ratio.ln());
+        worst = worst.max(ratio);
+    }
+    let mean = (logs.iter().sum::<f64>() / logs.len() as f64).exp();
+    println!("{} jobs, geometric mean {mean:.2}, worst {worst:.2}", logs.len());
+}

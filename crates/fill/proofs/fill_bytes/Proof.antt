@@ -1,0 +1,106 @@
+-- `fill_bytes`: the job is read, then filled; or its number. Assumes nothing.
+use Prim.Native.Nat.{ℕ, _≤_}
+use native.Mathlib.Omega.{arith}
+use mathlib.Core.Path.{_≡_, refl}
+use Rattle.fill.proofs.Whole.{read-into, job-reply, no-job-reply}
+use borrow.Author.Needs.{needs}
+use Rattle.fill.proofs.fill_bytes.Statement.{statement}
+use Rattle.fill.proofs.fill_bytes.Tie as tie
+
+at-least : {m k : ℕ} → m ≡ k → k ≤ m
+at-least e = omega arith
+
+slice-aggregate-read-job : tie.Need-slice-aggregate-read-job
+slice-aggregate-read-job c = refl
+
+slice-aggregate-read-job-2 : tie.Need-slice-aggregate-read-job-2
+slice-aggregate-read-job-2 c = refl
+
+slice-aggregate-read-job-3 : tie.Need-slice-aggregate-read-job-3
+slice-aggregate-read-job-3 c = refl
+
+slice-aggregate-read-job-4 : tie.Need-slice-aggregate-read-job-4
+slice-aggregate-read-job-4 c = refl
+
+slice-aggregate-read-job-5 : tie.Need-slice-aggregate-read-job-5
+slice-aggregate-read-job-5 c = refl
+
+read-job-requires : tie.Need-read-job-requires
+read-job-requires c κs = search needs
+
+enum-known-h : tie.Need-enum-known-h
+enum-known-h c = search needs
+
+slice-aggregate-fill-job : tie.Need-slice-aggregate-fill-job
+slice-aggregate-fill-job c = search needs
+
+slice-aggregate-fill-job-2 : tie.Need-slice-aggregate-fill-job-2
+slice-aggregate-fill-job-2 c = search needs
+
+slice-aggregate-fill-job-3 : tie.Need-slice-aggregate-fill-job-3
+slice-aggregate-fill-job-3 c = search needs
+
+fill-job-requires : tie.Need-fill-job-requires
+fill-job-requires c κs = let p = c .before .before .before .before .before .before .before .before .before .before .before .before .before .before .before .before .before .before .before .before .before .before .before .before .before .before .before .before .before .before .before .before .before .pre in ((_, p .0, read-into (c .before .before .before .before .before .before .before .before .before .before .before .before .before .before .before .before .before .before .before .before .before .before .before .before .before .before .before .before .before .before .before .before .before .args .bytes .now) _ _ _ (c .before .before .before .before .before .before .before .before .before .before .before .before .before .before .before .before .before .before .read-job .result) (c .before .before .before .before .before .before .before .before .before .before .before .before .before .before .before .before .before .before .read-job .ensures) _ _ _ (c .before .before .before .before .before .before .before .before .before .before .before .h .given .1) (at-least (c .before .before .before .before .before .before .before .before .before .before .before .before .before .before .before .before .before .before .read-job .kept .1 .0)) (at-least (c .before .before .before .before .before .before .before .before .before .before .before .before .before .before .before .before .before .before .read-job .kept .1 .1 .0)), p .1, refl), at-least (c .before .before .before .before .before .before .before .before .before .before .before .before .before .before .before .before .before .before .read-job .kept .1 .1 .1 .0))
+
+enum-known-k : tie.Need-enum-known-k
+enum-known-k c = search needs
+
+refused-requires : tie.Need-refused-requires
+refused-requires c κs = search needs
+
+same-length : tie.Need-same-length
+same-length c = c .before .before .before .before .before .before .before .before .before .before .before .before .before .before .fill-job .kept .1 .1 .1 .1 .1 .1 .1 .1 .1 .0
+
+same-length-2 : tie.Need-same-length-2
+same-length-2 c = c .before .before .before .before .before .before .before .before .before .before .before .before .before .before .fill-job .kept .1 .1 .1 .1 .1 .1 .1 .1 .1 .1 .0
+
+same-length-3 : tie.Need-same-length-3
+same-length-3 c = c .before .before .before .before .before .before .before .before .before .before .before .before .before .before .fill-job .kept .1 .1 .1 .1 .1 .1 .1 .1 .1 .1 .1 .0
+
+same-length-4 : tie.Need-same-length-4
+same-length-4 c = c .before .before .before .before .before .before .before .before .before .before .before .before .before .before .fill-job .kept .1 .1 .1 .1 .1 .1 .1 .1 .1 .1 .1 .1 .0
+
+same-length-5 : tie.Need-same-length-5
+same-length-5 c = c .before .before .before .before .before .before .before .before .before .before .before .before .before .before .fill-job .kept .1 .1 .1 .1 .1 .1 .1 .1 .1 .1 .1 .1 .1 .0
+
+same-length-6 : tie.Need-same-length-6
+same-length-6 c = c .before .before .before .before .before .before .before .before .before .before .before .before .before .before .fill-job .kept .1 .1 .1 .1 .1 .1 .1 .1 .1 .1 .1 .1 .1 .1 .0
+
+same-length-7 : tie.Need-same-length-7
+same-length-7 c = c .before .before .before .before .before .before .before .before .before .before .before .before .before .before .fill-job .kept .1 .1 .1 .1 .1 .1 .1 .1 .1 .1 .1 .1 .1 .1 .1 .0
+
+returns : tie.Need-returns
+returns c = let a = c .before .before .before .before .before .before .before .before .before .before .before .before .before .before .before .before .before .before .before .before .before .before .before .before .before .before .before .before .before .before .before .before .before .before .before .before .before .before .before .before .before .before .before .before .before .before .before .before .args in
+    λ l z. job-reply (c .before .before .before .before .before .before .before .before .before .before .before .before .before .before .before .before .before .before .before .before .before .before .before .before .before .before .before .before .before .before .before .before .before .before .before .before .before .before .before .before .before .before .before .before .before .before .before .before .args .bytes .now) _ _ _ (c .before .before .before .before .before .before .before .before .before .before .before .before .before .before .before .before .before .before .before .before .before .before .before .before .before .before .before .before .before .before .before .before .before .read-job .result) (c .before .before .before .before .before .before .before .before .before .before .before .before .before .before .before .before .before .before .before .before .before .before .before .before .before .before .before .before .before .before .before .before .before .read-job .ensures) _ _ _ (c .before .before .before .before .before .before .before .before .before .before .before .before .before .before .before .before .before .before .before .before .before .before .before .before .before .before .h .given .1) (at-least (c .before .before .before .before .before .before .before .before .before .before .before .before .before .before .before .before .before .before .before .before .before .before .before .before .before .before .before .before .before .before .before .before .before .read-job .kept .1 .0)) (at-least (c .before .before .before .before .before .before .before .before .before .before .before .before .before .before .before .before .before .before .before .before .before .before .before .before .before .before .before .before .before .before .before .before .before .read-job .kept .1 .1 .0)) (a .order .now) l (c .before .before .before .before .before .before .before .before .before .before .before .before .before .before .fill-job .result) _ (c .before .before .before .before .before .before .before .before .before .before .before .before .before .before .fill-job .ensures _ l (read-into (c .before .before .before .before .before .before .before .before .before .before .before .before .before .before .before .before .before .before .before .before .before .before .before .before .before .before .before .before .before .before .before .before .before .before .before .before .before .before .before .before .before .before .before .before .before .before .before .before .args .bytes .now) _ _ _ (c .before .before .before .before .before .before .before .before .before .before .before .before .before .before .before .before .before .before .before .before .before .before .before .before .before .before .before .before .before .before .before .before .before .read-job .result) (c .before .before .before .before .before .before .before .before .before .before .before .before .before .before .before .before .before .before .before .before .before .before .before .before .before .before .before .before .before .before .before .before .before .read-job .ensures) _ _ _ (c .before .before .before .before .before .before .before .before .before .before .before .before .before .before .before .before .before .before .before .before .before .before .before .before .before .before .h .given .1) (at-least (c .before .before .before .before .before .before .before .before .before .before .before .before .before .before .before .before .before .before .before .before .before .before .before .before .before .before .before .before .before .before .before .before .before .read-job .kept .1 .0)) (at-least (c .before .before .before .before .before .before .before .before .before .before .before .before .before .before .before .before .before .before .before .before .before .before .before .before .before .before .before .before .before .before .before .before .before .read-job .kept .1 .1 .0))) z refl)
+
+returns-2 : tie.Need-returns-2
+returns-2 c = let a = c .before .before .before .before .before .before .before .before .before .before .before .before .before .before .before .before .before .before .before .before .before .before .before .before .args in
+    λ l z. no-job-reply (a .bytes .now) _ _ _ (c .before .before .before .before .before .before .before .before .before .read-job .result) (c .before .before .before .before .before .before .before .before .before .read-job .ensures) _ (c .before .before .k .given .1) (a .order .now) l (c .refused .result) (a .positions .now) (z .positions-zero) (c .refused .ensures)
+
+pub fill-bytes-spec : {M : Type 1} → statement M
+fill-bytes-spec =
+    tie.close
+    (tie.spec
+    slice-aggregate-read-job
+    slice-aggregate-read-job-2
+    slice-aggregate-read-job-3
+    slice-aggregate-read-job-4
+    slice-aggregate-read-job-5
+    read-job-requires
+    enum-known-h
+    slice-aggregate-fill-job
+    slice-aggregate-fill-job-2
+    slice-aggregate-fill-job-3
+    fill-job-requires
+    enum-known-k
+    refused-requires
+    same-length
+    same-length-2
+    same-length-3
+    same-length-4
+    same-length-5
+    same-length-6
+    same-length-7
+    returns
+    returns-2)

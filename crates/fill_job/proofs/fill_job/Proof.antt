@@ -1,0 +1,72 @@
+-- `fill_job`: 30, 10, then the filling. Assumes nothing.
+use Prim.Native.Nat.{ℕ, _≤_}
+use mathlib.Core.Path.{_≡_, sym, subst, _∙_}
+use borrow.Author.Needs.{needs}
+use Rattle.fill_job.proofs.Judging.{positions-many, no-positions, wrong-order, then-prepared}
+use Rattle.fill_job.proofs.fill_job.Statement.{statement}
+use Rattle.fill_job.proofs.fill_job.Tie as tie
+
+refused-requires : tie.Need-refused-requires
+refused-requires c κs = search needs
+
+returns : tie.Need-returns
+returns c = let a = c .before .before .before .before .before .before .before .before .before .before .before .before .before .before .args in
+    λ j l r z n. no-positions j l (a .order .now) (a .copies) n (a .positions .now) (z .positions-zero) (c .refused .result) (c .before .if1 .taken) (c .refused .ensures)
+
+rearranged-requires : tie.Need-rearranged-requires
+rearranged-requires c κs = let a = c .before .before .before .before .before .before .before .before .before .before .before .before .before .args in let p = c .before .before .before .before .before .before .before .before .before .before .before .before .before .pre in (subst (λ (m : ℕ). m ≤ 64) (p .0 .2 .number) (p .0 .2 .tabled .few), p .0 .2 .tabled .rows-long)
+
+fill-tables-requires : tie.Need-fill-tables-requires
+fill-tables-requires c κs = let a = c .before .before .before .before .before .before .before .before .before .before .before .before .before .before .before .before .before .before .before .before .before .before .args in let p = c .before .before .before .before .before .before .before .before .before .before .before .before .before .before .before .before .before .before .before .before .before .before .pre in let o = sym (c .before .before .before .before .before .before .before .before .rearranged .ensures (p .0 .0) (a .areas .now) (p .0 .2 .tabled) (p .0 .2 .number) (p .0 .4)) ∙ c .before .before .before .before .before .before .before .if2 .taken in
+    ((p .0 .0, p .0 .1, p .0 .2, p .0 .3, o), p .1, positions-many (p .0 .0) (a .order .now) (a .copies) _ o (p .0 .4) (c .before .before .before .before .before .before .before .before .before .if1 .left))
+
+same-length : tie.Need-same-length
+same-length c = c .before .before .before .before .before .before .before .before .before .before .before .before .before .before .fill-tables .kept .1 .1 .1 .1 .1 .1 .1 .1 .0
+
+same-length-2 : tie.Need-same-length-2
+same-length-2 c = c .before .before .before .before .before .before .before .before .before .before .before .before .before .before .fill-tables .kept .1 .1 .1 .1 .1 .1 .1 .1 .1 .0
+
+same-length-3 : tie.Need-same-length-3
+same-length-3 c = c .before .before .before .before .before .before .before .before .before .before .before .before .before .before .fill-tables .kept .1 .1 .1 .1 .1 .1 .1 .1 .1 .1 .0
+
+same-length-4 : tie.Need-same-length-4
+same-length-4 c = c .before .before .before .before .before .before .before .before .before .before .before .before .before .before .fill-tables .kept .1 .1 .1 .1 .1 .1 .1 .1 .1 .1 .1 .0
+
+same-length-5 : tie.Need-same-length-5
+same-length-5 c = c .before .before .before .before .before .before .before .before .before .before .before .before .before .before .fill-tables .kept .1 .1 .1 .1 .1 .1 .1 .1 .1 .1 .1 .1 .0
+
+same-length-6 : tie.Need-same-length-6
+same-length-6 c = c .before .before .before .before .before .before .before .before .before .before .before .before .before .before .fill-tables .kept .1 .1 .1 .1 .1 .1 .1 .1 .1 .1 .1 .1 .1 .0
+
+same-length-7 : tie.Need-same-length-7
+same-length-7 c = c .before .before .before .before .before .before .before .before .before .before .before .before .before .before .fill-tables .kept .1 .1 .1 .1 .1 .1 .1 .1 .1 .1 .1 .1 .1 .1 .0
+
+returns-2 : tie.Need-returns-2
+returns-2 c = let a = c .before .before .before .before .before .before .before .before .before .before .before .before .before .before .before .before .before .before .before .before .before .before .before .before .before .before .before .before .before .before .before .before .before .before .before .before .before .args in
+    λ j l r z n. let o = (sym (c .before .before .before .before .before .before .before .before .before .before .before .before .before .before .before .before .before .before .before .before .before .before .before .rearranged .ensures j (a .areas .now) (r .tabled) (r .number) n) ∙ c .before .before .before .before .before .before .before .before .before .before .before .before .before .before .before .before .before .before .before .before .before .before .if2 .taken) in then-prepared j l (a .order .now) (a .copies) n (a .positions .now) (z .positions-zero) (c .before .before .before .before .before .before .before .before .before .before .before .before .before .before .fill-tables .result) _ (c .before .before .before .before .before .before .before .before .before .before .before .before .before .before .before .before .before .before .before .before .before .before .before .before .if1 .left) o (c .before .before .before .before .before .before .before .before .before .before .before .before .before .before .fill-tables .ensures j l r z o)
+
+refused-requires-2 : tie.Need-refused-requires-2
+refused-requires-2 c κs = search needs
+
+returns-3 : tie.Need-returns-3
+returns-3 c = let a = c .before .before .before .before .before .before .before .before .before .before .before .before .before .before .before .before .args in
+    λ j l r z n. wrong-order j l (a .order .now) (a .copies) n (a .positions .now) (z .positions-zero) (c .refused2 .result) (c .before .before .before .if1 .left) ((sym (c .before .before .rearranged .ensures j (a .areas .now) (r .tabled) (r .number) n) ∙ c .before .if2 .left)) (c .refused2 .ensures)
+
+pub fill-job-spec : {M : Type 1} → statement M
+fill-job-spec =
+    tie.close
+    (tie.spec
+    refused-requires
+    returns
+    rearranged-requires
+    fill-tables-requires
+    same-length
+    same-length-2
+    same-length-3
+    same-length-4
+    same-length-5
+    same-length-6
+    same-length-7
+    returns-2
+    refused-requires-2
+    returns-3)

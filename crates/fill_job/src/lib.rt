@@ -1,0 +1,145 @@
+// The filling of an accepted job in a given order: 30, then 10, then what is prepared (20, 21), then
+// the copies (document 01, "A filling in a given order .. 10 right after 30").
+ghost use mathlib.Core.Bool.{true};
+ghost use mathlib.Core.Path.{_≡_};
+ghost use Prim.Native.Nat.{ℕ, _*_, _≤_};
+ghost use lib.ListN.{length};
+ghost use Rattle.job.specs.Jobs.{Job};
+ghost use Rattle.filling.specs.Shapes.{plannerOf};
+ghost use Rattle.filling.specs.Rooms.{Lent};
+ghost use Rattle.filling.specs.Order.{rearranged};
+ghost use Rattle.filling.specs.Start.{prepareVerdict};
+ghost use Rattle.filling.specs.Fill.{fillJob};
+ghost use Rattle.fill_plan.specs.Replies.{reply, replyOf};
+ghost use Rattle.fill_job.specs.Zeroed.{Zeroed, ReadInto, refusedBy, fillWhen};
+use fill_plan::Filled;
+use filling::Refusal;
+use filling::Verdict;
+use index::Entry;
+use prepare::Prepared;
+
+// A refusal's number alone.
+pub fn refused(k: Refusal) -> Filled
+    ensures { λ r. ⌜ r ≡ refusedBy k ⌝ }
+{
+    let plan = fill_plan::no_plan();
+    Filled {
+        verdict: Verdict::Refused(k),
+        plan: plan,
+    }
+}
+
+// The job's tables and rooms are prepared, then filled.
+fn fill_tables(
+    bytes: &[u8],
+    at: u32,
+    kinds: usize,
+    resolution: f64,
+    order: &[usize],
+    rows: &[u64],
+    areas: &[f64],
+    places: &[u32],
+    shapes: &mut [f64],
+    sheet: &mut [f64],
+    placed: &mut [f64],
+    sheet_entries: &mut [Entry],
+    placed_entries: &mut [Entry],
+    intervals: &mut [f64],
+    positions: &mut [f64],
+) -> Filled
+    requires { ⌜ ((j : Job) × (l : Lent) × ReadInto j (now bytes) at kinds resolution (now rows) (now areas) (now places) × Zeroed l (now shapes) (now sheet) (now placed) (now «sheet_entries») (now «placed_entries») (now intervals) (now positions) × (rearranged j (now order) ≡ true))
+        × (2048 ≤ length (now places)) × (5 * length (now order) ≤ length (now positions)) ⌝ }
+    ensures { λ r. ⌜ ((j : Job) (l : Lent) → ReadInto j (now (bytes .entry)) at kinds resolution (now (rows .entry)) (now (areas .entry)) (now (places .entry)) → Zeroed l (now (shapes .entry)) (now (sheet .entry)) (now (placed .entry)) (now («sheet_entries» .entry)) (now («placed_entries» .entry)) (now (intervals .entry)) (now (positions .entry)) → rearranged j (now (order .entry)) ≡ true
+        → reply r (now (positions .exit)) ≡ replyOf (fillWhen (prepareVerdict (plannerOf j) (l .rooms)) j l (now (order .entry)))) ⌝ }
+{
+    let mut sheet_starts = [0usize; 513];
+    let mut gains = [0usize; 512];
+    let mut inset_bounds = [0.0; 4096];
+    let mut parts = [0usize; 4096];
+    match prepare::prepare(
+        bytes,
+        at,
+        kinds,
+        rows,
+        places,
+        shapes,
+        sheet,
+        sheet_entries,
+        &mut sheet_starts,
+        &mut gains,
+        &mut inset_bounds,
+        &mut parts,
+    ) {
+        Prepared::Ready(bounds, n, a, _) => fill_plan::fill_plan(
+            bounds,
+            resolution,
+            kinds,
+            n,
+            a,
+            order,
+            rows,
+            areas,
+            &inset_bounds,
+            &parts,
+            shapes,
+            sheet,
+            sheet_entries,
+            &sheet_starts,
+            placed,
+            placed_entries,
+            intervals,
+            positions,
+        ),
+        Prepared::NotReady(k) => refused(k),
+    }
+}
+
+// The job that was read into the tables, with so many copies. All rooms are zero. Only crates of
+// ours call it.
+pub fn fill_job(
+    bytes: &[u8],
+    at: u32,
+    kinds: usize,
+    copies: usize,
+    resolution: f64,
+    order: &[usize],
+    rows: &[u64],
+    areas: &[f64],
+    places: &[u32],
+    shapes: &mut [f64],
+    sheet: &mut [f64],
+    placed: &mut [f64],
+    sheet_entries: &mut [Entry],
+    placed_entries: &mut [Entry],
+    intervals: &mut [f64],
+    positions: &mut [f64],
+) -> Filled
+    requires { ⌜ ((j : Job) × (l : Lent) × ReadInto j (now bytes) at kinds resolution (now rows) (now areas) (now places) × Zeroed l (now shapes) (now sheet) (now placed) (now «sheet_entries») (now «placed_entries») (now intervals) (now positions) × (j .copies ≡ copies))
+        × (2048 ≤ length (now places)) ⌝ }
+    ensures { λ r. ⌜ ((j : Job) (l : Lent) → ReadInto j (now (bytes .entry)) at kinds resolution (now (rows .entry)) (now (areas .entry)) (now (places .entry)) → Zeroed l (now (shapes .entry)) (now (sheet .entry)) (now (placed .entry)) (now («sheet_entries» .entry)) (now («placed_entries» .entry)) (now (intervals .entry)) (now (positions .entry)) → j .copies ≡ copies
+        → reply r (now (positions .exit)) ≡ replyOf (fillJob j (now (order .entry)) l)) ⌝ }
+{
+    if positions.len() / 5 < copies {
+        return refused(Refusal::PositionRoom);
+    }
+    if order::rearranged(order, rows, kinds, copies) {
+        return fill_tables(
+            bytes,
+            at,
+            kinds,
+            resolution,
+            order,
+            rows,
+            areas,
+            places,
+            shapes,
+            sheet,
+            placed,
+            sheet_entries,
+            placed_entries,
+            intervals,
+            positions,
+        );
+    }
+    refused(Refusal::WrongOrder)
+}

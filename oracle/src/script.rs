@@ -1,0 +1,399 @@
+//! `--script`: answers a script of calls, as oracle/README.md describes it. The same script is the
+//! input of the program filling_test, whose output must be the same.
+use crate::compare::{run, Ask};
+use crate::filling::{next_copy, start, Stop};
+use crate::flat::{Flat, COPIES};
+use crate::job::{self, Job};
+use crate::nesting::{next_random, Plan};
+use crate::print::{hex, position_room, positions};
+use crate::probed::{lifted::reach::Lifted, Signal};
+use crate::rooms::{Rooms, Sizes};
+use crate::strips::bounds;
+use crate::watch::Watch;
+
+/// The longest rooms that a script can ask for, in slots: shapes, sheet, placed, sheet entries,
+/// placed entries, intervals, positions.
+const LONGEST: [usize; 7] = [8200, 8200, 8200, 16500, 16500, 8200, 20500];
+
+/// Which rooms hold numbers and not doubles.
+fn entry_room(a: usize) -> bool {
+    a == 3 || a == 4
+}
+
+/// One command: a letter, a byte, 4 bytes, 8 bytes, most significant first.
+struct Command {
+    letter: u8,
+    a: usize,
+    n: usize,
+    m: u64,
+}
+
+struct Reader<'a> {
+    data: &'a [u8],
+    at: usize,
+}
+
+impl<'a> Reader<'a> {
+    fn take(&mut self, n: usize) -> Result<&'a [u8], String> {
+        let piece = self.data.get(self.at..self.at + n).ok_or("script ends inside a command")?;
+        self.at += n;
+        Ok(piece)
+    }
+
+    fn command(&mut self) -> Result<Option<Command>, String> {
+        if self.at == self.data.len() {
+            return Ok(None);
+        }
+        let b = self.take(14)?;
+        let number = |r: &[u8]| r.iter().fold(0u64, |n, &x| n << 8 | x as u64);
+        let (a, n, m) = (b[1] as usize, number(&b[2..6]) as usize, number(&b[6..]));
+        Ok(Some(Command { letter: b[0], a, n, m }))
+    }
+}
+
+/// A hash of numbers: each is mixed in by a draw; it begins with how many they are.
+fn hash(words: &[u64]) -> u64 {
+    words.iter().fold(words.len() as u64, |h, w| next_random(&mut (h ^ w)))
+}
+
+/// A double's bits; one pattern for every NaN.
+fn bits(x: f64) -> u64 {
+    if x.is_nan() { 0x7ff8_0000_0000_0000 } else { x.to_bits() }
+}
+
+/// What a slot of a room holds before a call: not a number, an infinity, minus zero, or whatever
+/// double a draw's bits are.
+fn garbage(state: &mut u64) -> u64 {
+    let draw = next_random(state);
+    match draw % 8 {
+        0 => bits(f64::NAN),
+        1 => bits(f64::INFINITY),
+        2 => bits(f64::NEG_INFINITY),
+        3 => bits(-0.0),
+        _ => bits(f64::from_bits(draw)),
+    }
+}
+
+pub struct Script {
+    job: Vec<u8>,
+    order: Vec<usize>,
+    /// How many orientations each kind has, for the leaf.
+    counts: Vec<u64>,
+    /// Every room as bits or numbers, at its longest.
+    rooms: [Vec<u64>; 7],
+    lengths: [usize; 7],
+    state: Flat,
+    /// Whether state or rooms were changed by hand since the start.
+    edited: bool,
+    out: String,
+}
+
+impl Script {
+    fn new() -> Self {
+        Self {
+            job: vec![],
+            order: vec![],
+            counts: vec![],
+            rooms: LONGEST.map(|n| vec![0; n]),
+            lengths: [0; 7],
+            state: Flat::zero(),
+            edited: false,
+            out: String::new(),
+        }
+    }
+
+    fn sizes(&self) -> Sizes {
+        let [shapes, sheet, placed, sheet_entries, placed_entries, intervals, positions] =
+            self.lengths;
+        Sizes { shapes, sheet, placed, sheet_entries, placed_entries, intervals, positions }
+    }
+
+    /// The rooms as they are lent.
+    fn lent(&self) -> Rooms {
+        let doubles = |a: usize| {
+            self.rooms[a][..self.lengths[a]].iter().map(|&w| f64::from_bits(w)).collect()
+        };
+        let numbers = |a: usize| self.rooms[a][..self.lengths[a]].to_vec();
+        Rooms {
+            shapes: doubles(0),
+            sheet: doubles(1),
+            placed: doubles(2),
+            sheet_entries: numbers(3),
+            placed_entries: numbers(4),
+            intervals: doubles(5),
+            positions: doubles(6),
+        }
+    }
+
+    fn left(&mut self, r: &Rooms) {
+        let doubles = [(0, &r.shapes), (1, &r.sheet), (2, &r.placed), (5, &r.intervals)];
+        for (a, room) in doubles.into_iter().chain([(6, &r.positions)]) {
+            for (slot, &x) in self.rooms[a].iter_mut().zip(room) {
+                *slot = bits(x);
+            }
+        }
+        for (a, room) in [(3, &r.sheet_entries), (4, &r.placed_entries)] {
+            self.rooms[a][..room.len()].copy_from_slice(room);
+        }
+    }
+
+    /// The hashes of all rooms.
+    fn rooms_line(&mut self) {
+        self.out += "rooms";
+        for (room, &n) in self.rooms.iter().zip(&self.lengths) {
+            self.out += &format!(" {:016x}", hash(&room[..n]));
+        }
+        self.out += "\n";
+    }
+
+    fn state_line(&mut self, name: &str, number: u32) {
+        let s = &self.state;
+        let (right, area) = (hex(s.right), hex(s.unplaced_area));
+        let state = state_hash(s);
+        self.out += &format!("{name} {number} {} {} {right} {area}", s.taken, s.placed_strips);
+        self.out += &format!(" {state:016x}\n");
+    }
+
+    /// Start: a refused one leaves zeros.
+    fn start(&mut self) -> Result<(), String> {
+        let mut rooms = Rooms::new(&self.sizes());
+        let result = match job::read(&self.job) {
+            Err(n) => Err(Stop::Refused(n)),
+            Ok(job) => start(&job, &self.order, &mut rooms),
+        };
+        let number = match result {
+            Ok(state) => {
+                self.state = Flat::started(&state);
+                0
+            }
+            Err(stop) => {
+                self.state = Flat::zero();
+                rooms = Rooms::new(&self.sizes());
+                refusal(stop)?
+            }
+        };
+        self.left(&rooms);
+        self.edited = false;
+        self.state_line("start", number);
+        Ok(())
+    }
+
+    /// Next copy: the job's refusal, then 31, then the planner with rooms.
+    fn next(&mut self) -> Result<(), String> {
+        let mut rooms = self.lent();
+        let number = match job::read(&self.job) {
+            Err(n) => n,
+            Ok(job) => match self.state.state(&job, &rooms) {
+                None => 31,
+                Some(mut state) => {
+                    match next_copy(&job, &mut state, &mut rooms, &mut Watch::default()) {
+                        Ok(()) => {
+                            self.state.stepped(&state);
+                            0
+                        }
+                        Err(stop) => self.stopped(&job, stop)?,
+                    }
+                }
+            },
+        };
+        rooms.clear_intervals();
+        self.left(&rooms);
+        self.state_line("next", number);
+        Ok(())
+    }
+
+    /// A refused step. With the order used up and nothing edited, the layout must be the lifted fill's.
+    fn stopped(&self, job: &Job, stop: Stop) -> Result<u32, String> {
+        let number = refusal(stop)?;
+        if number != 23 || self.edited {
+            return Ok(number);
+        }
+        let signal = Signal::default();
+        let filled = Lifted::new(job, &signal).fill(&self.order);
+        let s = &self.state;
+        let same = filled.placed.iter().enumerate().all(|(i, p)| match p {
+            Some((o, x, y)) => {
+                (s.orientation[i], bits(s.x[i]), bits(s.y[i])) == (o + 1, bits(*x), bits(*y))
+            }
+            None => s.orientation[i] == 0,
+        });
+        let ends = [(s.right, filled.right), (s.unplaced_area, filled.unplaced_area)];
+        if same && ends.iter().all(|(a, b)| bits(*a) == bits(*b)) {
+            return Ok(number);
+        }
+        Err("steps to the end differ from the lifted fill".into())
+    }
+
+    /// A filling in the given order, compared with the lifted one and with the plain planner.
+    fn fill(&mut self) -> Result<(), String> {
+        let mut rooms = Rooms::new(&self.sizes());
+        let result = match job::read(&self.job) {
+            Err(n) => Err(n),
+            Ok(job) => {
+                let order = Some(self.order.clone());
+                let ask = Ask { sizes: self.sizes(), order, plain_work: 20_000_000, looks: false };
+                run(&job, &ask)?.plan.map(|plan| (job, plan))
+            }
+        };
+        self.out += &match result {
+            Ok((job, plan)) => {
+                rooms.positions = position_room(&job, &plan, rooms.positions.len());
+                plan_line(&job, &plan)
+            }
+            Err(number) => {
+                let zero = hex(0.0);
+                let nothing = hash(&[0; 64 + 64 + 1024]);
+                format!("fill {number} 0 0 {zero} {zero} {zero} {nothing:016x}\n")
+            }
+        };
+        self.left(&rooms);
+        Ok(())
+    }
+
+    /// The leaf: the inset or the apart strips of one orientation, or 9 and an empty part.
+    fn leaf(&mut self, kind: usize, orientation: u64, inset: bool) {
+        let has = self.counts.get(kind).is_some_and(|&n| orientation < n);
+        let mut part = vec![];
+        if has {
+            let (apart, other) = self.state.ranges(16 * kind + orientation as usize);
+            let which = if inset { other } else { apart };
+            part = self.rooms[0][6 * which.start..6 * which.end].to_vec();
+        }
+        let number = if has { 0 } else { 9 };
+        let n = part.len();
+        self.out += &format!("leaf {number} {n} {:016x}\n", hash(&part));
+    }
+
+    fn show(&mut self, a: usize) {
+        self.out += &format!("room {a}");
+        for w in &self.rooms[a][..self.lengths[a]] {
+            self.out += &format!(" {w:016x}");
+        }
+        self.out += "\n";
+    }
+
+    /// Garbage in room a from slot n on.
+    fn spoil(&mut self, a: usize, n: usize, seed: u64) {
+        let mut state = seed;
+        for slot in self.rooms[a][..self.lengths[a]].iter_mut().skip(n) {
+            *slot = if entry_room(a) { next_random(&mut state) } else { garbage(&mut state) };
+        }
+    }
+
+    /// One number of the state.
+    fn edit(&mut self, a: usize, n: usize, m: u64) -> Result<(), String> {
+        let s = &mut self.state;
+        let (x, i) = (f64::from_bits(m), m as usize);
+        match a {
+            0 => s.resolution = x,
+            1 => s.sheet_bounds[n] = x,
+            2 => s.sheet_strips = i,
+            3 => s.apart_strips = i,
+            4 => s.inset_bounds[n] = x,
+            5 => s.parts[n] = i,
+            6 => s.order[n] = i,
+            7 => s.taken = i,
+            8 => s.next_column[n] = i,
+            9 => s.look_counts[n] = i,
+            10 => s.placed_strips = i,
+            11 => s.orientation[n] = i,
+            12 => s.x[n] = x,
+            13 => s.y[n] = x,
+            14 => s.unplaced_area = x,
+            15 => s.right = x,
+            _ => return Err(format!("the state has no number {a}")),
+        }
+        self.edited = true;
+        Ok(())
+    }
+
+    fn obey(&mut self, c: Command, data: &mut Reader) -> Result<(), String> {
+        match c.letter {
+            b'T' => self.out += &format!("{}\n", String::from_utf8_lossy(data.take(c.n)?)),
+            b'J' => self.job = data.take(c.n)?.to_vec(),
+            b'O' => {
+                let list = data.take(2 * c.n)?.chunks(2);
+                self.order = list.map(|b| (b[0] as usize) << 8 | b[1] as usize).collect();
+                if self.order.len() > COPIES + 4 {
+                    return Err("an order that is too long".into());
+                }
+            }
+            b'L' if c.n > LONGEST[c.a] => return Err(format!("room {} of {}", c.a, c.n)),
+            b'L' => self.lengths[c.a] = c.n,
+            b'H' => self.spoil(c.a, c.n, c.m),
+            b'R' if c.n >= self.lengths[c.a] => return Err(format!("room {} at {}", c.a, c.n)),
+            b'R' => {
+                self.rooms[c.a][c.n] = c.m;
+                self.edited = true;
+            }
+            b'Q' => self.counts = data.take(c.n)?.iter().map(|&n| n as u64).collect(),
+            b'E' => self.edit(c.a, c.n, c.m)?,
+            b'S' => self.start()?,
+            b'N' => self.next()?,
+            b'F' => self.fill()?,
+            b'K' => self.leaf(c.n, c.m, c.a == 1),
+            b'P' => self.show(c.a),
+            b'V' => self.rooms_line(),
+            other => return Err(format!("no command {other}")),
+        }
+        Ok(())
+    }
+}
+
+fn refusal(stop: Stop) -> Result<u32, String> {
+    match stop {
+        Stop::Refused(n) => Ok(n),
+        Stop::Differ(message) => Err(message),
+    }
+}
+
+/// The hash of all the state's numbers, in the order of the fields.
+fn state_hash(s: &Flat) -> u64 {
+    let mut words = vec![bits(s.resolution)];
+    let doubles = |words: &mut Vec<u64>, xs: &[f64]| words.extend(xs.iter().map(|&x| bits(x)));
+    let numbers = |words: &mut Vec<u64>, ns: &[usize]| words.extend(ns.iter().map(|&n| n as u64));
+    doubles(&mut words, &s.sheet_bounds);
+    numbers(&mut words, &[s.sheet_strips, s.apart_strips]);
+    doubles(&mut words, &s.inset_bounds);
+    numbers(&mut words, &s.parts);
+    numbers(&mut words, &s.order);
+    numbers(&mut words, &[s.taken]);
+    numbers(&mut words, &s.next_column);
+    numbers(&mut words, &s.look_counts);
+    numbers(&mut words, &[s.placed_strips]);
+    numbers(&mut words, &s.orientation);
+    doubles(&mut words, &s.x);
+    doubles(&mut words, &s.y);
+    doubles(&mut words, &[s.unplaced_area, s.right]);
+    hash(&words)
+}
+
+/// What a filling answers: counts, right, unplaced area, offcut, and the hash of the copies placed
+/// and unplaced by kind and of the look counts by slot.
+fn plan_line(job: &Job, plan: &Plan) -> String {
+    let (list, copies) = positions(job, plan);
+    let mut words = vec![0; 64 + 64 + 1024];
+    let mut looks = plan.layout.looks.iter();
+    for (kind, part) in job.parts.iter().enumerate() {
+        words[kind] = copies[kind] as u64;
+        words[64 + kind] = (part.quantity - copies[kind]) as u64;
+        for (o, n) in (0..part.orientations.len()).zip(&mut looks) {
+            words[128 + 16 * kind + o] = *n;
+        }
+    }
+    let (right, area) = (plan.layout.right, plan.layout.unplaced_area);
+    let offcut = bounds(&job.sheet)[2] - right;
+    let without = plan.order.len() - list.len();
+    let (right, area, offcut) = (hex(right), hex(area), hex(offcut));
+    let counts = hash(&words);
+    format!("fill 0 {} {without} {right} {area} {offcut} {counts:016x}\n", list.len())
+}
+
+pub fn script(data: &[u8]) -> Result<String, String> {
+    let mut reader = Reader { data, at: 0 };
+    let mut s = Script::new();
+    while let Some(command) = reader.command()? {
+        s.obey(command, &mut reader)?;
+    }
+    Ok(s.out)
+}
