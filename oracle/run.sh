@@ -1,13 +1,24 @@
 #!/usr/bin/env bash
-# run.sh N SEED: generates N jobs and compares on each the lifted planner, the
-# planner with rooms and the plain planner, in the whole plan and in a drawn
-# order; the oracle's reader with that of bits.py, on these jobs and on every
-# job of 0 to 2 bytes; and the program `plan`, where there is one (PLAN=path,
-# or under target/), byte for byte. SHORT=yes runs `plan` on the short jobs too.
+# run.sh [--plan PROGRAM] N SEED: generates N jobs, good and damaged, and compares on each the
+# lifted planner, the planner with rooms and the plain planner, in the whole plan and in a drawn
+# order; the oracle's reader with that of bits.py, on these jobs and on every job of 0 to 2 bytes;
+# and the program `plan` byte for byte, where there is one (target/bin/plan, or PROGRAM).
+# SHORT=yes runs `plan` on the short jobs too. Where N is 5,000 or more every number that `plan`
+# can print must occur.
 set -u
 here=$(cd "$(dirname "${BASH_SOURCE[0]}")" && pwd)
+plan=$here/../target/bin/plan
+[ -x "$plan" ] || plan=
+if [ "${1:-}" = --plan ]; then
+    plan=$2
+    shift 2
+    if [ ! -x "$plan" ]; then
+        echo "no program $plan" >&2
+        exit 2
+    fi
+fi
 if [ $# != 2 ]; then
-    sed -n '2,6s/^# //p' "$0" >&2
+    sed -n '2,7s/^# //p' "$0" >&2
     exit 2
 fi
 n=$1 seed=$2
@@ -15,12 +26,11 @@ build=$here/build oracle=$here/build/oracle
 if [ ! -x "$oracle" ] || [ -n "$(find "$here/src" "$here/lift.py" -newer "$oracle")" ]; then
     "$here/build.sh" || exit 1
 fi
-plan=${PLAN:-$(find "$here/../target" -type f -name plan -perm -u+x 2>/dev/null | head -n 1)}
 differ=0
 
 # Runs a command that ends with '.., D disagreements' and adds D.
 count() {
-    local text last
+    local last
     text=$("$@")
     last=$(tail -n 1 <<<"$text")
     if [[ $last =~ ,\ ([0-9]+)\ disagreements$ ]]; then
@@ -31,11 +41,23 @@ count() {
     printf '%s\n\n' "$text"
 }
 
+# Every number that `plan` can print must be among the answers.
+every_number() {
+    local number
+    for number in 1 2 3 4 5 6 7 8 11 20 21 22; do
+        if ! grep -q "^no $number: " <<<"$text"; then
+            echo "no job was refused with $number"
+            differ=$((differ + 1))
+        fi
+    done
+}
+
 python3 "$here/gen.py" "$build/jobs" "$n" "$seed" || exit 1
 python3 "$here/gen.py" --short "$build/short" || exit 1
 
 echo "whole plans${plan:+, and $plan}"
 count "$oracle" --batch "$build/jobs" --out "$build/answers" ${plan:+--plan "$plan"}
+[ "$n" -lt 5000 ] || every_number
 echo "fillings in a drawn order"
 count "$oracle" --batch "$build/jobs" --shuffle "$seed"
 echo "reader on the same jobs"

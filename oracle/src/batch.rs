@@ -5,6 +5,7 @@ use crate::{answer_text, Options};
 use std::collections::BTreeMap;
 use std::io::Write;
 use std::process::{Command, Stdio};
+use std::sync::atomic::{AtomicUsize, Ordering};
 
 pub fn records(data: &[u8]) -> Result<Vec<(String, &[u8])>, String> {
     let mut list = vec![];
@@ -30,7 +31,10 @@ fn record(label: &str, text: &str) -> Vec<u8> {
     out
 }
 
-/// Standard output of the program `plan` on a job.
+/// What a pipe takes at once.
+const PIPE: usize = 65_536;
+
+/// Standard output of the program `plan` on a job; an error where it fails.
 fn printed(program: &str, job: &[u8]) -> Result<String, String> {
     let mut child = Command::new(program)
         .stdin(Stdio::piped())
@@ -38,11 +42,20 @@ fn printed(program: &str, job: &[u8]) -> Result<String, String> {
         .spawn()
         .map_err(|e| format!("{program}: {e}"))?;
     let mut input = child.stdin.take().expect("piped");
-    let job = job.to_vec();
     // A program may answer without reading all.
-    let writer = std::thread::spawn(move || input.write_all(&job).ok());
+    let mut writer = None;
+    if job.len() <= PIPE {
+        input.write_all(job).ok();
+        drop(input);
+    } else {
+        let job = job.to_vec();
+        writer = Some(std::thread::spawn(move || input.write_all(&job).ok()));
+    }
     let output = child.wait_with_output().map_err(|e| format!("{program}: {e}"))?;
-    writer.join().ok();
+    writer.map(|w| w.join().ok());
+    if !output.status.success() {
+        return Err(format!("{program}: {}", output.status));
+    }
     Ok(String::from_utf8_lossy(&output.stdout).into_owned())
 }
 
@@ -85,11 +98,20 @@ impl Counts {
                 }
                 Err(message) => {
                     self.differ += 1;
-                    eprintln!("{message}");
+                    eprintln!("job {number} {label}: {message}");
                 }
             }
         }
         text
+    }
+
+    fn add(&mut self, other: Counts) {
+        for (answer, n) in other.answers {
+            *self.answers.entry(answer).or_default() += n;
+        }
+        self.plain += other.plain;
+        self.looks += other.looks;
+        self.differ += other.differ;
     }
 
     fn print(&self, jobs: usize) {
@@ -102,18 +124,44 @@ impl Counts {
     }
 }
 
-/// All jobs of a container; whether all agree.
-pub fn batch(data: &[u8], options: &Options) -> Result<bool, String> {
-    let list = records(data)?;
-    let mut counts = Counts::default();
-    let mut out = vec![];
-    for (number, (label, job)) in list.iter().enumerate() {
-        let text = counts.job(number, label, job, options);
+/// What one core has answered: its counts, and texts by job number.
+type Share = (Counts, Vec<(usize, String)>);
+
+/// Takes the next job until none is left.
+fn work(list: &[(String, &[u8])], next: &AtomicUsize, options: &Options) -> Share {
+    let mut share = Share::default();
+    loop {
+        let number = next.fetch_add(1, Ordering::Relaxed);
+        let Some((label, job)) = list.get(number) else {
+            return share;
+        };
+        let text = share.0.job(number, label, job, options);
         if options.out.is_some() {
-            out.extend(record(label, &text));
+            share.1.push((number, text));
         }
     }
+}
+
+/// All jobs of a container, on every core but where time is measured; whether all agree.
+pub fn batch(data: &[u8], options: &Options) -> Result<bool, String> {
+    let list = records(data)?;
+    let cores = std::thread::available_parallelism().map_or(1, |n| n.get());
+    let cores = if options.time.is_some() { 1 } else { cores };
+    let next = AtomicUsize::new(0);
+    let shares: Vec<Share> = std::thread::scope(|scope| {
+        let start = |_| scope.spawn(|| work(&list, &next, options));
+        let running: Vec<_> = (0..cores).map(start).collect();
+        running.into_iter().map(|r| r.join().expect("a worker")).collect()
+    });
+    let mut counts = Counts::default();
+    let mut texts = vec![];
+    for (share, answered) in shares {
+        counts.add(share);
+        texts.extend(answered);
+    }
     if let Some(file) = &options.out {
+        texts.sort();
+        let out: Vec<u8> = texts.iter().flat_map(|(n, text)| record(&list[*n].0, text)).collect();
         std::fs::write(file, out).map_err(|e| format!("{file}: {e}"))?;
     }
     counts.print(list.len());

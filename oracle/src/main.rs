@@ -46,6 +46,7 @@ pub struct Options {
     out: Option<String>,
     plan: Option<String>,
     lifted_only: bool,
+    by_hand: bool,
     time: Option<u32>,
     plain_work: Option<u64>,
     nan_hatch: bool,
@@ -83,6 +84,7 @@ fn parse(args: &[String]) -> Result<Options, String> {
             "--out" => o.out = Some(value()?),
             "--plan" => o.plan = Some(value()?),
             "--lifted-only" => o.lifted_only = true,
+            "--by-hand" => o.by_hand = true,
             "--time" => o.time = Some(number(value()?)? as u32),
             "--plain-work" => o.plain_work = Some(number(value()?)?),
             "--nan-hatch" => o.nan_hatch = true,
@@ -177,13 +179,14 @@ fn other_text(bytes: &[u8], o: &Options) -> Result<Option<String>, String> {
     if o.program() && bytes.len() > LONGEST {
         return Ok(Some(print::refusal(11)));
     }
-    if !(o.answer || o.lifted_only || o.time.is_some()) {
+    if !(o.answer || o.lifted_only || o.by_hand || o.time.is_some()) {
         return Ok(None);
     }
     let text = match (job::read(bytes), o.time) {
         (Err(n), _) => print::refusal(n),
         (Ok(_), _) if o.answer => "ok\n".into(),
         (Ok(job), Some(runs)) => modes::time(&job, runs),
+        (Ok(job), None) if o.by_hand => modes::by_hand_text(&job, &o.sizes()?)?,
         (Ok(job), None) => modes::lifted_text(&job),
     };
     Ok(Some(text))

@@ -1,10 +1,13 @@
 //! The smaller questions: strips of a set, the not-a-number hatch, timing.
 use crate::compare::same_strips;
+use crate::filling::Stop;
 use crate::job::{read_set, Job, Loops, Orientation, Part};
-use crate::nesting::{Layout, Plan};
+use crate::nesting::{nest, Layout, Plan};
 use crate::print::{self, hexes, refusal};
 use crate::probed::lifted::reach::{set_bounds, strips};
+use crate::rooms::{Rooms, Sizes};
 use crate::timed;
+use crate::watch::Watch;
 use std::time::Instant;
 
 /// `--strips`: the lifted strips of a set, and its bounds.
@@ -58,6 +61,15 @@ pub fn lifted_text(job: &Job) -> String {
     let layout = Layout { placed, unplaced_area, right, looks };
     let (order, improvements, state) = (nested.order, nested.improvements, nested.state);
     print::plan(job, &Plan { order, layout, improvements, state, kept: 0 })
+}
+
+/// `--by-hand`: the plan by the planner with rooms alone, nothing compared.
+pub fn by_hand_text(job: &Job, sizes: &Sizes) -> Result<String, String> {
+    match nest(job, &mut Rooms::new(sizes), &mut Watch::default()) {
+        Ok(plan) => Ok(print::plan(job, &plan)),
+        Err(Stop::Refused(n)) => Ok(refusal(n)),
+        Err(Stop::Differ(message)) => Err(message),
+    }
 }
 
 fn rectangle(width: f64, height: f64) -> Loops {
