@@ -2,35 +2,15 @@
 // given order"). Accepted, it leaves the positions; the other rooms, and all of them where it is
 // refused, are left zero.
 ghost use mathlib.Core.Path.{_≡_};
-ghost use Rattle.numbers.specs.Numbers.{posZero};
-ghost use Rattle.filling.specs.Rooms.{Lent, zeros};
+ghost use Rattle.filling.specs.Rooms.{Lent};
 ghost use Rattle.filling.specs.Fill.{fillOf};
-ghost use Rattle.fill_plan.specs.Replies.{reply, replyOf};
-ghost use Rattle.fill_job.specs.Zeroed.{Zeroed};
-ghost use Rattle.fill.specs.Answers.{lentOf, answered};
-use fill_plan::Filled;
+ghost use Rattle.report.specs.Replies.{reply, replyOf};
+ghost use Rattle.report.specs.Lent.{lentOf, answered};
+ghost use Rattle.readied.specs.Zeroed.{Zeroed};
 use filling::Refusal;
 use index::Entry;
 use job::JobRead;
-
-// Zeros in the work rooms.
-fn clear(
-    shapes: &mut [f64],
-    sheet: &mut [f64],
-    placed: &mut [f64],
-    sheet_entries: &mut [Entry],
-    placed_entries: &mut [Entry],
-    intervals: &mut [f64],
-)
-    ensures { λ _. ⌜ (now (shapes .exit) ≡ zeros posZero (now (shapes .entry))) × (now (sheet .exit) ≡ zeros posZero (now (sheet .entry))) × (now (placed .exit) ≡ zeros posZero (now (placed .entry))) × (now («sheet_entries» .exit) ≡ zeros 0 (now («sheet_entries» .entry))) × (now («placed_entries» .exit) ≡ zeros 0 (now («placed_entries» .entry))) × (now (intervals .exit) ≡ zeros posZero (now (intervals .entry))) ⌝ }
-{
-    rooms::zero(shapes);
-    rooms::zero(sheet);
-    rooms::zero(placed);
-    rooms::zero_numbers(sheet_entries);
-    rooms::zero_numbers(placed_entries);
-    rooms::zero(intervals);
-}
+use report::NestResult;
 
 // The filling of the job that the bytes are, in rooms that are zero.
 fn fill_bytes(
@@ -43,7 +23,7 @@ fn fill_bytes(
     placed_entries: &mut [Entry],
     intervals: &mut [f64],
     positions: &mut [f64],
-) -> Filled
+) -> NestResult
     requires { ⌜ ((l : Lent) × Zeroed l (now shapes) (now sheet) (now placed) (now «sheet_entries») (now «placed_entries») (now intervals) (now positions)) ⌝ }
     ensures { λ r. ⌜ ((l : Lent) → Zeroed l (now (shapes .entry)) (now (sheet .entry)) (now (placed .entry)) (now («sheet_entries» .entry)) (now («placed_entries» .entry)) (now (intervals .entry)) (now (positions .entry)) → reply r (now (positions .exit)) ≡ replyOf (fillOf (now (bytes .entry)) (now (order .entry)) l)) ⌝ }
 {
@@ -82,7 +62,7 @@ fn fill_bytes(
                 positions,
             )
         }
-        JobRead::NoJob(k) => fill_job::refused(Refusal::Job(k)),
+        JobRead::NoJob(k) => report::refused(Refusal::Job(k)),
     }
 }
 
@@ -97,11 +77,11 @@ pub fn fill(
     placed_entries: &mut [Entry],
     intervals: &mut [f64],
     positions: &mut [f64],
-) -> Filled
+) -> NestResult
     ensures { λ r. ⌜ answered r (lentOf (now (shapes .exit)) (now (sheet .exit)) (now (placed .exit)) (now («sheet_entries» .exit)) (now («placed_entries» .exit)) (now (intervals .exit)) (now (positions .exit))) ≡ fillOf (now (bytes .entry)) (now (order .entry)) (lentOf (now (shapes .entry)) (now (sheet .entry)) (now (placed .entry)) (now («sheet_entries» .entry)) (now («placed_entries» .entry)) (now (intervals .entry)) (now (positions .entry))) ⌝ }
 {
     rooms::zero(positions);
-    clear(
+    report::clear(
         shapes,
         sheet,
         placed,
@@ -120,7 +100,7 @@ pub fn fill(
         intervals,
         positions,
     );
-    clear(
+    report::clear(
         shapes,
         sheet,
         placed,

@@ -2,32 +2,20 @@
 // the copies (document 01, "A filling in a given order .. 10 right after 30").
 ghost use mathlib.Core.Bool.{true};
 ghost use mathlib.Core.Path.{_≡_};
-ghost use Prim.Native.Nat.{ℕ, _*_, _≤_};
+ghost use Prim.Native.Nat.{_*_, _≤_};
 ghost use lib.ListN.{length};
 ghost use Rattle.job.specs.Jobs.{Job};
 ghost use Rattle.filling.specs.Shapes.{plannerOf};
 ghost use Rattle.filling.specs.Rooms.{Lent};
 ghost use Rattle.filling.specs.Order.{rearranged};
 ghost use Rattle.filling.specs.Start.{prepareVerdict};
-ghost use Rattle.filling.specs.Fill.{fillJob};
-ghost use Rattle.fill_plan.specs.Replies.{reply, replyOf};
-ghost use Rattle.fill_job.specs.Zeroed.{Zeroed, ReadInto, refusedBy, fillWhen};
-use fill_plan::Filled;
+ghost use Rattle.filling.specs.Fill.{fillOrder, plannedBy, fillJob};
+ghost use Rattle.report.specs.Replies.{reply, replyOf, plannedWhen};
+ghost use Rattle.readied.specs.Zeroed.{Zeroed, ReadInto};
 use filling::Refusal;
-use filling::Verdict;
 use index::Entry;
 use prepare::Prepared;
-
-// A refusal's number alone.
-pub fn refused(k: Refusal) -> Filled
-    ensures { λ r. ⌜ r ≡ refusedBy k ⌝ }
-{
-    let plan = fill_plan::no_plan();
-    Filled {
-        verdict: Verdict::Refused(k),
-        plan: plan,
-    }
-}
+use report::NestResult;
 
 // The job's tables and rooms are prepared, then filled.
 fn fill_tables(
@@ -46,11 +34,11 @@ fn fill_tables(
     placed_entries: &mut [Entry],
     intervals: &mut [f64],
     positions: &mut [f64],
-) -> Filled
+) -> NestResult
     requires { ⌜ ((j : Job) × (l : Lent) × ReadInto j (now bytes) at kinds resolution (now rows) (now areas) (now places) × Zeroed l (now shapes) (now sheet) (now placed) (now «sheet_entries») (now «placed_entries») (now intervals) (now positions) × (rearranged j (now order) ≡ true))
         × (2048 ≤ length (now places)) × (5 * length (now order) ≤ length (now positions)) ⌝ }
     ensures { λ r. ⌜ ((j : Job) (l : Lent) → ReadInto j (now (bytes .entry)) at kinds resolution (now (rows .entry)) (now (areas .entry)) (now (places .entry)) → Zeroed l (now (shapes .entry)) (now (sheet .entry)) (now (placed .entry)) (now («sheet_entries» .entry)) (now («placed_entries» .entry)) (now (intervals .entry)) (now (positions .entry)) → rearranged j (now (order .entry)) ≡ true
-        → reply r (now (positions .exit)) ≡ replyOf (fillWhen (prepareVerdict (plannerOf j) (l .rooms)) j l (now (order .entry)))) ⌝ }
+        → reply r (now (positions .exit)) ≡ replyOf (plannedWhen (prepareVerdict (plannerOf j) (l .rooms)) l (plannedBy j l (fillOrder j l (now (order .entry)))))) ⌝ }
 {
     let mut sheet_starts = [0usize; 513];
     let mut gains = [0usize; 512];
@@ -90,7 +78,7 @@ fn fill_tables(
             intervals,
             positions,
         ),
-        Prepared::NotReady(k) => refused(k),
+        Prepared::NotReady(k) => report::refused(k),
     }
 }
 
@@ -113,14 +101,14 @@ pub fn fill_job(
     placed_entries: &mut [Entry],
     intervals: &mut [f64],
     positions: &mut [f64],
-) -> Filled
+) -> NestResult
     requires { ⌜ ((j : Job) × (l : Lent) × ReadInto j (now bytes) at kinds resolution (now rows) (now areas) (now places) × Zeroed l (now shapes) (now sheet) (now placed) (now «sheet_entries») (now «placed_entries») (now intervals) (now positions) × (j .copies ≡ copies))
         × (2048 ≤ length (now places)) ⌝ }
     ensures { λ r. ⌜ ((j : Job) (l : Lent) → ReadInto j (now (bytes .entry)) at kinds resolution (now (rows .entry)) (now (areas .entry)) (now (places .entry)) → Zeroed l (now (shapes .entry)) (now (sheet .entry)) (now (placed .entry)) (now («sheet_entries» .entry)) (now («placed_entries» .entry)) (now (intervals .entry)) (now (positions .entry)) → j .copies ≡ copies
         → reply r (now (positions .exit)) ≡ replyOf (fillJob j (now (order .entry)) l)) ⌝ }
 {
     if positions.len() / 5 < copies {
-        return refused(Refusal::PositionRoom);
+        return report::refused(Refusal::PositionRoom);
     }
     if order::rearranged(order, rows, kinds, copies) {
         return fill_tables(
@@ -141,5 +129,5 @@ pub fn fill_job(
             positions,
         );
     }
-    refused(Refusal::WrongOrder)
+    report::refused(Refusal::WrongOrder)
 }

@@ -1,3 +1,0 @@
-pub mod Agree
-pub mod Reporting
-pub mod Cutting

@@ -1,100 +1,20 @@
 // The filling of prepared tables, and its plan (document 01, "a filling in a given order").
 ghost use mathlib.Core.Bool.{true};
-ghost use mathlib.Core.List.{List};
 ghost use mathlib.Core.Path.{_≡_};
-ghost use Prim.Native.Nat.{ℕ, _+_, _*_, _≤_, _<_};
-ghost use lib.ListN.{length, getD, take, drop};
-ghost use lib.Ieee.{Float};
+ghost use Prim.Native.Nat.{_*_, _≤_};
+ghost use lib.ListN.{length, take, drop};
 ghost use Rattle.numbers.specs.Numbers.{posZero};
 ghost use Rattle.job.specs.Jobs.{Job};
-ghost use Rattle.filling.specs.Shapes.{Planner, plannerOf};
 ghost use Rattle.filling.specs.Rooms.{Lent, zeros};
 ghost use Rattle.filling.specs.Order.{rearranged};
 ghost use Rattle.filling.specs.Consistent.{sheetIndex};
-ghost use Rattle.filling.specs.Accounts.{noPlan};
 ghost use Rattle.filling.specs.Fill.{fillOrder, plannedBy};
-ghost use Rattle.tables.specs.Tabled.{Tabled};
-ghost use Rattle.fill_laws.specs.Prepared.{given, Prepared, fillingBy};
-ghost use Rattle.fill_plan.specs.Replies.{reply, replyOf};
-use filling::Plan;
-use filling::Verdict;
+ghost use Rattle.fill_laws.specs.Prepared.{given, Prepared};
+ghost use Rattle.report.specs.Replies.{reply, replyOf};
 use index::Entry;
 use index::Index;
-use place::Totals;
+use report::NestResult;
 use strips::Rect;
-
-// What a filling answers: accepted or its refusal, and the plan, all zero where it is refused.
-pub struct Filled {
-    pub verdict: Verdict,
-    pub plan: Plan,
-}
-
-pub fn no_plan() -> Plan
-    ensures { λ r. ⌜ r ≡ noPlan ⌝ }
-{
-    Plan {
-        placed: 0,
-        unplaced: 0,
-        improvements: 0,
-        placed_of: [0; 64],
-        unplaced_of: [0; 64],
-        look_counts: [0; 1024],
-        right: 0.0,
-        unplaced_area: 0.0,
-        offcut: 0.0,
-    }
-}
-
-// The plan of a filling that ended so, its positions in their room.
-fn report(
-    verdict: Verdict,
-    t: Totals,
-    rows: &[u64],
-    kinds: usize,
-    order: &[usize],
-    orientation: &[usize],
-    x: &[f64],
-    y: &[f64],
-    look_counts: &[usize],
-    sheet_right: f64,
-    positions: &mut [f64],
-) -> Filled
-    requires { ⌜ (kinds ≤ 64) × (256 ≤ length (now rows)) × (length (now order) ≤ length (now orientation)) × (length (now order) ≤ length (now x)) × (length (now order) ≤ length (now y)) × (1024 ≤ length (now «look_counts»))
-        × ((i : ℕ) → i < length (now order) → getD (now order) i 0 < kinds) × (length (now order) ≤ 4096) × (5 * length (now order) ≤ length (now positions)) ⌝ }
-    ensures { λ r. ⌜ ((j : Job) (areas : List Float) (p : Planner) (next : List ℕ) (l : Lent) → Tabled j (now (rows .entry)) areas → length (j .kinds) ≡ kinds → p .bounds .right ≡ «sheet_right» → now (positions .entry) ≡ zeros posZero (l .positions)
-        → reply r (now (positions .exit)) ≡ replyOf (plannedBy j l (fillingBy verdict p (now (order .entry)) next (now («look_counts» .entry)) t (now (orientation .entry)) (now (x .entry)) (now (y .entry))))) ⌝ }
-{
-    match verdict {
-        Verdict::Accepted => {
-            let plan = accounts::plan_of(
-                rows,
-                kinds,
-                order,
-                order.len(),
-                orientation,
-                x,
-                y,
-                look_counts,
-                t.right,
-                t.unplaced_area,
-                sheet_right,
-                0,
-                positions,
-            );
-            Filled {
-                verdict: Verdict::Accepted,
-                plan: plan,
-            }
-        }
-        Verdict::Refused(k) => {
-            let plan = no_plan();
-            Filled {
-                verdict: Verdict::Refused(k),
-                plan: plan,
-            }
-        }
-    }
-}
 
 // The filling in the given order over prepared tables and rooms, and its plan. Only crates of ours
 // call it: tables and rooms must be those of a job.
@@ -117,7 +37,7 @@ pub fn fill_plan(
     placed_entries: &mut [Entry],
     intervals: &mut [f64],
     positions: &mut [f64],
-) -> Filled
+) -> NestResult
     requires { ⌜ ((j : Job) × Prepared j (given (sheetIndex bounds) bounds resolution (now rows) (now areas) (now «inset_bounds») (now parts) (take (6 * «apart_strips») (now shapes)) (drop (6 * «apart_strips») (now shapes)) (take (6 * «sheet_strips») (now sheet)) (now «sheet_entries») (now «sheet_starts»)) × (rearranged j (now order) ≡ true) × (length (j .kinds) ≡ kinds))
         × (6 * «sheet_strips» ≤ length (now sheet)) × (6 * «apart_strips» ≤ length (now shapes)) × (5 * length (now order) ≤ length (now positions)) ⌝ }
     ensures { λ r. ⌜ ((j : Job) (l : Lent) → Prepared j (given (sheetIndex bounds) bounds resolution (now (rows .entry)) (now (areas .entry)) (now («inset_bounds» .entry)) (now (parts .entry)) (take (6 * «apart_strips») (now (shapes .entry))) (drop (6 * «apart_strips») (now (shapes .entry))) (take (6 * «sheet_strips») (now (sheet .entry))) (now («sheet_entries» .entry)) (now («sheet_starts» .entry))) → rearranged j (now (order .entry)) ≡ true → length (j .kinds) ≡ kinds
@@ -161,7 +81,7 @@ pub fn fill_plan(
     );
     let verdict = filled.verdict;
     let totals = filled.totals;
-    report(
+    report::report(
         verdict,
         totals,
         rows,
@@ -172,6 +92,7 @@ pub fn fill_plan(
         &y,
         &look_counts,
         bounds.right,
+        0,
         positions,
     )
 }

@@ -4,13 +4,13 @@
 // every room's. The stored answers are those of the oracle's planner with rooms (oracle/sample-filling.sh),
 // never of this code.
 ghost use Prim.Native.Nat.{_≤_, _<_};
-use fill_plan::Filled;
 use filling::State;
 use filling_script::command;
 use filling_script::command::Command;
 use filling_script::edit;
 use filling_script::lend;
 use filling_script::show;
+use report::NestResult;
 use started::Started;
 use step::Stepped;
 
@@ -34,7 +34,7 @@ fn show_step(r: Stepped) -> State {
     s
 }
 
-fn show_filling(r: Filled) {
+fn show_filling(r: NestResult) {
     io::write_all(1, b"fill ");
     let v = r.verdict;
     show::verdict(v);

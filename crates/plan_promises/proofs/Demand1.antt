@@ -45,15 +45,15 @@ module _ (j : Job) (l : Lent) where
   unfolding nestVerdict
   nest-refusal r e = refused-by (λ (k : Refusal). PlanOrRoom (Refused k)) _ Why.PositionRoom _ r positions (λ f. room (prepare-refusal r f)) e
 
-  nest-stops : (r : Refusal) → nestVerdict j l ≡ Refused r → nestJob j l ≡ notPlanned r l
+  pub nest-stops : (r : Refusal) → nestVerdict j l ≡ Refused r → nestJob j l ≡ notPlanned r l
   unfolding nestJob
   nest-stops r e = rw (e, nestJob)
 
-  nest-runs : nestVerdict j l ≡ Accepted → nestJob j l ≡ nested j l (swapSearch j l)
+  pub nest-runs : nestVerdict j l ≡ Accepted → nestJob j l ≡ nested j l (swapSearch j l)
   unfolding nestJob
   nest-runs e = rw (e, nestJob)
 
-  tested : nestVerdict j l ≡ Accepted → (ltb (positionCapacity (l .positions)) (j .copies) ≡ false) × (prepareVerdict (plannerOf j) (l .rooms) ≡ Accepted)
+  pub tested : nestVerdict j l ≡ Accepted → (ltb (positionCapacity (l .positions)) (j .copies) ≡ false) × (prepareVerdict (plannerOf j) (l .rooms) ≡ Accepted)
   unfolding nestVerdict
   tested e = later-accepted (ltb (positionCapacity (l .positions)) (j .copies)) Why.PositionRoom _ e
 

@@ -1,8 +1,10 @@
 -- `fill_bytes`: the job is read, then filled; or its number. Assumes nothing.
 use Prim.Native.Nat.{ℕ, _≤_}
 use native.Mathlib.Omega.{arith}
-use mathlib.Core.Path.{_≡_, refl}
-use Rattle.fill.proofs.Whole.{read-into, job-reply, no-job-reply}
+use mathlib.Core.Path.{_≡_, refl, sym}
+use Rattle.job.specs.Jobs.{Answer}
+use Rattle.filling.specs.Fill.{fillGiven, fillOf}
+use Rattle.readied.proofs.Reading.{read-into, job-reply, no-job-reply}
 use borrow.Author.Needs.{needs}
 use Rattle.fill.proofs.fill_bytes.Statement.{statement}
 use Rattle.fill.proofs.fill_bytes.Tie as tie
@@ -32,13 +34,13 @@ enum-known-h : tie.Need-enum-known-h
 enum-known-h c = search needs
 
 slice-aggregate-fill-job : tie.Need-slice-aggregate-fill-job
-slice-aggregate-fill-job c = search needs
+slice-aggregate-fill-job c = sym (c .before .before .before .before .before .before .before .before .before .read-job .kept .1 .0)
 
 slice-aggregate-fill-job-2 : tie.Need-slice-aggregate-fill-job-2
-slice-aggregate-fill-job-2 c = search needs
+slice-aggregate-fill-job-2 c = sym (c .before .before .before .before .before .before .before .before .before .before .read-job .kept .1 .1 .0)
 
 slice-aggregate-fill-job-3 : tie.Need-slice-aggregate-fill-job-3
-slice-aggregate-fill-job-3 c = search needs
+slice-aggregate-fill-job-3 c = sym (c .before .before .before .before .before .before .before .before .before .before .before .read-job .kept .1 .1 .1 .0)
 
 fill-job-requires : tie.Need-fill-job-requires
 fill-job-requires c κs = let p = c .before .before .before .before .before .before .before .before .before .before .before .before .before .before .before .before .before .before .before .before .before .before .before .before .before .before .before .before .before .before .before .before .before .pre in ((_, p .0, read-into (c .before .before .before .before .before .before .before .before .before .before .before .before .before .before .before .before .before .before .before .before .before .before .before .before .before .before .before .before .before .before .before .before .before .args .bytes .now) _ _ _ (c .before .before .before .before .before .before .before .before .before .before .before .before .before .before .before .before .before .before .read-job .result) (c .before .before .before .before .before .before .before .before .before .before .before .before .before .before .before .before .before .before .read-job .ensures) _ _ _ (c .before .before .before .before .before .before .before .before .before .before .before .h .given .1) (at-least (c .before .before .before .before .before .before .before .before .before .before .before .before .before .before .before .before .before .before .read-job .kept .1 .0)) (at-least (c .before .before .before .before .before .before .before .before .before .before .before .before .before .before .before .before .before .before .read-job .kept .1 .1 .0)), p .1, refl), at-least (c .before .before .before .before .before .before .before .before .before .before .before .before .before .before .before .before .before .before .read-job .kept .1 .1 .1 .0))
@@ -47,7 +49,7 @@ enum-known-k : tie.Need-enum-known-k
 enum-known-k c = search needs
 
 refused-requires : tie.Need-refused-requires
-refused-requires c κs = search needs
+refused-requires c κs = tt
 
 same-length : tie.Need-same-length
 same-length c = c .before .before .before .before .before .before .before .before .before .before .before .before .before .before .fill-job .kept .1 .1 .1 .1 .1 .1 .1 .1 .1 .0
@@ -71,12 +73,14 @@ same-length-7 : tie.Need-same-length-7
 same-length-7 c = c .before .before .before .before .before .before .before .before .before .before .before .before .before .before .fill-job .kept .1 .1 .1 .1 .1 .1 .1 .1 .1 .1 .1 .1 .1 .1 .1 .0
 
 returns : tie.Need-returns
+unfolding fillOf fillGiven
 returns c = let a = c .before .before .before .before .before .before .before .before .before .before .before .before .before .before .before .before .before .before .before .before .before .before .before .before .before .before .before .before .before .before .before .before .before .before .before .before .before .before .before .before .before .before .before .before .before .before .before .before .args in
-    λ l z. job-reply (c .before .before .before .before .before .before .before .before .before .before .before .before .before .before .before .before .before .before .before .before .before .before .before .before .before .before .before .before .before .before .before .before .before .before .before .before .before .before .before .before .before .before .before .before .before .before .before .before .args .bytes .now) _ _ _ (c .before .before .before .before .before .before .before .before .before .before .before .before .before .before .before .before .before .before .before .before .before .before .before .before .before .before .before .before .before .before .before .before .before .read-job .result) (c .before .before .before .before .before .before .before .before .before .before .before .before .before .before .before .before .before .before .before .before .before .before .before .before .before .before .before .before .before .before .before .before .before .read-job .ensures) _ _ _ (c .before .before .before .before .before .before .before .before .before .before .before .before .before .before .before .before .before .before .before .before .before .before .before .before .before .before .h .given .1) (at-least (c .before .before .before .before .before .before .before .before .before .before .before .before .before .before .before .before .before .before .before .before .before .before .before .before .before .before .before .before .before .before .before .before .before .read-job .kept .1 .0)) (at-least (c .before .before .before .before .before .before .before .before .before .before .before .before .before .before .before .before .before .before .before .before .before .before .before .before .before .before .before .before .before .before .before .before .before .read-job .kept .1 .1 .0)) (a .order .now) l (c .before .before .before .before .before .before .before .before .before .before .before .before .before .before .fill-job .result) _ (c .before .before .before .before .before .before .before .before .before .before .before .before .before .before .fill-job .ensures _ l (read-into (c .before .before .before .before .before .before .before .before .before .before .before .before .before .before .before .before .before .before .before .before .before .before .before .before .before .before .before .before .before .before .before .before .before .before .before .before .before .before .before .before .before .before .before .before .before .before .before .before .args .bytes .now) _ _ _ (c .before .before .before .before .before .before .before .before .before .before .before .before .before .before .before .before .before .before .before .before .before .before .before .before .before .before .before .before .before .before .before .before .before .read-job .result) (c .before .before .before .before .before .before .before .before .before .before .before .before .before .before .before .before .before .before .before .before .before .before .before .before .before .before .before .before .before .before .before .before .before .read-job .ensures) _ _ _ (c .before .before .before .before .before .before .before .before .before .before .before .before .before .before .before .before .before .before .before .before .before .before .before .before .before .before .h .given .1) (at-least (c .before .before .before .before .before .before .before .before .before .before .before .before .before .before .before .before .before .before .before .before .before .before .before .before .before .before .before .before .before .before .before .before .before .read-job .kept .1 .0)) (at-least (c .before .before .before .before .before .before .before .before .before .before .before .before .before .before .before .before .before .before .before .before .before .before .before .before .before .before .before .before .before .before .before .before .before .read-job .kept .1 .1 .0))) z refl)
+    λ l z. job-reply (c .before .before .before .before .before .before .before .before .before .before .before .before .before .before .before .before .before .before .before .before .before .before .before .before .before .before .before .before .before .before .before .before .before .before .before .before .before .before .before .before .before .before .before .before .before .before .before .before .args .bytes .now) _ _ _ (c .before .before .before .before .before .before .before .before .before .before .before .before .before .before .before .before .before .before .before .before .before .before .before .before .before .before .before .before .before .before .before .before .before .read-job .result) (c .before .before .before .before .before .before .before .before .before .before .before .before .before .before .before .before .before .before .before .before .before .before .before .before .before .before .before .before .before .before .before .before .before .read-job .ensures) _ _ _ (c .before .before .before .before .before .before .before .before .before .before .before .before .before .before .before .before .before .before .before .before .before .before .before .before .before .before .h .given .1) (at-least (c .before .before .before .before .before .before .before .before .before .before .before .before .before .before .before .before .before .before .before .before .before .before .before .before .before .before .before .before .before .before .before .before .before .read-job .kept .1 .0)) (at-least (c .before .before .before .before .before .before .before .before .before .before .before .before .before .before .before .before .before .before .before .before .before .before .before .before .before .before .before .before .before .before .before .before .before .read-job .kept .1 .1 .0)) (λ (z : Answer). fillGiven z (a .order .now) l) (c .before .before .before .before .before .before .before .before .before .before .before .before .before .before .fill-job .result) _ (c .before .before .before .before .before .before .before .before .before .before .before .before .before .before .fill-job .ensures _ l (read-into (c .before .before .before .before .before .before .before .before .before .before .before .before .before .before .before .before .before .before .before .before .before .before .before .before .before .before .before .before .before .before .before .before .before .before .before .before .before .before .before .before .before .before .before .before .before .before .before .before .args .bytes .now) _ _ _ (c .before .before .before .before .before .before .before .before .before .before .before .before .before .before .before .before .before .before .before .before .before .before .before .before .before .before .before .before .before .before .before .before .before .read-job .result) (c .before .before .before .before .before .before .before .before .before .before .before .before .before .before .before .before .before .before .before .before .before .before .before .before .before .before .before .before .before .before .before .before .before .read-job .ensures) _ _ _ (c .before .before .before .before .before .before .before .before .before .before .before .before .before .before .before .before .before .before .before .before .before .before .before .before .before .before .h .given .1) (at-least (c .before .before .before .before .before .before .before .before .before .before .before .before .before .before .before .before .before .before .before .before .before .before .before .before .before .before .before .before .before .before .before .before .before .read-job .kept .1 .0)) (at-least (c .before .before .before .before .before .before .before .before .before .before .before .before .before .before .before .before .before .before .before .before .before .before .before .before .before .before .before .before .before .before .before .before .before .read-job .kept .1 .1 .0))) z refl)
 
 returns-2 : tie.Need-returns-2
+unfolding fillOf fillGiven
 returns-2 c = let a = c .before .before .before .before .before .before .before .before .before .before .before .before .before .before .before .before .before .before .before .before .before .before .before .before .args in
-    λ l z. no-job-reply (a .bytes .now) _ _ _ (c .before .before .before .before .before .before .before .before .before .read-job .result) (c .before .before .before .before .before .before .before .before .before .read-job .ensures) _ (c .before .before .k .given .1) (a .order .now) l (c .refused .result) (a .positions .now) (z .positions-zero) (c .refused .ensures)
+    λ l z. no-job-reply (a .bytes .now) _ _ _ (c .before .before .before .before .before .before .before .before .before .read-job .result) (c .before .before .before .before .before .before .before .before .before .read-job .ensures) _ (c .before .before .k .given .1) (λ (z : Answer). fillGiven z (a .order .now) l) l refl (c .refused .result) (a .positions .now) (z .positions-zero) (c .refused .ensures)
 
 pub fill-bytes-spec : {M : Type 1} → statement M
 fill-bytes-spec =

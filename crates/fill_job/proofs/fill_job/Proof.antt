@@ -1,13 +1,14 @@
 -- `fill_job`: 30, 10, then the filling. Assumes nothing.
 use Prim.Native.Nat.{ℕ, _≤_}
-use mathlib.Core.Path.{_≡_, sym, subst, _∙_}
-use borrow.Author.Needs.{needs}
-use Rattle.fill_job.proofs.Judging.{positions-many, no-positions, wrong-order, then-prepared}
+use mathlib.Core.Path.{sym, subst, _∙_}
+use Rattle.filling.proofs.Begin.{rearranged-length}
+use Rattle.readied.proofs.Judging.{positions-many}
+use Rattle.fill_job.proofs.Judging.{no-positions, wrong-order, then-prepared}
 use Rattle.fill_job.proofs.fill_job.Statement.{statement}
 use Rattle.fill_job.proofs.fill_job.Tie as tie
 
 refused-requires : tie.Need-refused-requires
-refused-requires c κs = search needs
+refused-requires c κs = tt
 
 returns : tie.Need-returns
 returns c = let a = c .before .before .before .before .before .before .before .before .before .before .before .before .before .before .args in
@@ -18,7 +19,7 @@ rearranged-requires c κs = let a = c .before .before .before .before .before .b
 
 fill-tables-requires : tie.Need-fill-tables-requires
 fill-tables-requires c κs = let a = c .before .before .before .before .before .before .before .before .before .before .before .before .before .before .before .before .before .before .before .before .before .before .args in let p = c .before .before .before .before .before .before .before .before .before .before .before .before .before .before .before .before .before .before .before .before .before .before .pre in let o = sym (c .before .before .before .before .before .before .before .before .rearranged .ensures (p .0 .0) (a .areas .now) (p .0 .2 .tabled) (p .0 .2 .number) (p .0 .4)) ∙ c .before .before .before .before .before .before .before .if2 .taken in
-    ((p .0 .0, p .0 .1, p .0 .2, p .0 .3, o), p .1, positions-many (p .0 .0) (a .order .now) (a .copies) _ o (p .0 .4) (c .before .before .before .before .before .before .before .before .before .if1 .left))
+    ((p .0 .0, p .0 .1, p .0 .2, p .0 .3, o), p .1, positions-many (a .order .now) (a .copies) _ (rearranged-length (p .0 .0) (a .order .now) o ∙ p .0 .4) (c .before .before .before .before .before .before .before .before .before .if1 .left))
 
 same-length : tie.Need-same-length
 same-length c = c .before .before .before .before .before .before .before .before .before .before .before .before .before .before .fill-tables .kept .1 .1 .1 .1 .1 .1 .1 .1 .0
@@ -46,7 +47,7 @@ returns-2 c = let a = c .before .before .before .before .before .before .before 
     λ j l r z n. let o = (sym (c .before .before .before .before .before .before .before .before .before .before .before .before .before .before .before .before .before .before .before .before .before .before .before .rearranged .ensures j (a .areas .now) (r .tabled) (r .number) n) ∙ c .before .before .before .before .before .before .before .before .before .before .before .before .before .before .before .before .before .before .before .before .before .before .if2 .taken) in then-prepared j l (a .order .now) (a .copies) n (a .positions .now) (z .positions-zero) (c .before .before .before .before .before .before .before .before .before .before .before .before .before .before .fill-tables .result) _ (c .before .before .before .before .before .before .before .before .before .before .before .before .before .before .before .before .before .before .before .before .before .before .before .before .if1 .left) o (c .before .before .before .before .before .before .before .before .before .before .before .before .before .before .fill-tables .ensures j l r z o)
 
 refused-requires-2 : tie.Need-refused-requires-2
-refused-requires-2 c κs = search needs
+refused-requires-2 c κs = tt
 
 returns-3 : tie.Need-returns-3
 returns-3 c = let a = c .before .before .before .before .before .before .before .before .before .before .before .before .before .before .before .before .args in

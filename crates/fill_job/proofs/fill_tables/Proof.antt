@@ -1,7 +1,8 @@
 -- `fill_tables`: prepared, then filled; or the refusal. Assumes nothing.
-use mathlib.Core.Path.{_≡_, refl, _∙_}
+use mathlib.Core.Path.{refl, sym}
 use borrow.Author.Needs.{needs}
-use Rattle.fill_job.proofs.Preparing.{starts-zero, ready-given, ready-sheet, ready-shapes, ready-reply, over-reply}
+use Rattle.filling.specs.Fill.{plannedBy, fillOrder}
+use Rattle.readied.proofs.Preparing.{starts-zero, ready-given, ready-sheet, ready-shapes, ready-reply, over-reply}
 use Rattle.fill_job.proofs.fill_tables.Statement.{statement}
 use Rattle.fill_job.proofs.fill_tables.Tie as tie
 
@@ -24,13 +25,13 @@ enum-known-bounds : tie.Need-enum-known-bounds
 enum-known-bounds c = search needs
 
 slice-aggregate-fill-plan : tie.Need-slice-aggregate-fill-plan
-slice-aggregate-fill-plan c = search needs
+slice-aggregate-fill-plan c = sym (c .before .before .before .before .before .before .before .before .before .before .before .before .before .before .prepare .kept .1 .1 .1 .1 .1 .1 .1 .1 .1 .1 .0)
 
 slice-aggregate-fill-plan-2 : tie.Need-slice-aggregate-fill-plan-2
-slice-aggregate-fill-plan-2 c = search needs
+slice-aggregate-fill-plan-2 c = sym (c .before .before .before .before .before .before .before .before .before .before .before .before .before .before .before .prepare .kept .1 .1 .1 .1 .1 .1 .1 .1 .1 .1 .1 .0)
 
 slice-aggregate-fill-plan-3 : tie.Need-slice-aggregate-fill-plan-3
-slice-aggregate-fill-plan-3 c = search needs
+slice-aggregate-fill-plan-3 c = sym (c .before .before .before .before .before .before .before .before .before .before .before .before .before .before .before .before .before .before .before .prepare .kept .1 .1 .1 .1 .1 .1 .1 .1 .0)
 
 fill-plan-requires : tie.Need-fill-plan-requires
 fill-plan-requires c κs = let a = c .before .before .before .before .before .before .before .before .before .before .before .before .before .before .before .before .before .before .before .before .before .before .before .before .before .before .before .before .before .before .before .before .before .before .before .before .before .before .before .before .before .before .before .args in let p = c .before .before .before .before .before .before .before .before .before .before .before .before .before .before .before .before .before .before .before .before .before .before .before .before .before .before .before .before .before .before .before .before .before .before .before .before .before .before .before .before .before .before .before .pre in let e = c .before .before .before .before .before .before .before .before .before .before .before .bounds .given .1 in ((p .0 .0, ready-given (p .0 .0) (a .bytes .now) (a .at) (a .kinds) (a .resolution) (a .rows .now) (a .areas .now) (a .places .now) (p .0 .2) (p .0 .1) (a .shapes .now) (a .sheet .now) (a .placed .now) (a .sheet-entries .now) (a .placed-entries .now) (a .intervals .now) (a .positions .now) (p .0 .3) (c .before .before .before .before .before .before .before .before .before .before .before .before .before .before .before .before .before .before .before .before .before .before .before .prepare .result) _ _ _ _ _ _ (c .before .before .before .before .before .before .before .before .before .before .before .before .before .before .before .before .before .before .before .before .before .before .before .prepare .ensures (p .0 .0) ((p .0 .2) .from)) _ _ _ _ e, p .0 .4, p .0 .2 .number), ready-sheet (p .0 .0) (a .bytes .now) (a .at) (a .kinds) (a .resolution) (a .rows .now) (a .areas .now) (a .places .now) (p .0 .2) (p .0 .1) (a .shapes .now) (a .sheet .now) (a .placed .now) (a .sheet-entries .now) (a .placed-entries .now) (a .intervals .now) (a .positions .now) (p .0 .3) (c .before .before .before .before .before .before .before .before .before .before .before .before .before .before .before .before .before .before .before .before .before .before .before .prepare .result) _ _ _ _ _ _ (c .before .before .before .before .before .before .before .before .before .before .before .before .before .before .before .before .before .before .before .before .before .before .before .prepare .ensures (p .0 .0) ((p .0 .2) .from)) _ _ _ _ e, ready-shapes (p .0 .0) (a .bytes .now) (a .at) (a .kinds) (a .resolution) (a .rows .now) (a .areas .now) (a .places .now) (p .0 .2) (p .0 .1) (a .shapes .now) (a .sheet .now) (a .placed .now) (a .sheet-entries .now) (a .placed-entries .now) (a .intervals .now) (a .positions .now) (p .0 .3) (c .before .before .before .before .before .before .before .before .before .before .before .before .before .before .before .before .before .before .before .before .before .before .before .prepare .result) _ _ _ _ _ _ (c .before .before .before .before .before .before .before .before .before .before .before .before .before .before .before .before .before .before .before .before .before .before .before .prepare .ensures (p .0 .0) ((p .0 .2) .from)) _ _ _ _ e, p .2)
@@ -39,7 +40,7 @@ enum-known-k : tie.Need-enum-known-k
 enum-known-k c = search needs
 
 refused-requires : tie.Need-refused-requires
-refused-requires c κs = search needs
+refused-requires c κs = tt
 
 same-length : tie.Need-same-length
 same-length c = c .before .before .before .before .before .before .before .before .before .before .before .before .before .before .before .before .before .before .before .before .before .before .before .before .before .before .before .before .before .before .before .before .prepare .kept .1 .1 .1 .1 .1 .0
@@ -64,7 +65,7 @@ same-length-7 c = c .before .before .before .before .before .before .before .bef
 
 returns : tie.Need-returns
 returns c = let a = c .before .before .before .before .before .before .before .before .before .before .before .before .before .before .before .before .before .before .before .before .before .before .before .before .before .before .before .before .before .before .before .before .before .before .before .before .before .before .before .before .before .before .before .before .before .before .before .before .before .before .before .before .args in let e = c .before .before .before .before .before .before .before .before .before .before .before .before .before .before .before .before .before .before .before .before .bounds .given .1 in
-    λ j l r z o. ready-reply j (a .bytes .now) (a .at) (a .kinds) (a .resolution) (a .rows .now) (a .areas .now) (a .places .now) r l (a .shapes .now) (a .sheet .now) (a .placed .now) (a .sheet-entries .now) (a .placed-entries .now) (a .intervals .now) (a .positions .now) z (c .before .before .before .before .before .before .before .before .before .before .before .before .before .before .before .before .before .before .before .before .before .before .before .before .before .before .before .before .before .before .before .before .prepare .result) _ _ _ _ _ _ (c .before .before .before .before .before .before .before .before .before .before .before .before .before .before .before .before .before .before .before .before .before .before .before .before .before .before .before .before .before .before .before .before .prepare .ensures j (r .from)) _ _ _ _ e (a .order .now) (c .before .before .before .before .before .before .before .before .fill-plan .result) _
+    λ j l r z o. ready-reply j (a .bytes .now) (a .at) (a .kinds) (a .resolution) (a .rows .now) (a .areas .now) (a .places .now) r l (a .shapes .now) (a .sheet .now) (a .placed .now) (a .sheet-entries .now) (a .placed-entries .now) (a .intervals .now) (a .positions .now) z (c .before .before .before .before .before .before .before .before .before .before .before .before .before .before .before .before .before .before .before .before .before .before .before .before .before .before .before .before .before .before .before .before .prepare .result) _ _ _ _ _ _ (c .before .before .before .before .before .before .before .before .before .before .before .before .before .before .before .before .before .before .before .before .before .before .before .before .before .before .before .before .before .before .before .before .prepare .ensures j (r .from)) _ _ _ _ e (plannedBy j l (fillOrder j l (a .order .now))) (c .before .before .before .before .before .before .before .before .fill-plan .result) _
     (c .before .before .before .before .before .before .before .before .fill-plan .ensures j l (ready-given j (a .bytes .now) (a .at) (a .kinds) (a .resolution) (a .rows .now) (a .areas .now) (a .places .now) r l (a .shapes .now) (a .sheet .now) (a .placed .now) (a .sheet-entries .now) (a .placed-entries .now) (a .intervals .now) (a .positions .now) z (c .before .before .before .before .before .before .before .before .before .before .before .before .before .before .before .before .before .before .before .before .before .before .before .before .before .before .before .before .before .before .before .before .prepare .result) _ _ _ _ _ _ (c .before .before .before .before .before .before .before .before .before .before .before .before .before .before .before .before .before .before .before .before .before .before .before .before .before .before .before .before .before .before .before .before .prepare .ensures j (r .from)) _ _ _ _ e) o (r .number))
 
 same-length-8 : tie.Need-same-length-8
@@ -78,7 +79,7 @@ same-length-10 c = c .before .before .before .before .before .before .before .be
 
 returns-2 : tie.Need-returns-2
 returns-2 c = let a = c .before .before .before .before .before .before .before .before .before .before .before .before .before .before .before .before .before .before .before .before .before .before .before .before .before .before .before .before .before .before .before .before .before .before .args in
-    λ j l r z o. over-reply j (a .bytes .now) (a .at) (a .kinds) (a .resolution) (a .rows .now) (a .areas .now) (a .places .now) r l (a .shapes .now) (a .sheet .now) (a .placed .now) (a .sheet-entries .now) (a .placed-entries .now) (a .intervals .now) (a .positions .now) z (c .before .before .before .before .before .before .before .before .before .before .before .before .before .before .prepare .result) _ _ _ _ _ _ (c .before .before .before .before .before .before .before .before .before .before .before .before .before .before .prepare .ensures j (r .from)) (a .order .now) _ (c .refused .result) (c .before .before .k .given .1) (c .refused .ensures)
+    λ j l r z o. over-reply j (a .bytes .now) (a .at) (a .kinds) (a .resolution) (a .rows .now) (a .areas .now) (a .places .now) r l (a .shapes .now) (a .sheet .now) (a .placed .now) (a .sheet-entries .now) (a .placed-entries .now) (a .intervals .now) (a .positions .now) z (c .before .before .before .before .before .before .before .before .before .before .before .before .before .before .prepare .result) _ _ _ _ _ _ (c .before .before .before .before .before .before .before .before .before .before .before .before .before .before .prepare .ensures j (r .from)) (plannedBy j l (fillOrder j l (a .order .now))) _ (c .refused .result) (c .before .before .k .given .1) (c .refused .ensures)
 
 pub fill-tables-spec : {M : Type 1} → statement M
 fill-tables-spec =

@@ -1,0 +1,4 @@
+pub mod Judging
+pub mod Preparing
+pub mod Reading
+pub mod Left

@@ -1,0 +1,60 @@
+-- The plan of a filling that ended, or of one that was refused. Assumes nothing.
+use Prim.Native.Nat.{ℕ, _≤_}
+use mathlib.Core.Path.{_≡_, refl, sym, ap, ap₂, subst, _∙_}
+use mathlib.Core.List.{List}
+use lib.ListN.{length}
+use lib.Ieee.{Float}
+use Rattle.numbers.specs.Numbers.{posZero}
+use Rattle.job.specs.Jobs.{Job}
+use Rattle.filling.specs.declared.State.{State}
+use Rattle.filling.specs.declared.Plan.{Plan}
+use Rattle.filling.specs.declared.Refusal.{Refusal}
+use Rattle.filling.specs.declared.Verdict.{Verdict}
+use Rattle.filling.specs.declared.Verdict.the-variants.{Accepted, Refused}
+use Rattle.filling.specs.Shapes.{Planner, Standing}
+use Rattle.filling.specs.Rooms.{Lent, laid, zeros, onlyPositions}
+use Rattle.filling.specs.State.{standingOf}
+use Rattle.filling.specs.Accounts.{positions, flatPositions, planOf}
+use Rattle.filling.specs.Fill.{notPlanned, plannedWith, plannedBy}
+use Rattle.tables.specs.Tabled.{Tabled}
+use Rattle.place.specs.declared.Totals.{Totals}
+use Rattle.accounts.specs.Told.{Told, Totalled}
+use Rattle.fill_laws.specs.Prepared.{stateBy, fillingBy}
+use Rattle.report.specs.declared.NestResult.{NestResult}
+use Rattle.report.specs.Replies.{reply, replyOf, refusedBy, reported}
+use Rattle.report.proofs.Agree.{Lent′, standing-is, plan-is, told, totalled}
+
+-- refused: only the number
+refused-plain : (l : Lent) (k : Refusal) (room : List Float) → room ≡ zeros posZero (l .positions) → reply (refusedBy k) room ≡ replyOf (notPlanned k l)
+unfolding notPlanned onlyPositions laid
+refused-plain l k room e = rw e
+
+pub refused-reply : (l : Lent) (k : Refusal) (room : List Float) → room ≡ zeros posZero (l .positions) → (r : NestResult) → r ≡ refusedBy k → reply r room ≡ replyOf (notPlanned k l)
+refused-reply l k room e r d = ap (λ (q : NestResult). reply q room) d ∙ refused-plain l k room e
+
+pub stopped-reply : (j : Job) (l : Lent) (v : Verdict) (k : Refusal) → v ≡ Refused k → (p : Planner) (order next looks : List ℕ) (t : Totals) (orientation : List ℕ) (x y : List Float) (n : ℕ) (room : List Float) → room ≡ zeros posZero (l .positions) → (r : NestResult) → r ≡ refusedBy k
+    → reply r room ≡ replyOf (reported v j l p order next looks t orientation x y n)
+stopped-reply j l v k d p order next looks t orientation x y n room e r f = refused-reply l k room e r f ∙ ap (λ (u : Verdict). replyOf (reported u j l p order next looks t orientation x y n)) (sym d)
+
+-- accepted: what plan_of answers
+pub told-reply : (j : Job) (areas : List Float) (p : Planner) (next : List ℕ) (l : Lent) (rows : List ℕ) (kinds : ℕ) (v : Verdict) → v ≡ Accepted → (order looks : List ℕ) (t : Totals) (orientation : List ℕ) (x y : List Float) (right : Float) (n : ℕ) (room₀ room : List Float) (plan : Plan)
+    → length order ≤ length orientation → length order ≤ length x → length order ≤ length y → Tabled j rows areas → length (j .kinds) ≡ kinds → p .bounds .right ≡ right → room₀ ≡ zeros posZero (l .positions)
+    → ((j : Job) (areas : List Float) (s : State) → Tabled j rows areas → length (j .kinds) ≡ kinds → Told s order orientation x y looks (length order) → Totalled s (t .right) (t .«unplaced_area») right
+    → (plan ≡ planOf j s n) × (room ≡ laid (flatPositions (positions j (standingOf s))) room₀))
+    → reply (record { verdict = Accepted; plan = plan }) room ≡ replyOf (reported v j l p order next looks t orientation x y n)
+unfolding plannedWith onlyPositions
+told-reply j areas p next l rows kinds v d order looks t orientation x y right n room₀ room plan io ix iy T m e f E =
+    let s = Lent′ p order next looks t orientation x y io ix iy in
+    let a = E j areas s T m (told p order next looks t orientation x y io ix iy) (subst (λ (z : Float). Totalled s (t .right) (t .«unplaced_area») z) e (totalled p order next looks t orientation x y io ix iy)) in
+    let q : plan ≡ planOf j (stateBy p order (length order) next looks t orientation x y) n = a .0 ∙ sym (plan-is p order next looks t orientation x y io ix iy j n) in
+    let w : room ≡ laid (flatPositions (positions j (standingOf (stateBy p order (length order) next looks t orientation x y)))) (zeros posZero (l .positions)) =
+    a .1 ∙ ap₂ (λ (c : List Standing) (z : List Float). laid (flatPositions (positions j c)) z) (sym (standing-is p order next looks t orientation x y io ix iy)) f in
+    ap₂ (λ (z : Plan) (u : List Float). record { verdict = Accepted; plan = z; positions = u }) q w
+    ∙ ap (λ (u : Verdict). replyOf (reported u j l p order next looks t orientation x y n)) (sym d)
+
+-- with no improvements it is the plan of the filling
+pub reported-filling : (v : Verdict) (j : Job) (l : Lent) (p : Planner) (order next looks : List ℕ) (t : Totals) (orientation : List ℕ) (x y : List Float)
+    → reported v j l p order next looks t orientation x y 0 ≡ plannedBy j l (fillingBy v p order next looks t orientation x y)
+unfolding plannedBy
+reported-filling Accepted j l p order next looks t orientation x y = refl
+reported-filling (Refused k) j l p order next looks t orientation x y = refl
