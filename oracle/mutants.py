@@ -2,8 +2,8 @@
 """Which job of the sample of sample-plans.py catches each wrong planner.
 
 Each wrong planner is the planner by hand (src/, option --by-hand) with a few
-words changed. It is built, run on the jobs that `sample-plans.py build/plans` made
-and its texts are held against the sample's.
+words changed. It is built, run on the jobs that the crate plan_test replays
+and its texts are held against the stored ones.
 
 mutants.py [NAME..]          a line for each: how many jobs catch it, the first's label
 mutants.py --table           the same as a table in Markdown
@@ -19,7 +19,7 @@ from bits import read_container
 
 HERE = os.path.dirname(os.path.abspath(__file__))
 WORK = os.path.join(HERE, "build", "mutants")
-STORED = os.path.join(HERE, "build", "plans")
+STORED = os.path.join(HERE, "..", "crates", "plan_test")
 
 WINS = "Some((r, t, ..)) => right < r || (right == r && top < t),"
 SORT = "order(a.0 + a.1, b.0 + b.1).then(b.2.cmp(&a.2)).then(order(a.0, b.0))"

@@ -1,6 +1,6 @@
 #!/usr/bin/env python3
-"""Makes a sample of small jobs and their plans: the jobs in the file stdin (a
-container as README.md says), in the file stdout for each job a line `job` with
+"""Makes the stored sample of the crate plan_test: small jobs in its file stdin (a
+container as README.md says), in its file stdout for each job a line `job` with
 its label, then what the oracle prints. Always the same jobs.
 
 sample-plans.py DIR          writes DIR/stdin and DIR/stdout
@@ -11,7 +11,7 @@ import subprocess
 import sys
 
 from bits import fields, pack, pack_fields, read_container, write_container
-from cases import CLOCKWISE, case4, grid, job, part, rect, rooms_cases, run_cases, starred
+from cases import CLOCKWISE, case4, grid, job, length_cases, part, rect, rooms_cases, run_cases, starred
 from damage import damaged
 from draws import Draws
 from jobs import ties, valid
@@ -29,6 +29,7 @@ IMPROVED = 120 # of them kept, those with an improvement
 FILLED = 40    # and those with a fill kind
 OF_EACH = 12   # damaged jobs for each number
 LARGE = ["copies 4096 with a place"]
+LENGTHS = ["length 65536", "length 65537"]
 
 
 def double_faults():
@@ -142,7 +143,7 @@ def sample(folder):
     for label, j in first_jobs():
         j, more = j if isinstance(j, tuple) else (j, b"")
         first.append((label, pack(j) + more))
-    first += list(numbers())
+    first += list(numbers()) + [one for one in length_cases() if one[0] in LENGTHS]
     out = told(first, folder)
     r = Draws(SEED)
     out += [(one, text) for one, text in told(generated(r), folder) if len(text) <= LONGEST_TEXT]

@@ -1,36 +1,7 @@
-// Replays stored jobs: stdin has records as oracle/README.md says (a label's length in one byte, the
-// label, a job's length in four bytes, most significant first, the job), and for each job a line is
+// Replays stored jobs: stdin has a container of jobs (oracle/README.md), and for each a line is
 // printed: ok, or no and the number of its refusal. The file stdout holds the oracle's answers.
-ghost use Prim.Native.Nat.{_≤_};
 use job::Verdict;
-
-fn wide(x: u8) -> usize
-    ensures { λ r. ⌜ r ≤ 255 ⌝ }
-{
-    x as usize
-}
-
-// The number of four bytes, most significant first.
-fn number(a: u8, b: u8, c: u8, d: u8) -> usize {
-    ((wide(a) * 256 + wide(b)) * 256 + wide(c)) * 256 + wide(d)
-}
-
-// Whether n more bytes were there to read, and fitted the room.
-fn read_into(room: &mut [u8], n: usize) -> bool {
-    if room.len() < n {
-        return false;
-    }
-    io::read_full(0, &mut room[..n]) == n
-}
-
-// Whether the label of a record was there; it is dropped.
-fn skip_label(room: &mut [u8]) -> bool {
-    let mut size = [0u8; 1];
-    if io::read_full(0, &mut size) < 1 {
-        return false;
-    }
-    read_into(room, wide(size[0]))
-}
+use records::Part;
 
 fn print_verdict(v: Verdict) {
     match v {
@@ -54,18 +25,15 @@ fn answer(room: &[u8], n: usize) -> bool {
     true
 }
 
-// Reads the next record's job into the room and prints the answer, where there is one.
+// Whether there was one more record; the answer to its job is printed.
 fn replay(room: &mut [u8]) -> bool {
-    if skip_label(room) {
-        let mut size = [0u8; 4];
-        if io::read_full(0, &mut size) == 4 {
-            let n = number(size[0], size[1], size[2], size[3]);
-            if read_into(room, n) {
-                return answer(room, n);
-            }
-        }
-    }
-    false
+    let Part::Bytes(_) = records::read_label(room) else {
+        return false;
+    };
+    let Part::Bytes(n) = records::read_job(room) else {
+        return false;
+    };
+    answer(room, n)
 }
 
 fn replay_all(room: &mut [u8]) {

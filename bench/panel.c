@@ -1,0 +1,23 @@
+/* panel < JOB: prints the plan of a job as the program `plan` does, by calling the proved code from C. */
+#include "panel.h"
+#include <stdio.h>
+
+#define LENGTH(a) (sizeof(a) / sizeof((a)[0]))
+#define LENT(a) a, LENGTH(a)
+
+/* One byte more than a job may have, and the rooms that `plan` lends. */
+static uint8_t job[65537], text[PANEL_TEXT];
+static double shapes[6 * 1365], sheet[6 * 1365], placed[6 * 1365];
+static size_t sheet_entries[16384], placed_entries[16384];
+static double intervals[2 * 4096], positions[5 * 4096];
+
+int main(void) {
+    size_t n = fread(job, 1, sizeof job, stdin);
+    if (n > 65536) {
+        puts("no 11");
+        return 0;
+    }
+    size_t end = panel_nest(job, n, LENT(shapes), LENT(sheet), LENT(placed), LENT(sheet_entries),
+                            LENT(placed_entries), LENT(intervals), LENT(positions), LENT(text));
+    return fwrite(text, 1, end, stdout) == end ? 0 : 1;
+}

@@ -1,0 +1,27 @@
+// What C links (`rt staticlib plan_exports`, bench/panel.h): the text of a whole plan under a plain
+// name.
+// Where the text ends, or 0 for a buffer of less than 524,288 bytes.
+#[no_mangle]
+pub extern "C" fn panel_nest(
+    bytes: &[u8],
+    shapes: &mut [f64],
+    sheet: &mut [f64],
+    placed: &mut [f64],
+    sheet_entries: &mut [usize],
+    placed_entries: &mut [usize],
+    intervals: &mut [f64],
+    positions: &mut [f64],
+    out: &mut [u8],
+) -> usize {
+    panel::plan_text(
+        bytes,
+        shapes,
+        sheet,
+        placed,
+        sheet_entries,
+        placed_entries,
+        intervals,
+        positions,
+        out,
+    )
+}

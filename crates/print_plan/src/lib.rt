@@ -1,0 +1,38 @@
+// Lends the rooms of document 01 ("The printed plan") and writes a job's plan to standard output, or
+// `no` and the number of its refusal. 11 is tested first.
+
+// Writes the first n bytes, if there are so many.
+fn write_from(text: &[u8], n: usize) {
+    if n <= text.len() {
+        io::write_all(1, &text[..n]);
+    }
+}
+
+// 1,365 strips each for shapes, sheet and placed copies (six numbers to a strip), 16,384 entries
+// each, 4,096 intervals (two numbers), 4,096 positions (five numbers).
+pub fn print_plan(bytes: &[u8]) {
+    if 65536 < bytes.len() {
+        io::write_all(1, b"no 11\n");
+        return;
+    }
+    let mut shapes = [0.0; 8190];
+    let mut sheet = [0.0; 8190];
+    let mut placed = [0.0; 8190];
+    let mut sheet_entries = [0usize; 16384];
+    let mut placed_entries = [0usize; 16384];
+    let mut intervals = [0.0; 8192];
+    let mut positions = [0.0; 20480];
+    let mut out = [0u8; 524288];
+    let n = panel::plan_text(
+        bytes,
+        &mut shapes,
+        &mut sheet,
+        &mut placed,
+        &mut sheet_entries,
+        &mut placed_entries,
+        &mut intervals,
+        &mut positions,
+        &mut out,
+    );
+    write_from(&out, n);
+}
