@@ -5,7 +5,6 @@ use mathlib.Core.Path.{_≡_, refl, sym}
 use Rattle.job.specs.Jobs.{Answer}
 use Rattle.nesting.specs.Nest.{nestGiven, nestOf}
 use Rattle.readied.proofs.Reading.{read-into, job-reply, no-job-reply}
-use borrow.Author.Needs.{needs}
 use Rattle.nest.proofs.nest_bytes.Statement.{statement}
 use Rattle.nest.proofs.nest_bytes.Tie as tie
 
@@ -28,10 +27,10 @@ slice-aggregate-read-job-5 : tie.Need-slice-aggregate-read-job-5
 slice-aggregate-read-job-5 c = refl
 
 read-job-requires : tie.Need-read-job-requires
-read-job-requires c κs = search needs
+read-job-requires c κs = (at-least refl, at-least refl, at-least refl, at-least refl, at-least refl)
 
 enum-known-h : tie.Need-enum-known-h
-enum-known-h c = search needs
+enum-known-h c = c .match .keys1
 
 slice-aggregate-nest-job : tie.Need-slice-aggregate-nest-job
 slice-aggregate-nest-job c = sym (c .before .before .before .before .before .before .before .before .before .read-job .kept .1 .0)
@@ -46,7 +45,7 @@ nest-job-requires : tie.Need-nest-job-requires
 nest-job-requires c κs = let p = c .before .before .before .before .before .before .before .before .before .before .before .before .before .before .before .before .before .before .before .before .before .before .before .before .before .before .before .before .before .before .before .before .pre in ((_, p .0, read-into (c .before .before .before .before .before .before .before .before .before .before .before .before .before .before .before .before .before .before .before .before .before .before .before .before .before .before .before .before .before .before .before .before .args .bytes .now) _ _ _ (c .before .before .before .before .before .before .before .before .before .before .before .before .before .before .before .before .before .before .read-job .result) (c .before .before .before .before .before .before .before .before .before .before .before .before .before .before .before .before .before .before .read-job .ensures) _ _ _ (c .before .before .before .before .before .before .before .before .before .before .before .h .given .1) (at-least (c .before .before .before .before .before .before .before .before .before .before .before .before .before .before .before .before .before .before .read-job .kept .1 .0)) (at-least (c .before .before .before .before .before .before .before .before .before .before .before .before .before .before .before .before .before .before .read-job .kept .1 .1 .0)), p .1, refl, refl), at-least (c .before .before .before .before .before .before .before .before .before .before .before .before .before .before .before .before .before .before .read-job .kept .1 .1 .1 .0))
 
 enum-known-k : tie.Need-enum-known-k
-enum-known-k c = search needs
+enum-known-k c = c .match .keys2
 
 refused-requires : tie.Need-refused-requires
 refused-requires c κs = tt

@@ -1,6 +1,5 @@
 -- `nest_tables`: prepared, then planned; or the refusal. Assumes nothing.
 use mathlib.Core.Path.{refl, sym}
-use borrow.Author.Needs.{needs}
 use Rattle.nesting.specs.Rounds.{swapSearch}
 use Rattle.nesting.specs.Nest.{nested}
 use Rattle.readied.proofs.Preparing.{starts-zero, ready-given, ready-sheet, ready-shapes, ready-reply, over-reply}
@@ -23,7 +22,7 @@ prepare-requires : tie.Need-prepare-requires
 prepare-requires c κs = let a = c .before .before .before .before .before .before .before .before .before .before .before .before .before .before .before .before .before .before .args in let p = c .before .before .before .before .before .before .before .before .before .before .before .before .before .before .before .before .before .before .pre in (p .0 .2 .tabled .rows-long, p .1, refl, starts-zero, refl, refl, refl)
 
 enum-known-bounds : tie.Need-enum-known-bounds
-enum-known-bounds c = search needs
+enum-known-bounds c = c .match .keys1
 
 slice-aggregate-nest-order : tie.Need-slice-aggregate-nest-order
 slice-aggregate-nest-order c = sym (c .before .before .before .before .before .before .before .before .before .before .before .before .before .before .prepare .kept .1 .1 .1 .1 .1 .1 .1 .1 .1 .1 .0)
@@ -38,7 +37,7 @@ nest-order-requires : tie.Need-nest-order-requires
 nest-order-requires c κs = let a = c .before .before .before .before .before .before .before .before .before .before .before .before .before .before .before .before .before .before .before .before .before .before .before .before .before .before .before .before .before .before .before .before .before .before .before .before .before .before .before .before .before .before .args in let p = c .before .before .before .before .before .before .before .before .before .before .before .before .before .before .before .before .before .before .before .before .before .before .before .before .before .before .before .before .before .before .before .before .before .before .before .before .before .before .before .before .before .before .pre in let e = c .before .before .before .before .before .before .before .before .before .before .before .bounds .given .1 in ((p .0 .0, ready-given (p .0 .0) (a .bytes .now) (a .at) (a .h .kinds) (a .h .resolution) (a .rows .now) (a .areas .now) (a .places .now) (p .0 .2) (p .0 .1) (a .shapes .now) (a .sheet .now) (a .placed .now) (a .sheet-entries .now) (a .placed-entries .now) (a .intervals .now) (a .positions .now) (p .0 .3) (c .before .before .before .before .before .before .before .before .before .before .before .before .before .before .before .before .before .before .before .before .before .before .before .prepare .result) _ _ _ _ _ _ (c .before .before .before .before .before .before .before .before .before .before .before .before .before .before .before .before .before .before .before .before .before .before .before .prepare .ensures (p .0 .0) ((p .0 .2) .from)) _ _ _ _ e, p .0 .4, p .0 .5), ready-sheet (p .0 .0) (a .bytes .now) (a .at) (a .h .kinds) (a .h .resolution) (a .rows .now) (a .areas .now) (a .places .now) (p .0 .2) (p .0 .1) (a .shapes .now) (a .sheet .now) (a .placed .now) (a .sheet-entries .now) (a .placed-entries .now) (a .intervals .now) (a .positions .now) (p .0 .3) (c .before .before .before .before .before .before .before .before .before .before .before .before .before .before .before .before .before .before .before .before .before .before .before .prepare .result) _ _ _ _ _ _ (c .before .before .before .before .before .before .before .before .before .before .before .before .before .before .before .before .before .before .before .before .before .before .before .prepare .ensures (p .0 .0) ((p .0 .2) .from)) _ _ _ _ e, ready-shapes (p .0 .0) (a .bytes .now) (a .at) (a .h .kinds) (a .h .resolution) (a .rows .now) (a .areas .now) (a .places .now) (p .0 .2) (p .0 .1) (a .shapes .now) (a .sheet .now) (a .placed .now) (a .sheet-entries .now) (a .placed-entries .now) (a .intervals .now) (a .positions .now) (p .0 .3) (c .before .before .before .before .before .before .before .before .before .before .before .before .before .before .before .before .before .before .before .before .before .before .before .prepare .result) _ _ _ _ _ _ (c .before .before .before .before .before .before .before .before .before .before .before .before .before .before .before .before .before .before .before .before .before .before .before .prepare .ensures (p .0 .0) ((p .0 .2) .from)) _ _ _ _ e)
 
 enum-known-k : tie.Need-enum-known-k
-enum-known-k c = search needs
+enum-known-k c = c .match .keys2
 
 refused-requires : tie.Need-refused-requires
 refused-requires c κs = tt

@@ -1,0 +1,242 @@
+// Replays stored jobs up to their swap search: stdin has a container of jobs (oracle/README.md), and
+// for each a line `job` with its label is printed, then the final order, the improvements and the
+// state of the draws, or `no` and the number of the refusal. The file stdout holds the oracle's
+// answers (oracle/sample-swaps.py); oracle/compare-swaps.sh compares many jobs.
+ghost use mathlib.Core.Path.{_≡_};
+ghost use Prim.Native.Nat.{_*_, _≤_};
+ghost use lib.ListN.{length, take, drop};
+ghost use Rattle.job.specs.Jobs.{Job};
+ghost use Rattle.filling.specs.Consistent.{sheetIndex};
+ghost use Rattle.fill_laws.specs.Prepared.{given, Prepared};
+ghost use Rattle.readied.specs.Zeroed.{ReadInto};
+use better::Round;
+use filling::Refusal;
+use filling::Verdict;
+use index::Entry;
+use job::JobRead;
+use records::Part;
+use strips::Rect;
+
+fn print_refusal(r: Refusal) {
+    io::write_all(1, b"no ");
+    io::print_decimal(1, verdicts::verdict_number(Verdict::Refused(r)));
+    io::write_all(1, b"\n");
+}
+
+// The kind of copy i.
+fn print_copy(order: &[usize], i: usize) {
+    if i < order.len() {
+        io::write_all(1, b" ");
+        io::print_decimal(1, order[i] as u64);
+    }
+}
+
+// The kinds of the first n copies.
+fn print_copies(order: &[usize], n: usize) {
+    let mut i = 0;
+    while i < n {
+        print_copy(order, i);
+        i += 1;
+    }
+}
+
+fn print_round(r: Round, order: &[usize], n: usize) {
+    let v = r.verdict;
+    let b = r.best;
+    match v {
+        Verdict::Accepted => {
+            io::write_all(1, b"order");
+            print_copies(order, n);
+            io::write_all(1, b"\nimprovements ");
+            io::print_decimal(1, b.improvements as u64);
+            io::write_all(1, b"\nstate ");
+            io::print_hex(1, b.random, 16);
+            io::write_all(1, b"\n");
+        }
+        Verdict::Refused(k) => print_refusal(k),
+    }
+}
+
+// The copies in their order, and what their swap search ends with.
+fn search(
+    bounds: Rect,
+    resolution: f64,
+    seed: u64,
+    rounds: usize,
+    kinds: usize,
+    sheet_strips: usize,
+    apart_strips: usize,
+    rows: &[u64],
+    areas: &[f64],
+    inset_bounds: &[f64],
+    parts: &[usize],
+    shapes: &[f64],
+    sheet: &[f64],
+    sheet_entries: &[Entry],
+    sheet_starts: &[usize],
+)
+    requires { ⌜ ((j : Job) × Prepared j (given (sheetIndex bounds) bounds resolution (now rows) (now areas) (now «inset_bounds») (now parts) (take (6 * «apart_strips») (now shapes)) (drop (6 * «apart_strips») (now shapes)) (take (6 * «sheet_strips») (now sheet)) (now «sheet_entries») (now «sheet_starts»)) × (length (j .kinds) ≡ kinds))
+        × (6 * «sheet_strips» ≤ length (now sheet)) × (6 * «apart_strips» ≤ length (now shapes)) ⌝ }
+{
+    let mut placed = [0.0; 8190];
+    let mut placed_entries = [0usize; 16384];
+    let mut intervals = [0.0; 8192];
+    let mut look_counts = [0usize; 1024];
+    let mut orientation = [0usize; 4096];
+    let mut x = [0.0; 4096];
+    let mut y = [0.0; 4096];
+    let mut order = [0usize; 4096];
+    let n = copy_order::copy_order(rows, areas, kinds, &mut order);
+    let r = search_plan::search_plan(
+        bounds,
+        resolution,
+        seed,
+        rounds,
+        sheet_strips,
+        apart_strips,
+        &mut order[..n],
+        rows,
+        areas,
+        inset_bounds,
+        parts,
+        shapes,
+        sheet,
+        sheet_entries,
+        sheet_starts,
+        &mut placed,
+        &mut placed_entries,
+        &mut intervals,
+        &mut look_counts,
+        &mut orientation,
+        &mut x,
+        &mut y,
+    );
+    print_round(r, &order, n);
+}
+
+// What is prepared of the job in the tables, with the rooms that `plan` lends, then its search.
+fn prepare_job(
+    bytes: &[u8],
+    at: u32,
+    kinds: usize,
+    seed: u64,
+    rounds: usize,
+    resolution: f64,
+    rows: &[u64],
+    areas: &[f64],
+    places: &[u32],
+)
+    requires { ⌜ ((j : Job) × ReadInto j (now bytes) at kinds resolution (now rows) (now areas) (now places)) × (2048 ≤ length (now places)) ⌝ }
+{
+    let mut shapes = [0.0; 8190];
+    let mut sheet = [0.0; 8190];
+    let mut sheet_entries = [0usize; 16384];
+    let mut sheet_starts = [0usize; 513];
+    let mut gains = [0usize; 512];
+    let mut inset_bounds = [0.0; 4096];
+    let mut parts = [0usize; 4096];
+    match prepare::prepare(
+        bytes,
+        at,
+        kinds,
+        rows,
+        places,
+        &mut shapes,
+        &mut sheet,
+        &mut sheet_entries,
+        &mut sheet_starts,
+        &mut gains,
+        &mut inset_bounds,
+        &mut parts,
+    ) {
+        prepare::Prepared::Ready(bounds, n, a, _) => search(
+            bounds,
+            resolution,
+            seed,
+            rounds,
+            kinds,
+            n,
+            a,
+            rows,
+            areas,
+            &inset_bounds,
+            &parts,
+            &shapes,
+            &sheet,
+            &sheet_entries,
+            &sheet_starts,
+        ),
+        prepare::Prepared::NotReady(k) => print_refusal(k),
+    }
+}
+
+// Answers the job that the bytes are.
+fn answer_job(bytes: &[u8]) {
+    let mut rows = [0u64; 256];
+    let mut areas = [0.0; 64];
+    let mut places = [0u32; 2048];
+    let mut points = [0.0; 1024];
+    let mut ends = [0usize; 64];
+    match job::read_job(
+        bytes,
+        &mut rows,
+        &mut areas,
+        &mut places,
+        &mut points,
+        &mut ends,
+    ) {
+        JobRead::Good(h, at, _) => {
+            let kinds = h.kinds as usize;
+            let rounds = h.rounds as usize;
+            prepare_job(
+                bytes,
+                at,
+                kinds,
+                h.seed,
+                rounds,
+                h.resolution,
+                &rows,
+                &areas,
+                &places,
+            )
+        }
+        JobRead::NoJob(k) => print_refusal(Refusal::Job(k)),
+    }
+}
+
+// Answers the job that the first n bytes are.
+fn answer(room: &[u8], n: usize) -> bool {
+    if room.len() < n {
+        return false;
+    }
+    answer_job(&room[..n]);
+    true
+}
+
+// Whether there was one more record; its label and the answer are printed.
+fn replay(room: &mut [u8]) -> bool {
+    let Part::Bytes(n) = records::read_label(room) else {
+        return false;
+    };
+    records::print_label(room, n);
+    let Part::Bytes(m) = records::read_job(room) else {
+        return false;
+    };
+    answer(room, m)
+}
+
+fn replay_all(room: &mut [u8]) {
+    let mut turns: usize = 0;
+    while turns < 1000000 {
+        if replay(room) {
+            turns += 1;
+        } else {
+            return;
+        }
+    }
+}
+
+fn main() {
+    let mut room = [0u8; 131072];
+    replay_all(&mut room);
+}
