@@ -40,8 +40,8 @@ def swaps():
 
 
 def nan_corner():
-    """A hatch of 4 × 3 with not-a-number for the y of its upper right corner."""
-    hatch = [[(0.0, 0.0), (4.0, 0.0), (4.0, float("nan")), (0.0, 3.0)]]
+    """A hatch of 4 × 3 with not-a-number for the y of its upper left corner, and a plate, which the Rust puts on it."""
+    hatch = [[(0.0, 0.0), (4.0, 0.0), (4.0, 3.0), (0.0, float("nan"))]]
     return job([part([hatch], 1, 12, priority=1), part([rect(2, 2)], 1, 4)])
 
 
@@ -58,4 +58,5 @@ def main():
         print(f"{name}: {len(data)} bytes, {text.decode().splitlines()[0]}")
 
 
-main()
+if __name__ == "__main__":
+    main()

@@ -14,6 +14,7 @@ from bits import fields, pack, pack_fields, read_container, write_container
 from cases import CLOCKWISE, case4, grid, job, length_cases, part, rect, rooms_cases, run_cases, starred
 from damage import damaged
 from draws import Draws
+from examples import nan_corner
 from jobs import ties, valid
 from shapes import ell, finish, rectangle, slanted, triangle
 
@@ -86,6 +87,7 @@ def first_jobs():
     yield from rooms_cases()
     yield from double_faults()
     yield from crossing_jobs()
+    yield "hatch with a corner not a number", nan_corner()
 
 
 def generated(r):

@@ -3,7 +3,7 @@ use Prim.Native.Nat.{ℕ, zero, suc, _+_, _-_, _*_, _≤_, _<_}
 use mathlib.Core.Path.{_≡_, refl, sym, ap, ap₂, _∙_, subst}
 use mathlib.Core.Logic.{inl, inr}
 use mathlib.Core.Bool.{Bool, true, false}
-use mathlib.Core.List.{List, [], _∷_, _++_, map, flatMap, append-assoc, append-nil}
+use mathlib.Core.List.{List, [], _∷_, _++_, map, flatMap, append-nil}
 use native.Mathlib.Omega.{arith}
 use native.Mathlib.Numerals.{add-one}
 use lib.ListN.{length, getD, take, drop, length-append, take-append-drop}
@@ -12,6 +12,7 @@ use lib.Dec.{eqb}
 use lib.Ieee.{Float, nan}
 use borrow.Author.Tests.{eq-eqb, ne-eqb}
 use Rattle.index.specs.Buckets.{upFrom}
+use Rattle.index.proofs.Flat.{flat-snoc}
 use Rattle.filling.specs.declared.State.{State}
 use Rattle.filling.specs.Shapes.{Copy, Standing}
 use Rattle.filling.specs.Rooms.{laid}
@@ -55,13 +56,6 @@ positions-more k n (c ∷ cs) ds = elim (same (c .copy .kind) k) [
       (let z : suc n + length (positionsOfKind k (suc n) cs) ≡ n + suc (length (positionsOfKind k (suc n) cs)) = omega arith in rw z)
   | inr e ↦ rw (kind-no k n c (cs ++ ds) e, kind-no k n c cs e, positions-more k n cs ds)
 ]
-
-flat-snoc : {B : Type 0} (f : ℕ → List B) (m c : ℕ) → flatMap f (upFrom (suc m) c) ≡ flatMap f (upFrom m c) ++ f (c + m)
-unfolding flatMap upFrom
-flat-snoc f zero c = let e : c + 0 ≡ c = omega arith in rw (e, append-nil (f c))
-flat-snoc f (suc m) c =
-    let e : suc c + m ≡ c + suc m = omega arith in
-    ap (λ (l : List _). f c ++ l) (flat-snoc f m (suc c)) ∙ (sym (append-assoc (f c) (flatMap f (upFrom m (suc c))) (f (suc c + m))) ∙ ap (λ (k : ℕ). (f c ++ flatMap f (upFrom m (suc c))) ++ f k) e)
 
 count-zero : (b : Bool) → countIf b 0 ≡ 0
 unfolding countIf

@@ -1,40 +1,26 @@
 -- A start with an order that is right, from what its calls leave. Assumes nothing.
 use mathlib.Core.Path.{_≡_, refl, sym, ap, ap₂, subst, _∙_}
-use mathlib.Core.Bool.{Bool, true, false, not}
-use mathlib.Core.List.{List, [], _∷_, _++_, map}
-use Prim.Native.Nat.{ℕ, zero, suc, _+_, _-_, _*_, _/_, _≤_, _<_}
-use native.Mathlib.Omega.{arith}
-use native.Mathlib.Numerals.{add-one}
-use lib.ListN.{length, getD, set, take, drop, replicate, length-replicate}
-use lib.Seq.{paste, paste-zero, paste-suc, length-paste, take-all}
-use lib.Dec.{ltb}
+use mathlib.Core.List.{List}
+use Prim.Native.Nat.{ℕ, zero, suc, _-_}
+use lib.ListN.{length, getD, replicate}
 use lib.Ieee.{Float}
-use borrow.Author.Tests.{lt-ltb, le-ltb}
 use Rattle.numbers.specs.Numbers.{posZero}
 use Rattle.strips.specs.declared.Rect.{Rect}
 use Rattle.bits.specs.declared.Refusal as Input
 use Rattle.job.specs.declared.Header.{Header}
-use Rattle.job.specs.declared.JobRead.{JobRead}
-use Rattle.job.specs.declared.JobRead.the-variants.{Good, NoJob}
-use Rattle.job.specs.Jobs.{Job, Answer, accepted, refused, readJob}
-use Rattle.job.specs.Meaning.{jobRead}
-use Rattle.job.proofs.Accepted.{job-good}
+use Rattle.job.specs.Jobs.{Job}
 use Rattle.filling.specs.declared.Refusal.{Refusal}
 use Rattle.filling.specs.declared.Refusal.the-variants as Why
-use Rattle.filling.specs.declared.State.{State}
 use Rattle.filling.specs.declared.Tables.{Tables}
-use Rattle.filling.specs.declared.Verdict.{Verdict}
-use Rattle.filling.specs.declared.Verdict.the-variants.{Accepted, Refused}
-use Rattle.filling.specs.Refusals.{refuseIf}
+use Rattle.filling.specs.declared.Verdict.the-variants.{Refused}
 use Rattle.filling.specs.Shapes.{Planner, plannerOf}
-use Rattle.filling.specs.Rooms.{Rooms, Lent, positionCapacity, laid, zeros, zeroRooms, onlyPositions}
-use Rattle.filling.specs.Order.{rearranged}
-use Rattle.filling.specs.State.{bySlot, slotShape, zeroState, emptyLayout}
-use Rattle.filling.specs.Start.{tablesOf, firstState, firstRooms, prepareVerdict, startVerdict, Start, noStart, goodStart, startJob, startGiven, startOf}
+use Rattle.filling.specs.Rooms.{Lent, laid, zeros, zeroRooms, onlyPositions}
+use Rattle.filling.specs.Start.{tablesOf, firstState, firstRooms, prepareVerdict, startVerdict, Start, noStart, goodStart, startJob}
 use Rattle.filling.proofs.Reading.{length-zeros}
+use Rattle.filling.proofs.Begin.{start-refused, start-good}
 use Rattle.prepare.specs.declared.Prepared.{Prepared}
 use Rattle.prepare.specs.declared.Prepared.the-variants as Prepared
-use Rattle.prepare.specs.Ready.{FromTables, given, Readied, PreparedIs}
+use Rattle.prepare.specs.Ready.{given, Readied, PreparedIs}
 use Rattle.started.specs.declared.Started.{Started}
 use Rattle.started.specs.Answers.{notStarted, startedWith}
 use Rattle.begin.specs.Beginning.{Cleared, Begun}
@@ -50,15 +36,6 @@ zero-at (suc n) zero = refl
 zero-at (suc n) (suc b) = zero-at n b
 
 -- ---- refused
-module _ (j : Job) (order : List ℕ) (l : Lent) where
-  pub start-refused : (k : Refusal) → startVerdict j order l ≡ Refused k → startJob j order l ≡ noStart k l
-  unfolding startJob
-  start-refused k e = rw (e, startJob)
-
-  pub start-good : startVerdict j order l ≡ Accepted → startJob j order l ≡ goodStart (plannerOf j) order l
-  unfolding startJob
-  start-good e = rw (e, startJob)
-
 pub not-begun : (k : Refusal) (l : Lent) (shapes sheet : List Float) (entries : List ℕ) → Cleared l shapes sheet entries → Begun (notStarted k) (noStart k l) shapes sheet entries
 unfolding notStarted noStart onlyPositions zeroRooms
 not-begun k l shapes sheet entries C = record { verdict-is = refl; state-is = refl; shapes-are = C .shapes-zero; sheet-is = C .sheet-zero; entries-are = C .entries-zero }

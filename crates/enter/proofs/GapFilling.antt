@@ -4,11 +4,11 @@ use native.Mathlib.Omega.{arith}
 use native.Mathlib.Numerals.{add-one}
 use mathlib.Core.Path.{_≡_, refl, sym, ap, _∙_, subst}
 use mathlib.Core.Logic.{_⊎_, inl, inr}
-use mathlib.Core.Bool.{Bool, true, false, not}
+use mathlib.Core.Bool.{true, false}
 use mathlib.Core.List.{List, [], _∷_, _++_}
 use lib.ListN.{length, getD, set, length-set, length-append}
 use lib.Seq.{slice, getD-set-same, getD-set-other, getD-at, ext-getD, length-slice, getD-take, getD-drop}
-use lib.Dec.{T, ltb, ltb→lt, nltb→le}
+use lib.Dec.{T, ltb}
 use lib.Ieee.{Float}
 use Rattle.trapezoid.specs.Strip.{stripAt}
 use Rattle.index.specs.declared.Index.{Index}
@@ -17,9 +17,29 @@ use Rattle.index.specs.Listing.{Laid}
 use Rattle.index.proofs.Steps.{dich, lt-ltb, ge-ltb}
 use Rattle.index.proofs.Collecting.{lt-or-ge}
 use Rattle.enter.specs.EntryRoom.{startOf, Rooms, enterOf}
-use Rattle.enter.specs.Gaps.{rooms, entering, before, Counted, Opened, Blocks, filled}
-use Rattle.enter.proofs.Starts.{start-first, start-next, start-rise, entered-yes, entered-no, entered-more, covers-parts, covers-yes, start-gain, start-last, laid-starts, laid-entries, laid-table, enter-fits, enter-over}
-use Rattle.enter.proofs.Opening.{opened-blocks}
+use Rattle.enter.specs.Gaps.{rooms, entering, Counted, Blocks, filled}
+use Rattle.gaps.specs.OpenGaps.{before, Opened}
+use Rattle.enter.proofs.Starts.{start-first, start-next, start-rise, entered-yes, entered-no, entered-more, covers-parts, covers-yes, start-gain, start-last, laid-starts, laid-holds, laid-entries, laid-table, enter-fits, enter-over}
+
+-- ---- open gaps are blocks of the old entries, where the new lists begin
+pub opened-blocks : (ix : Index) (standing : List Float) (m c : ℕ) (g e₀ st e s : List ℕ) → Laid ix standing m e₀ st → Counted ix standing c m g → Opened buckets st g e₀ 0 e s → Blocks (startOf ix standing (m + c)) (entered ix standing m) e s
+opened-blocks ix standing m c g e₀ st e s L C O = record { table = O .table ∙ L .table; first = O .old 0 (omega arith) ∙ L .first; ends = ends; holds = holds }
+  where
+    begins : (b : ℕ) → b ≤ buckets → startOf ix standing (m + c) b ≡ getD st b 0 + before g b
+    begins b h = start-gain ix standing m c g C b h ∙ ap (λ (k : ℕ). k + before g b) (sym (laid-starts ix standing m e₀ st L b h))
+
+    next : (b : ℕ) → b < buckets → getD st (b + 1) 0 ≡ getD st b 0 + length (entered ix standing m b)
+    next b h = let a = laid-starts ix standing m e₀ st L b (omega arith) in let d = laid-starts ix standing m e₀ st L (b + 1) (omega arith) in let f = start-next ix standing m b in omega arith
+
+    ends : (b : ℕ) → b < buckets → getD s (b + 1) 0 ≡ startOf ix standing (m + c) b + length (entered ix standing m b)
+    ends b h = let a = O .new b (omega arith) h in let d = begins b (omega arith) in let f = next b h in omega arith
+
+    holds : (b : ℕ) → b < buckets → (j : ℕ) → j < length (entered ix standing m b) → getD e (startOf ix standing (m + c) b + j) 0 ≡ getD (entered ix standing m b) j 0
+    holds b h j l =
+        let d = begins b (omega arith) in
+        let f = next b h in
+        let q : startOf ix standing (m + c) b + j ≡ getD st b 0 + j + before g b = omega arith in
+        ap (λ (i : ℕ). getD e i 0) q ∙ (O .moved b (omega arith) h (getD st b 0 + j) (omega arith) (omega arith) ∙ laid-holds ix standing m e₀ st L b h j l)
 
 pub blocks-same : (at : ℕ → ℕ) (l m : ℕ → List ℕ) (e s : List ℕ) → ((b : ℕ) → b < buckets → l b ≡ m b) → Blocks at l e s → Blocks at m e s
 blocks-same at l m e s h B = record {
@@ -178,7 +198,7 @@ module _ (ix : Index) (standing : List Float) (i n : ℕ) (less : i < n) where
       go t = let e : suc b + c ≡ b + suc c = omega arith in (rw (← e) (t .0), t .1 ∙ length-set (r .entries) (getD (r .starts) (b + 1) 0) i, λ j z. t .2 j z ∙ outside j z)
 
   -- a bucket that the strip is not entered in stays
-  stays : (c : ℕ) → (lo ≤ c → c ≤ hi → ⊥) → entered ix standing (i + 1) c ≡ entered ix standing i c
+  pub stays : (c : ℕ) → (lo ≤ c → c ≤ hi → ⊥) → entered ix standing (i + 1) c ≡ entered ix standing i c
   stays c q = entered-no ix standing i c (go (dich (covers ix (stripAt standing i) c)))
     where
       go : (covers ix (stripAt standing i) c ≡ true) ⊎ (covers ix (stripAt standing i) c ≡ false) → covers ix (stripAt standing i) c ≡ false

@@ -1,5 +1,4 @@
 pub mod Starts
-pub mod NewEntries
-pub mod Opening
+pub mod Marks
 pub mod GapFilling
-pub mod Tail
+pub mod OneStrip

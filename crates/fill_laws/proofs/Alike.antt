@@ -1,5 +1,5 @@
 -- A filling's answer depends on the lengths of the placed rooms and of the interval room, not on what they hold. Assumes nothing.
-use Prim.Native.Nat.{ℕ, zero, suc, _+_, _-_, _*_, _/_, _≤_, _<_}
+use Prim.Native.Nat.{ℕ, zero, suc, _+_, _-_, _*_, _/_}
 use native.Mathlib.Omega.{arith}
 use mathlib.Core.Path.{_≡_, refl, sym, ap, ap₂, _∙_}
 use mathlib.Core.List.{List, [], _∷_, _++_}
@@ -13,15 +13,15 @@ use Rattle.filling.specs.declared.Refusal.{Refusal}
 use Rattle.filling.specs.declared.Refusal.the-variants as Why
 use Rattle.filling.specs.declared.Verdict.{Verdict}
 use Rattle.filling.specs.declared.Verdict.the-variants.{Accepted, Refused}
-use Rattle.filling.specs.Refusals.{refuseIf}
 use Rattle.filling.specs.Shapes.{Planner, Shape}
 use Rattle.filling.specs.Search.{Found, Track, searchAll, searchedAll}
 use Rattle.filling.specs.Choice.{Choice, choices, best}
-use Rattle.filling.specs.Rooms.{Rooms, intervalCapacity, laid}
+use Rattle.filling.specs.Rooms.{Rooms, laid}
 use Rattle.filling.specs.State.{plannerAt, orderOf, tracksOf}
 use Rattle.filling.specs.Consistent.{placedStrips}
 use Rattle.filling.specs.NextCopy.{newStrips, storeVerdict, winnerVerdict, copyVerdict, stateWith, stateAfter, stored, roomsAfter, noStep, placeCopy, placeNext, coreStep}
-use Rattle.filling.specs.Fill.{Filling, filled, stopped, fillFrom}
+use Rattle.filling.specs.Fill.{fillFrom}
+use Rattle.filling.proofs.FillSteps.{fill-on, fill-stops, fill-ends}
 use Rattle.filling.proofs.Steps.{place-refused, place-taken}
 
 -- two rooms that hold the same planner and the same standing strips, of equal lengths where copies are stored
@@ -30,20 +30,6 @@ pub record Alike (j : Job) (s : State) (w w′ : Rooms) : Type 0 where
   pub standing : placedStrips s w ≡ placedStrips s w′
   pub placed : length (w .placed) ≡ length (w′ .placed)
   pub entries : length (w .placed-entries) ≡ length (w′ .placed-entries)
-
--- ---- a filling's steps
-
-pub fill-on : (j : Job) (iv : List Float) (n : ℕ) (s : State) (w : Rooms) → coreStep j s w iv .verdict ≡ Accepted → fillFrom j iv (suc n) s w ≡ fillFrom j iv n (coreStep j s w iv .state) (coreStep j s w iv .rooms)
-unfolding fillFrom
-fill-on j iv n s w e = rw (e, fillFrom)
-
-pub fill-stops : (j : Job) (iv : List Float) (n : ℕ) (s : State) (w : Rooms) (k : Refusal) → coreStep j s w iv .verdict ≡ Refused k → fillFrom j iv (suc n) s w ≡ stopped k
-unfolding fillFrom
-fill-stops j iv n s w k e = rw (e, fillFrom)
-
-pub fill-ends : (j : Job) (iv : List Float) (s : State) (w : Rooms) → fillFrom j iv 0 s w ≡ filled s
-unfolding fillFrom
-fill-ends j iv s w = refl
 
 -- ---- what a step tests
 

@@ -1,8 +1,6 @@
 -- Between the copies of a filling: what holds, and what a copy taken or refused leaves. Assumes nothing.
-use Prim.{⊥}
-use Prim.Native.Nat.{ℕ, zero, suc, _+_, _-_, _*_, _/_, _≤_, _<_}
+use Prim.Native.Nat.{ℕ, suc, _+_, _-_, _*_, _/_, _≤_, _<_}
 use native.Mathlib.Omega.{arith}
-use native.Mathlib.Numerals.{add-one}
 use mathlib.Core.Path.{_≡_, refl, sym, ap, ap₂, subst, subst₂, _∙_}
 use mathlib.Core.Bool.{true}
 use mathlib.Core.List.{List, [], _∷_, _++_, map, append-assoc}
@@ -13,41 +11,37 @@ use Rattle.numbers.specs.Numbers.{posZero}
 use Rattle.index.specs.declared.Index.{Index}
 use Rattle.index.specs.Listing.{Laid}
 use Rattle.strips.specs.declared.Rect.{Rect}
-use Rattle.job.specs.Jobs.{Job, accepted, readJob}
+use Rattle.job.specs.Jobs.{Job}
 use Rattle.job.proofs.Accepted.{job-good}
 use Rattle.filling.specs.declared.State.{State}
 use Rattle.filling.specs.declared.Tables.{Tables}
 use Rattle.filling.specs.declared.Refusal.{Refusal}
-use Rattle.filling.specs.declared.Verdict.{Verdict}
 use Rattle.filling.specs.declared.Verdict.the-variants as Verdicts
 use Rattle.filling.specs.Shapes.{Planner, plannerOf}
 use Rattle.filling.specs.Plain.{Plain, plainStart, plainTake}
-use Rattle.filling.specs.Rooms.{Rooms, Lent, laid, zeros}
+use Rattle.filling.specs.Rooms.{Rooms, Lent, laid}
 use Rattle.filling.specs.Order.{rearranged}
 use Rattle.filling.specs.State.{orientationCounts, apartRoom, insetRoom, plannerAt, orderOf, emptyLayout}
 use Rattle.filling.specs.Consistent.{sheetIndex}
 use Rattle.filling.specs.Start.{tablesOf, firstState, firstRooms}
 use Rattle.filling.specs.NextCopy as Next
 use Rattle.filling.specs.NextCopy.{entered, noStep, coreStep}
-use Rattle.filling.specs.Fill.{Filling, filled, stopped, fillFrom, fillOrder}
-use Rattle.filling.proofs.Reading.{sixteen-get}
-use Rattle.filling.proofs.Sizes.{Sized, sized}
+use Rattle.filling.specs.Fill.{stopped, fillFrom, fillOrder}
+use Rattle.filling.proofs.Sizes.{sized}
 use Rattle.filling.proofs.Steps as Steps
 use Rattle.filling.proofs.Steps.{Took, unchanged, took, core-outcome, refused≢accepted}
-use Rattle.filling.proofs.Begin.{rearranged-length}
 use Rattle.filling.proofs.WithinBounds.{jobs-within}
 use Rattle.filling.proofs.Never31.{Own, own-took}
-use Rattle.tables.specs.Tabled.{Tabled}
 use Rattle.choose.specs.Choosing.{world}
 use Rattle.place.specs.declared.Totals.{Totals}
 use Rattle.place.specs.declared.Outcome.{Outcome}
-use Rattle.place.specs.declared.Outcome.the-variants.{At, Nowhere, Refused}
+use Rattle.place.specs.declared.Outcome.the-variants.{Refused}
 use Rattle.place.specs.declared.Step.{Step}
 use Rattle.place.specs.Placing.{Placed, done, placeOf, numberOf, xOf, yOf}
 use Rattle.filling_laws.proofs.SameCopy.{stepFrom, stepBy, takenWith, codeOf}
 use Rattle.filling_laws.proofs.SameCore.{same-core}
 use Rattle.fill_laws.specs.Prepared.{Given, given, Prepared, stateBy, roomsBy}
-use Rattle.fill_laws.proofs.Alike.{fill-on, fill-stops, fill-ends}
+use Rattle.filling.proofs.FillSteps.{fill-on, fill-stops}
 use Rattle.filling_laws.proofs.ReadyOrder.{kind-in, kinds-many, slots-within}
 use Rattle.fill_laws.proofs.Begin.{own-first, fill-first}
 

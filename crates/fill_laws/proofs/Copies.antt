@@ -1,10 +1,10 @@
 -- The copies of a filling, one after another: what holds before, between and after them. Assumes nothing.
-use Prim.Native.Nat.{ℕ, zero, suc, _+_, _-_, _*_, _/_, _^_, _≤_, _<_}
+use Prim.Native.Nat.{ℕ, _+_, _-_, _*_, _/_, _^_, _≤_, _<_}
 use native.Mathlib.Omega.{arith}
 use native.Mathlib.Numerals.{add-one}
 use mathlib.Core.Path.{_≡_, refl, sym, ap, ap₂, subst, subst₂, _∙_}
 use mathlib.Core.Bool.{true}
-use mathlib.Core.List.{List, []}
+use mathlib.Core.List.{List}
 use lib.ListN.{length, getD, set, take, drop, replicate}
 use lib.Seq.{drop-set-lt}
 use lib.Ieee.{Float, nan}
@@ -12,7 +12,6 @@ use Rattle.numbers.specs.Numbers.{posZero}
 use Rattle.index.specs.Buckets.{buckets}
 use Rattle.index.specs.Listing.{Laid}
 use Rattle.job.specs.Jobs.{Job}
-use Rattle.filling.specs.declared.Refusal.{Refusal}
 use Rattle.filling.specs.declared.Verdict.{Verdict}
 use Rattle.filling.specs.declared.Verdict.the-variants as Verdicts
 use Rattle.filling.specs.Shapes.{plannerOf}
@@ -27,11 +26,11 @@ use Rattle.place.specs.declared.Outcome.{Outcome}
 use Rattle.place.specs.declared.Outcome.the-variants.{At, Nowhere, Refused}
 use Rattle.place.specs.declared.Step.{Step}
 use Rattle.place.specs.Standing.{Standing, Fixed}
-use Rattle.place.specs.Placing.{Placed, done, numberOf, xOf, yOf}
+use Rattle.place.specs.Placing.{done, numberOf, xOf, yOf}
 use Rattle.filling_laws.proofs.SameCopy.{stepFrom, stepBy, takenWith}
 use Rattle.filling_laws.proofs.ReadyStrips.{AllFit}
 use Rattle.fill_laws.specs.Prepared.{Given, Prepared, stateBy, roomsBy, verdictOf, placeAfter, fillingBy}
-use Rattle.fill_laws.proofs.Alike.{fill-ends}
+use Rattle.filling.proofs.FillSteps.{fill-ends}
 use Rattle.fill_laws.proofs.Begin.{laid-none}
 use Rattle.fill_laws.proofs.Between.{Held, held-first, codeWith, slots-below, held-stops, held-next}
 use Rattle.fill_laws.proofs.Ready.{Doubles, held-fixed, held-counts, held-standing}

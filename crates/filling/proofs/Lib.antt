@@ -7,6 +7,7 @@ pub mod Entered
 pub mod Steps
 pub mod Rows
 pub mod Begin
+pub mod FillSteps
 pub mod Runs
 pub mod Demand3
 pub mod Numbers31

@@ -69,7 +69,7 @@ resolution-fits {r} R =
 -- ---- column c's distance from the first: c × resolution
 
 -- a quotient that reaches c is at least c less one before it is rounded
-quotient-from : (a b c : ℕ) → 0 < b → c ≤ 2 ^ 53 → c * u ≤ near binary64 a b → c * b ≤ a + b
+pub quotient-from : (a b c : ℕ) → 0 < b → c ≤ 2 ^ 53 → c * u ≤ near binary64 a b → c * b ≤ a + b
 quotient-from a b zero p h l = let z : 0 * b ≡ 0 = native.Mathlib.Nat.zero-mul b in omega arith
 quotient-from a b (suc m) p h l = elim (order a (m * b)) [
   | inl g ↦ absurd (no (m * u) (suc m * u) (near binary64 a b) u (suc-mul m u) l (le-trans (near-mono binary64 a b m 1 p (lit< tt) (le-trans (le-of-eq (mul-one a)) (native.Mathlib.Nat.le-of-lt g))) (le-of-eq (near-whole binary64 m (omega arith)))) (unit-pos binary64))

@@ -62,7 +62,7 @@ strip-at (s ∷ l) (suc i) d h =
     let e5 : suc (suc (suc (suc (suc (suc (6 * i)))))) + 5 ≡ suc (suc (suc (suc (suc (suc (6 * i + 5)))))) = omega arith in
     rw (e, e1, e2, e3, e4, e5) (strip-at l i d (omega arith))
 
-capacity-flat : (l : List Trapezoid) → capacity (flat l) ≡ length l
+pub capacity-flat : (l : List Trapezoid) → capacity (flat l) ≡ length l
 unfolding capacity
 capacity-flat l = let e = length-flat l in omega arith
 
@@ -127,7 +127,7 @@ moved-numbers x y X Y l h =
 
 -- ---- a set of an accepted job
 
-ends-loops : (first n : ℕ) (es : List ℕ) → Ends first es n → Loops first es n
+pub ends-loops : (first n : ℕ) (es : List ℕ) → Ends first es n → Loops first es n
 unfolding Loops
 ends-loops first n [] h = h
 ends-loops first n (e ∷ es) h = (first-below first e (h .0), end-below e n (length es) (ends-most e n es (h .1)), ends-loops e n es (h .1))

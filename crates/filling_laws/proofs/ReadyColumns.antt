@@ -1,11 +1,11 @@
 -- Where bounds and resolution lie within refusal 31's ranges, every column stands within 3,000,000: c × resolution is at most the range and one
 -- resolution, and rounding adds little. Assumes nothing.
-use Prim.Native.Nat.{ℕ, zero, suc, _+_, _-_, _*_, _/_, _^_, _≤_, _<_, min}
+use Prim.Native.Nat.{ℕ, suc, _+_, _-_, _*_, _/_, _^_, _≤_, _<_, min}
 use native.Mathlib.Nat.{le-trans, le-of-eq, le-of-lt, le-of-suc-le-suc, suc-mul, mul-one, mul-assoc, mul-right-comm, mul-le-mul-right, mul-pos, le-div-iff-mul-le, le-of-mul-le-mul-right, div-mul-le-self, lt-div-mul-add}
 use native.Mathlib.Omega.{arith}
 use mathlib.Core.Path.{_≡_, sym, ap, subst, _∙_}
 use mathlib.Core.Logic.{inl, inr}
-use mathlib.Core.Bool.{Bool, true, false}
+use mathlib.Core.Bool.{Bool, false}
 use lib.Dec.{lit≤, lit<, leb}
 use lib.Ieee.{Float, binary64, toUnsigned, unlike}
 use lib.Ieee.Fits.{mul-fits}
@@ -25,7 +25,7 @@ use Rattle.numbers.proofs.Doubles.{k, o, u, Finite, Number, Upto, add-mono, sub
 use Rattle.bits.proofs.Accepted.{UpFrom}
 use Rattle.strips.specs.declared.Rect.{Rect}
 use Rattle.index.specs.Listing.{Bounded}
-use Rattle.columns.specs.declared.Columns.{Columns}
+use Rattle.filling.proofs.WithinBoundsNumbers.{quotient-from}
 use Rattle.columns.specs.Stands.{columnsOf, regularOf, xOf}
 use Rattle.columns.proofs.Steps.{x-regular, x-extra}
 use Rattle.columns.proofs.Sizes.{BoundedRect, Resolving, x-low-bounded, x-high-bounded}
@@ -103,20 +103,6 @@ units-few q n h = le-of-mul-le-mul-right (le-trans (units-near q) (z q (n * u) u
   where
     z : (q a u b : ℕ) → q ≤ a → b ≡ a + u → q + u ≤ b
     z q a u b h e = omega arith
-
--- ---- a quotient that reaches c is at least c less one before it is rounded
-quotient-from : (a b c : ℕ) → 0 < b → c ≤ 2 ^ 53 → c * u ≤ near binary64 a b → c * b ≤ a + b
-quotient-from a b zero p h l = let z : 0 * b ≡ 0 = native.Mathlib.Nat.zero-mul b in omega arith
-quotient-from a b (suc m) p h l = elim (order a (m * b)) [
-  | inl g ↦ absurd (no (m * u) (suc m * u) (near binary64 a b) u (suc-mul m u) l (le-trans (near-mono binary64 a b m 1 p (lit< tt) (le-trans (le-of-eq (mul-one a)) (le-of-lt g))) (le-of-eq (near-whole binary64 m (omega arith)))) (unit-pos binary64))
-  | inr g ↦ last (m * b) (suc m * b) (suc-mul m b) g
-]
-  where
-    no : (m s n u : ℕ) → s ≡ m + u → s ≤ n → n ≤ m → 0 < u → ⊥
-    no m s n u e g h l = omega arith
-
-    last : (m s : ℕ) → s ≡ m + b → m ≤ a → s ≤ a + b
-    last m s e h = omega arith
 
 -- ---- where a column stands
 

@@ -3,11 +3,11 @@ use Prim.Native.Nat.{ℕ, zero, suc, _+_, _-_, _*_, _<_, _≤_}
 use native.Mathlib.Omega.{arith}
 use mathlib.Core.Path.{_≡_, refl, sym, ap, subst, _∙_}
 use mathlib.Core.Logic.{_⊎_, inl, inr}
-use mathlib.Core.Bool.{Bool, true, false, _&&_}
+use mathlib.Core.Bool.{true, false}
 use mathlib.Core.List.{List, [], _∷_, map}
-use lib.ListN.{length, getD, take, drop, drop-of-length-le}
+use lib.ListN.{length, getD, drop, drop-of-length-le}
 use lib.Seq.{getD-take, drop-cons}
-use lib.Dec.{T, eqb, eqb→eq}
+use lib.Dec.{eqb, eqb→eq}
 use Rattle.numbers.proofs.Truth.{holds, either}
 use Rattle.numbers.proofs.Rounding.{order}
 use Rattle.kinds.specs.Kinds.{Kind, copiesOf}
@@ -102,7 +102,7 @@ pub kinds-many : (j : Job) → length (orientationCounts j) ≡ length (j .kinds
 unfolding orientationCounts
 kinds-many j = map-length (λ k. length (k .orientations)) (j .kinds)
 
-most-turns : (ks : List Kind) → Every GoodKind ks → (k : ℕ) → getD (map (λ a. length (a .orientations)) ks) k 0 ≤ 16
+pub most-turns : (ks : List Kind) → Every GoodKind ks → (k : ℕ) → getD (map (λ a. length (a .orientations)) ks) k 0 ≤ 16
 most-turns [] g k = omega arith
 most-turns (a ∷ ks) g zero = g .0 .orientationsMost
 most-turns (a ∷ ks) g (suc k) = most-turns ks (g .1) k

@@ -1,13 +1,12 @@
 -- Lists of lists: rearranged, swapped, with one that is not empty. Assumes nothing.
 use Prim.Native.Nat.{ℕ, zero, suc, _+_, _-_, _<_, _≤_}
 use native.Mathlib.Omega.{arith}
-use native.Mathlib.Numerals.{add-one}
 use mathlib.Core.Path.{_≡_, refl, sym, ap, _∙_, subst}
 use mathlib.Core.Logic.{_⊎_, inl, inr}
 use mathlib.Core.Bool.{Bool, true, false}
 use mathlib.Core.List.{List, [], _∷_, _++_, flatMap, append-assoc, append-nil, List·Memᴰ, List·Memᴰ·head, List·Memᴰ·tail, List·Memᴰ·cases-cons, List·Memᴰ·not-nil, List·Permᴰ, List·Permᴰ·nil, List·Permᴰ·cons, List·Permᴰ·swap, List·Permᴰ·trans, Permᴰ·refl, Permᴰ·symm, Permᴰ·append-left, Permᴰ·append-right, Permᴰ·middle}
 use lib.ListN.{length, getD}
-use lib.Seq.{slice, slice-empty, slice-cons}
+use lib.Seq.{slice, slice-cons}
 use Rattle.index.specs.Buckets.{upFrom, keep}
 use Rattle.index.proofs.Steps.{dich}
 
@@ -155,3 +154,11 @@ pub keep-flat : {A B : Type 0} (test : B → Bool) (f : A → List B) (xs : List
 unfolding flatMap keep
 keep-flat test f [] = refl
 keep-flat test f (x ∷ xs) = keep-append test (f x) (flatMap f xs) ∙ rw (keep-flat test f xs)
+
+-- one list more
+pub flat-snoc : {B : Type 0} (f : ℕ → List B) (m c : ℕ) → flatMap f (upFrom (suc m) c) ≡ flatMap f (upFrom m c) ++ f (c + m)
+unfolding flatMap upFrom
+flat-snoc f zero c = let e : c + 0 ≡ c = omega arith in rw (e, append-nil (f c))
+flat-snoc f (suc m) c =
+    let e : suc c + m ≡ c + suc m = omega arith in
+    ap (λ (l : List _). f c ++ l) (flat-snoc f m (suc c)) ∙ (sym (append-assoc (f c) (flatMap f (upFrom m (suc c))) (f (suc c + m))) ∙ ap (λ (k : ℕ). (f c ++ flatMap f (upFrom m (suc c))) ++ f k) e)

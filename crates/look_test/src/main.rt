@@ -249,21 +249,67 @@ fn look_twice(
     }
 }
 
-// The answers to one look.
-fn replay(
-    head: &[u8],
+// A table of entries. The `ensures` gives the length, which lending it as a slice needs.
+fn table() -> [usize; 130560]
+    ensures { λ r. ⌜ 130560 ≡ length r ⌝ }
+{
+    [1; 130560]
+}
+
+// A look with tables that hold ones before.
+fn look_fresh(
+    x0: f64,
+    x1: f64,
+    x: f64,
+    lo: f64,
+    hi: f64,
     sheet: &[f64],
     put: &[f64],
     inset: &[f64],
     apart: &[f64],
-    se: &mut [Entry],
-    ss: &mut [usize],
-    pe: &mut [Entry],
-    ps: &mut [usize],
-    gains: &mut [usize],
     out: &mut [f64],
 )
-    requires { ⌜ (45 ≡ length (now head)) × (length (now sheet) ≤ 6120) × (length (now put) ≤ 6120) × (length (now ss) ≡ buckets + 1) × (length (now ps) ≡ buckets + 1) × (length (now gains) ≡ buckets) ⌝ }
+    requires { ⌜ FairColumn x0 x1 x lo hi × FairStrips (now sheet) (now put) (now inset) (now apart) × (length (now sheet) ≤ 6120) × (length (now put) ≤ 6120) ⌝ }
+{
+    let mut se = table();
+    let mut ss = [1usize; 513];
+    let mut pe = table();
+    let mut ps = [1usize; 513];
+    let mut gains = [1usize; 512];
+    let ix = Index::new(x0, x1);
+    if enter_both(
+        ix,
+        sheet,
+        put,
+        &mut se,
+        &mut ss,
+        &mut pe,
+        &mut ps,
+        &mut gains,
+    ) {
+        look_twice(
+            ix,
+            x,
+            lo,
+            hi,
+            inset,
+            apart,
+            sheet,
+            &se,
+            &ss,
+            put,
+            &pe,
+            &ps,
+            out,
+        );
+        return;
+    }
+    show_bad();
+}
+
+// The answers to one look.
+fn replay(head: &[u8], sheet: &[f64], put: &[f64], inset: &[f64], apart: &[f64], out: &mut [f64])
+    requires { ⌜ (45 ≡ length (now head)) × (length (now sheet) ≤ 6120) × (length (now put) ≤ 6120) ⌝ }
 {
     let x0 = double(head, 5);
     let x1 = double(head, 13);
@@ -272,12 +318,7 @@ fn replay(
     let hi = double(head, 37);
     if fair_column(x0, x1, x, lo, hi) {
         if fair_strips(sheet, put, inset, apart) {
-            let ix = Index::new(x0, x1);
-            if enter_both(ix, sheet, put, se, ss, pe, ps, gains) {
-                look_twice(ix, x, lo, hi, inset, apart, sheet, se, ss, put, pe, ps, out);
-                return;
-            }
-            show_bad();
+            look_fresh(x0, x1, x, lo, hi, sheet, put, inset, apart, out);
             return;
         }
     }
@@ -300,86 +341,73 @@ fn numbers_of(head: &[u8]) -> usize
     6 * (count(head, 0) + count(head, 1) + count(head, 2) + count(head, 3))
 }
 
-// The look of a head and of all its strips.
-fn replay_parts(
-    head: &[u8],
-    strips: &[f64],
-    se: &mut [Entry],
-    ss: &mut [usize],
-    pe: &mut [Entry],
-    ps: &mut [usize],
-    gains: &mut [usize],
-    room: &mut [f64],
-)
-    requires { ⌜ (45 ≡ length (now head)) × (6120 ≡ length (now strips)) × (length (now ss) ≡ buckets + 1) × (length (now ps) ≡ buckets + 1) × (length (now gains) ≡ buckets) × (510 ≡ length (now room)) ⌝ }
+// Where the sheet's, placed, inset and apart strips end, and the numbers of the intervals.
+struct Ends {
+    sheet: usize,
+    placed: usize,
+    inset: usize,
+    apart: usize,
+    room: usize,
+}
+
+fn ends_of(head: &[u8]) -> Ends
+    requires { ⌜ 45 ≡ length (now head) ⌝ }
+    ensures { λ r. ⌜ (r .sheet ≤ r .placed) × (r .placed ≤ r .inset) × (r .inset ≤ r .apart) × (r .apart ≤ 6120) × (r .room ≤ 510) ⌝ }
 {
     let a = 6 * count(head, 0);
     let b = a + 6 * count(head, 1);
     let c = b + 6 * count(head, 2);
     let d = c + 6 * count(head, 3);
     let n = 2 * count(head, 4);
-    let sheet = &strips[..a];
-    let placed = &strips[a..b];
-    let inset = &strips[b..c];
-    let apart = &strips[c..d];
+    Ends {
+        sheet: a,
+        placed: b,
+        inset: c,
+        apart: d,
+        room: n,
+    }
+}
+
+// The look of a head and of all its strips.
+fn replay_parts(head: &[u8], strips: &[f64], room: &mut [f64])
+    requires { ⌜ (45 ≡ length (now head)) × (6120 ≡ length (now strips)) × (510 ≡ length (now room)) ⌝ }
+{
+    let e = ends_of(head);
+    let a = e.sheet;
+    let b = e.placed;
+    let c = e.inset;
+    let d = e.apart;
+    let n = e.room;
     replay(
         head,
-        sheet,
-        placed,
-        inset,
-        apart,
-        se,
-        ss,
-        pe,
-        ps,
-        gains,
+        &strips[..a],
+        &strips[a..b],
+        &strips[b..c],
+        &strips[c..d],
         &mut room[..n],
     );
 }
 
 // One look of the input, and one turn fewer; none where the input ends.
-fn turn(
-    left: u64,
-    strips: &mut [f64],
-    se: &mut [Entry],
-    ss: &mut [usize],
-    pe: &mut [Entry],
-    ps: &mut [usize],
-    gains: &mut [usize],
-    room: &mut [f64],
-) -> u64
-    requires { ⌜ (0 < left) × (6120 ≡ length (now strips)) × (length (now ss) ≡ buckets + 1) × (length (now ps) ≡ buckets + 1) × (length (now gains) ≡ buckets) × (510 ≡ length (now room)) ⌝ }
+fn turn(left: u64) -> u64
+    requires { ⌜ 0 < left ⌝ }
     ensures { λ r. ⌜ r < left ⌝ }
 {
     let mut head = [0u8; 45];
+    let mut strips = [1.0f64; 6120];
+    let mut room = [1.0f64; 510];
     let got = io::read_full(0, &mut head);
     if got < 45 {
         return 0;
     }
-    read_doubles(numbers_of(&head), strips);
-    replay_parts(&head, strips, se, ss, pe, ps, gains, room);
+    read_doubles(numbers_of(&head), &mut strips);
+    replay_parts(&head, &strips, &mut room);
     left - 1
 }
 
 fn main() {
-    let mut strips = [0.0f64; 6120];
-    let mut se = [0usize; 130560];
-    let mut ss = [0usize; 513];
-    let mut pe = [0usize; 130560];
-    let mut ps = [0usize; 513];
-    let mut gains = [0usize; 512];
-    let mut room = [0.0f64; 510];
     let mut left: u64 = 1000000;
     while left > 0 {
-        left = turn(
-            left,
-            &mut strips,
-            &mut se,
-            &mut ss,
-            &mut pe,
-            &mut ps,
-            &mut gains,
-            &mut room,
-        );
+        left = turn(left);
     }
 }

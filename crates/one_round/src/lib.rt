@@ -84,13 +84,11 @@ pub fn one_round<'a>(
         improvements: b.improvements,
     };
     if may_swap(rows, order, i, k) {
-        return try_swap::try_swap(
+        better::swap(order, i, k);
+        let f = fill_order::fill_order(
             ix,
             bounds,
             resolution,
-            drawn,
-            i,
-            k,
             order,
             rows,
             areas,
@@ -108,6 +106,21 @@ pub fn one_round<'a>(
             room,
             look_counts,
             next_column,
+            orientation,
+            x,
+            y,
+        );
+        let verdict = f.verdict;
+        let filled = f.totals;
+        return better::judge(
+            verdict,
+            filled,
+            drawn,
+            i,
+            k,
+            order,
+            next_column,
+            look_counts,
             orientation,
             x,
             y,

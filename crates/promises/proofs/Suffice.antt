@@ -3,37 +3,34 @@ use Prim.Native.Nat.{ℕ, zero, suc, _+_, _*_, _/_, _≤_, _<_}
 use native.Mathlib.Nat.{mul-le-mul-left, mul-le-mul-right, le-trans}
 use native.Mathlib.Omega.{arith}
 use mathlib.Core.Path.{_≡_, refl, sym, ap, _∙_}
-use mathlib.Core.Bool.{true, not}
+use mathlib.Core.Bool.{true}
 use mathlib.Core.List.{List, [], _∷_, _++_}
-use lib.ListN.{length, getD, take, drop, replicate}
-use lib.Dec.{ltb}
+use lib.ListN.{length, getD, drop, replicate}
 use borrow.Author.Tests.{le-ltb}
 use lib.Ieee.{Float}
 use Rattle.numbers.specs.Numbers.{posZero}
 use Rattle.trapezoid.specs.Strip.{capacity}
-use Rattle.index.specs.declared.Index.{Index}
-use Rattle.index.specs.declared.Interval.{Interval}
 use Rattle.job.specs.Jobs.{Job, accepted, readJob}
 use Rattle.filling.specs.declared.State.{State}
 use Rattle.filling.specs.declared.Refusal.the-variants as Why
-use Rattle.filling.specs.declared.Verdict.{Verdict}
 use Rattle.filling.specs.declared.Verdict.the-variants.{Accepted}
 use Rattle.filling.specs.Refusals.{refuseIf}
-use Rattle.filling.specs.Shapes.{Planner, plannerOf, Shape, noShape, shapeOf, standingStrips}
-use Rattle.filling.specs.Search.{Track, intervalsAt, searchAll}
+use Rattle.filling.specs.Shapes.{Planner, plannerOf, noShape, shapeOf, standingStrips}
+use Rattle.filling.specs.Search.{intervalsAt, searchAll}
 use Rattle.filling.specs.Choice.{Choice, choices, best}
 use Rattle.filling.specs.Rooms.{Rooms, Lent, intervalCapacity, positionCapacity, laid}
 use Rattle.filling.specs.Order.{rearranged}
 use Rattle.filling.specs.State.{standingOf, orderOf, tracksOf}
 use Rattle.filling.specs.Consistent.{sheetIndex, entriesFor}
 use Rattle.filling.specs.Start.{apartStrips, insetStrips, prepareVerdict, firstState, firstRooms, startVerdict, goodStart, startGiven, startOf}
-use Rattle.filling.specs.NextCopy.{newStrips, storeVerdict, winnerVerdict, copyVerdict, roomsAfter, stored, Step, placeNext, coreStep, stepGiven, nextCopyOf}
+use Rattle.filling.specs.NextCopy.{newStrips, storeVerdict, winnerVerdict, copyVerdict, roomsAfter, stored, placeNext, coreStep, stepGiven, nextCopyOf}
 use Rattle.filling.specs.Fill.{filled, fillFrom, fillOrder, plannedWith, plannedBy, fillJob, fillGiven, fillOf}
 use Rattle.filling.specs.Calls.{Call, nextCopy, callStep, afterCalls}
 use Rattle.filling.specs.Plain.{Plain, plainStart, plainTake}
 use Rattle.filling.proofs.Reading.{Sixfold, sixfold-append, capacity-append, length-laid, length-zeros}
 use Rattle.filling.proofs.Sizes.{Sized, sized}
 use Rattle.filling.proofs.Steps.{standing-sixfold, new-sixfold, Linked, Nexts, ChoicesNow, TracksNow, Took, Outcome, took, unchanged, in-job, place-taken, core-outcome, after-taken, refused≢accepted}
+use Rattle.filling.proofs.FillSteps.{fill-on}
 use Rattle.filling.proofs.Begin.{rearranged-length, start-good}
 use Rattle.filling.proofs.Runs.{step-consistent}
 use Rattle.filling.proofs.Numbers31.{WithinBounds}
@@ -203,16 +200,12 @@ module _ (bytes : List ℕ) (j : Job) (e : readJob bytes ≡ accepted j) (order 
       let t = core-counts s w q h (omega arith) iv a in
       rw (c, core-takes s w q h (omega arith) iv a, calls-take as′ (coreStep j s w iv .state) (coreStep j s w iv .rooms) (plainTake (plannerOf j) q (q .to-come)) d (rw t (omega arith)))
 
-  fill-on : (iv : List Float) (n′ : ℕ) (s : State) (w : Rooms) → coreStep j s w iv .verdict ≡ Accepted → fillFrom j iv (suc n′) s w ≡ fillFrom j iv n′ (coreStep j s w iv .state) (coreStep j s w iv .rooms)
-  unfolding fillFrom
-  fill-on iv n′ s w v = rw (v, fillFrom)
-
   fill-takes : (iv : List Float) → AmpleIntervals j m n iv → (n′ : ℕ) (s : State) (w : Rooms) (q : Plain) → Ready s w q → s .taken + n′ ≤ j .copies → (s′ : State) × (fillFrom j iv n′ s w ≡ filled s′)
   fill-takes iv a zero s w q h l = (s, unfold fillFrom in refl)
   fill-takes iv a (suc n′) s w q h l =
       let t = core-counts s w q h (omega arith) iv a in
       let f = fill-takes iv a n′ (coreStep j s w iv .state) (coreStep j s w iv .rooms) (plainTake (plannerOf j) q (q .to-come)) (core-ready s w q h (omega arith) iv a) (rw t (omega arith)) in
-      (f .0, fill-on iv n′ s w (core-takes s w q h (omega arith) iv a) ∙ f .1)
+      (f .0, fill-on j iv n′ s w (core-takes s w q h (omega arith) iv a) ∙ f .1)
 
 -- rooms that hold what a start stores
 pub record AmpleStart (j : Job) (l : Lent) : Type 0 where

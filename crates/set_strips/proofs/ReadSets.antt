@@ -1,33 +1,33 @@
 -- What a set that was read again promises, and the strips of a position without a set. Assumes nothing.
-use mathlib.Core.Path.{_≡_, refl, sym, ap, ap₂, subst, _∙_}
+use mathlib.Core.Path.{_≡_, refl, sym, ap, subst, _∙_}
 use mathlib.Core.Logic.{_⊎_, inl, inr}
-use mathlib.Core.Bool.{Bool, true, false, cond}
+use mathlib.Core.Bool.{Bool, true, false}
 use mathlib.Core.List.{List, [], _∷_, _++_}
 use Prim.Native.Nat.{ℕ, zero, suc, _+_, _-_, _*_, _/_, _≤_, _<_}
 use native.Mathlib.Omega.{arith}
 use native.Mathlib.Numerals.{add-one}
-use lib.ListN.{length, getD, set, take, drop, length-set, take-append-drop}
+use lib.ListN.{length, getD, set, take, drop, take-append-drop}
 use lib.Seq.{length-take-le, take-suc, take-suc-set, getD-take}
 use lib.Ieee.{Float, nan, binary64, ofBits, div}
 use Rattle.numbers.proofs.Rounding.{order}
 use Rattle.trapezoid.specs.declared.Trapezoid.{Trapezoid}
-use Rattle.trapezoid.specs.Strip.{flat, capacity}
+use Rattle.trapezoid.specs.Strip.{flat}
 use Rattle.slab.specs.Slab as Slab
-use Rattle.strips.specs.declared.Rect.{Rect}
 use Rattle.strips.specs.declared.Stored.the-variants.{Count, NoRoom}
 use Rattle.strips.specs.Strips.{Loops, bounds, trapezoids, laid, Stowed, stored, strips-compute}
 use Rattle.strips.specs.declared.Stored.{Stored}
 use Rattle.strips.proofs.Laying.{stored-fits, stored-count}
 use Rattle.bits.specs.declared.Refusal.{Refusal}
-use Rattle.bits.specs.Reading.{Read, ok, bad}
+use Rattle.bits.specs.Reading.{ok, bad}
 use Rattle.sets.specs.declared.SetRead.{SetRead}
 use Rattle.sets.specs.declared.SetRead.the-variants as Sets
 use Rattle.sets.specs.Answers.{setRead, setFits}
-use Rattle.sets.specs.Sets.{Set, aSet, found, setAt}
+use Rattle.sets.specs.Sets.{aSet, found, setAt}
 use Rattle.sets.proofs.Accepted.{Ends, ends-most, Good, set-good}
 use Rattle.filling.specs.Shapes.{setBounds}
 use Rattle.filling.specs.Rooms as Rooms
 use Rattle.filling.proofs.Reading.{length-flat}
+use Rattle.filling.proofs.WithinBoundsStrips.{ends-loops}
 use Rattle.set_strips.specs.SetStrips.{stripsOf, stripsAt}
 
 -- ---- the loop ends
@@ -41,17 +41,6 @@ shorter-next short ends i a b e =
     rw f (take-suc-set short i (getD ends i 0) a ∙ ap (λ (l : List ℕ). l ++ (getD ends i 0 ∷ [])) e ∙ sym (take-suc ends i 0 b))
 
 -- ---- a set that was read
-
-ends-loops : (first n : ℕ) (es : List ℕ) → Ends first es n → Loops first es n
-unfolding Loops
-ends-loops first n [] h = h
-ends-loops first n (e ∷ es) h = (first-below first e (h .0), end-below e n (length es) (ends-most e n es (h .1)), ends-loops e n es (h .1))
-  where
-    first-below : (a b : ℕ) → a + 3 ≤ b → a ≤ b
-    first-below a b h = omega arith
-
-    end-below : (e n l : ℕ) → e + 3 * l ≤ n → e ≤ n
-    end-below e n l h = omega arith
 
 ends-few : (first n : ℕ) (es : List ℕ) (i : ℕ) → Ends first es n → i < length es → getD es i 0 ≤ n
 ends-few first n [] i h l = absurd (none i l)
@@ -115,10 +104,6 @@ module _ {bytes : List ℕ} {at : ℕ} {room : List Float} {ends : List ℕ} {n 
   bounds-are = rw (S .is, half)
 
 -- ---- strips that are stored, or not
-
-pub capacity-flat : (l : List Trapezoid) → capacity (flat l) ≡ length l
-unfolding capacity
-capacity-flat l = let e = length-flat l in omega arith
 
 -- from the first strip on
 pub laid-first : (ss : List Trapezoid) (room : List Float) → laid ss room 0 ≡ Rooms.laid (flat ss) room

@@ -1,11 +1,9 @@
 -- Both passes and the bounds together are the shapes by slot. Assumes nothing.
 use mathlib.Core.Path.{_≡_, refl, sym, ap, ap₂, subst, _∙_}
-use mathlib.Core.Logic.{_≢_}
 use mathlib.Core.List.{List, [], _∷_, _++_, map, flatMap, append-nil, append-assoc}
 use Prim.Native.Nat.{ℕ, zero, suc, _+_, _-_, _*_, _/_, _%_, _≤_, _<_}
 use native.Mathlib.Omega.{arith}
-use native.Mathlib.Numerals.{add-one}
-use lib.ListN.{length, getD, take, drop, length-append, length-map}
+use lib.ListN.{length, getD, length-append, length-map}
 use lib.Seq.{ext-getD}
 use lib.Ieee.{Float, nan}
 use Rattle.trapezoid.specs.declared.Trapezoid.{Trapezoid}
@@ -19,9 +17,9 @@ use Rattle.filling.specs.Shapes.{Shape, noShape}
 use Rattle.filling.specs.Rooms.{laid}
 use Rattle.filling.specs.State.{bySlot, Part, flatParts, partAt, flatBounds, boundsAt}
 use Rattle.filling.specs.Start.{partsFrom}
-use Rattle.filling.proofs.Reading.{length-flat, getD-bySlot, length-bySlot, bounds-slot}
-use Rattle.set_strips.proofs.ReadSets.{capacity-flat, laid-first}
-use Rattle.shapes.specs.declared.ShapesLaid.{ShapesLaid}
+use Rattle.filling.proofs.Reading.{getD-bySlot, length-bySlot, bounds-slot}
+use Rattle.filling.proofs.WithinBoundsStrips.{capacity-flat}
+use Rattle.set_strips.proofs.ReadSets.{laid-first}
 use Rattle.shapes.specs.declared.ShapesLaid.the-variants as Laid
 use Rattle.slots.specs.Slots.{slotStrips, slotBounds, slotOf, stripsTo, Column, SlotsLaid, BoundsTo}
 use Rattle.shapes.specs.ShapeRooms.{ShapesAre}

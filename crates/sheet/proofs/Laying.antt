@@ -1,11 +1,11 @@
 -- The sheet's strips and entries, from what the calls leave. Assumes nothing.
-use mathlib.Core.Path.{_≡_, refl, sym, ap, ap₂, subst, _∙_}
+use mathlib.Core.Path.{_≡_, refl, sym, ap, subst, _∙_}
 use mathlib.Core.Logic.{_⊎_, inl, inr}
 use mathlib.Core.Bool.{Bool, true, false, true≢false}
-use mathlib.Core.List.{List, [], _∷_, _++_}
-use Prim.Native.Nat.{ℕ, zero, suc, _+_, _-_, _*_, _/_, _≤_, _<_}
+use mathlib.Core.List.{List, _++_}
+use Prim.Native.Nat.{ℕ, _+_, _-_, _*_, _≤_, _<_}
 use native.Mathlib.Omega.{arith}
-use lib.ListN.{length, getD, take, drop}
+use lib.ListN.{length, take, drop}
 use lib.Seq.{take-at}
 use lib.Ieee.{Float}
 use Rattle.numbers.proofs.Rounding.{order}
@@ -14,23 +14,23 @@ use Rattle.trapezoid.specs.Strip.{flat, capacity}
 use Rattle.index.specs.declared.Index.{Index}
 use Rattle.index.specs.Buckets.{entriesOf, indexOf}
 use Rattle.index.specs.Listing.{Laid}
-use Rattle.enter.specs.EntryRoom.{Rooms, Entering, enterOf, entriesIn}
+use Rattle.enter.specs.EntryRoom.{Entering, enterOf, entriesIn}
 use Rattle.enter.specs.Gaps.{rooms, entering}
 use Rattle.enter.proofs.Starts.{enter-fits, enter-over}
 use Rattle.strips.specs.declared.Rect.{Rect}
 use Rattle.strips.specs.declared.Stored.{Stored}
 use Rattle.strips.specs.declared.Stored.the-variants.{Count, NoRoom}
-use Rattle.strips.specs.Strips.{Stowed, stored}
+use Rattle.strips.specs.Strips.{stored}
 use Rattle.sets.specs.Sets.{setAt}
 use Rattle.filling.specs.Shapes.{setBounds, setStrips}
 use Rattle.filling.specs.Rooms.{laid}
 use Rattle.filling.specs.Consistent.{sheetIndex, entriesFor}
 use Rattle.filling.proofs.Reading.{length-flat}
 use Rattle.set_strips.specs.SetStrips.{stripsOf, stripsAt}
-use Rattle.set_strips.proofs.ReadSets.{capacity-flat, laid-first, stored-number, stored-room, not-stored}
-use Rattle.sheet.specs.declared.SheetLaid.{SheetLaid}
+use Rattle.filling.proofs.WithinBoundsStrips.{capacity-flat}
+use Rattle.set_strips.proofs.ReadSets.{laid-first, stored-number, stored-room, not-stored}
 use Rattle.sheet.specs.declared.SheetLaid.the-variants as Sheet
-use Rattle.sheet.specs.SheetRoom.{SheetIn, SheetIs}
+use Rattle.sheet.specs.SheetRoom.{SheetIs}
 
 -- ---- strips laid from the first on
 module _ (ss : List Trapezoid) (room₀ room : List Float) (r : Stored) (e : record { answer = r; room = room } ≡ stored ss room₀ 0) where

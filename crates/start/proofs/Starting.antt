@@ -1,48 +1,41 @@
 -- A start, from what its calls leave. Assumes nothing.
-use mathlib.Core.Path.{_≡_, refl, sym, ap, ap₂, subst, _∙_}
-use mathlib.Core.Bool.{Bool, true, false, not}
-use mathlib.Core.List.{List, [], _∷_, _++_, map}
-use Prim.Native.Nat.{ℕ, zero, suc, _+_, _-_, _*_, _/_, _≤_, _<_}
+use mathlib.Core.Path.{_≡_, refl, sym, ap, subst, _∙_}
+use mathlib.Core.Bool.{Bool, true, false}
+use mathlib.Core.List.{List}
+use Prim.Native.Nat.{ℕ, _-_, _≤_, _<_}
 use native.Mathlib.Omega.{arith}
-use native.Mathlib.Numerals.{add-one}
-use lib.ListN.{length, getD, set, take, drop, replicate, length-replicate}
-use lib.Seq.{paste, paste-zero, paste-suc, length-paste, take-all}
-use lib.Dec.{ltb}
+use lib.ListN.{length}
 use lib.Ieee.{Float}
 use borrow.Author.Tests.{lt-ltb, le-ltb}
 use Rattle.numbers.specs.Numbers.{posZero}
-use Rattle.strips.specs.declared.Rect.{Rect}
 use Rattle.bits.specs.declared.Refusal as Input
 use Rattle.job.specs.declared.Header.{Header}
-use Rattle.job.specs.declared.JobRead.{JobRead}
-use Rattle.job.specs.declared.JobRead.the-variants.{Good, NoJob}
+use Rattle.job.specs.declared.JobRead.the-variants.{Good}
 use Rattle.job.specs.Jobs.{Job, Answer, accepted, refused, readJob}
 use Rattle.job.specs.Meaning.{jobRead}
 use Rattle.job.proofs.Accepted.{job-good}
 use Rattle.filling.specs.declared.Refusal.{Refusal}
 use Rattle.filling.specs.declared.Refusal.the-variants as Why
 use Rattle.filling.specs.declared.State.{State}
-use Rattle.filling.specs.declared.Tables.{Tables}
 use Rattle.filling.specs.declared.Verdict.{Verdict}
 use Rattle.filling.specs.declared.Verdict.the-variants.{Accepted, Refused}
 use Rattle.filling.specs.Refusals.{refuseIf}
 use Rattle.filling.specs.Shapes.{Planner, plannerOf}
-use Rattle.filling.specs.Rooms.{Rooms, Lent, positionCapacity, laid, zeros, zeroRooms, onlyPositions}
+use Rattle.filling.specs.Rooms.{Lent, positionCapacity, laid, zeros, zeroRooms, onlyPositions}
 use Rattle.filling.specs.Order.{rearranged}
-use Rattle.filling.specs.State.{bySlot, slotShape, zeroState, emptyLayout}
-use Rattle.filling.specs.Start.{tablesOf, firstState, firstRooms, prepareVerdict, startVerdict, Start, noStart, goodStart, startJob, startGiven, startOf}
+use Rattle.filling.specs.Start.{firstRooms, prepareVerdict, startVerdict, Start, noStart, goodStart, startJob, startGiven, startOf}
 use Rattle.filling.proofs.Begin.{rearranged-length}
 use Rattle.tables.specs.Tabled.{Tabled}
 use Rattle.tables.proofs.Tabling.{jobIn, kinds-in, tabled}
-use Rattle.prepare.specs.declared.Prepared.{Prepared}
 use Rattle.prepare.specs.declared.Prepared.the-variants as Prepared
-use Rattle.prepare.specs.Ready.{FromTables, given, Readied, PreparedIs}
+use Rattle.prepare.specs.Ready.{FromTables}
 use Rattle.prepare.proofs.Tabled.{from-tables}
 use Rattle.started.specs.declared.Started.{Started}
 use Rattle.started.specs.Answers.{notStarted}
 use Rattle.start.specs.Answered.{lentOf, answered}
 use Rattle.begin.specs.Beginning.{Cleared, Begun}
-use Rattle.begin.proofs.Beginning.{start-refused, start-good, not-begun, begun-refused}
+use Rattle.filling.proofs.Begin.{start-refused, start-good}
+use Rattle.begin.proofs.Beginning.{not-begun, begun-refused}
 
 -- ---- the verdict
 module _ (j : Job) (order : List ℕ) (l : Lent) (positions : ℕ) (e : positionCapacity (l .positions) ≡ positions) where

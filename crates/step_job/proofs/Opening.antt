@@ -1,9 +1,8 @@
 -- The parts of a step, and the tables of the job that was read. Assumes nothing.
-use Prim.Native.Nat.{ℕ, zero, suc, _+_, _*_, _<_, _≤_}
-use native.Mathlib.Omega.{arith}
+use Prim.Native.Nat.{ℕ, _+_, _*_, _<_, _≤_}
 use mathlib.Core.Path.{_≡_, refl, sym, ap, subst, subst⁻¹, _∙_}
-use mathlib.Core.Bool.{Bool, true, false}
-use mathlib.Core.List.{List, [], _∷_, map}
+use mathlib.Core.Bool.{true, false}
+use mathlib.Core.List.{List, []}
 use lib.ListN.{length, getD, take, drop}
 use lib.Ieee.{Float}
 use Rattle.numbers.specs.Numbers.{posZero}
@@ -11,8 +10,6 @@ use Rattle.trapezoid.specs.Strip.{capacity}
 use Rattle.index.specs.Listing.{Laid}
 use Rattle.bits.specs.declared.Refusal as Bits
 use Rattle.filling.specs.declared.Refusal.{Refusal}
-use Rattle.kinds.specs.Kinds.{Kind}
-use Rattle.kinds.proofs.Accepted.{Every, GoodKind}
 use Rattle.job.specs.declared.Header.{Header}
 use Rattle.job.specs.Jobs.{Job, Answer, accepted, refused, readJob}
 use Rattle.job.proofs.Accepted.{GoodJob, job-good}
@@ -24,11 +21,9 @@ use Rattle.filling.specs.State.{orientationCounts, orderOf}
 use Rattle.filling.specs.Consistent.{sheetIndex, consistent}
 use Rattle.filling.specs.NextCopy as Next
 use Rattle.filling.specs.NextCopy.{noStep, placeNext, coreStep, stepJob, stepGiven, nextCopyOf}
-use Rattle.tables.specs.Tabled.{Tabled}
 use Rattle.tables.proofs.Tabling.{jobIn, kinds-in, tabled}
 use Rattle.filling_laws.proofs.Ready.{laid-whole, strips-within}
-use Rattle.filling_laws.proofs.ReadyOrder.{none-left}
-use Rattle.step.specs.declared.Stepped.{Stepped}
+use Rattle.filling_laws.proofs.ReadyOrder.{most-turns, none-left}
 use Rattle.step.specs.Going.{Going, stepOf}
 use Rattle.step_job.specs.Opened.{Opened}
 
@@ -74,11 +69,6 @@ pub record Numbers (rows : List ℕ) (kinds copies : ℕ) : Type 0 where
   pub rows-long : 256 ≤ length rows
   pub turns-few : (k : ℕ) → k < kinds → getD rows (4 * k + 3) 0 ≤ 16
   pub copies-few : copies ≤ 4096
-
-most-turns : (ks : List Kind) → Every GoodKind ks → (k : ℕ) → getD (map (λ a. length (a .orientations)) ks) k 0 ≤ 16
-most-turns [] g k = omega arith
-most-turns (a ∷ ks) g zero = g .0 .orientationsMost
-most-turns (a ∷ ks) g (suc k) = most-turns ks (g .1) k
 
 turns-most : (j : Job) → GoodJob j → (k : ℕ) → getD (orientationCounts j) k 0 ≤ 16
 unfolding orientationCounts

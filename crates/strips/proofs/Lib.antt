@@ -5,3 +5,4 @@ pub mod SlabWalk
 pub mod Laying
 pub mod Sizes
 pub mod Cases
+pub mod Slots

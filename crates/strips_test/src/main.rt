@@ -152,22 +152,27 @@ fn show_stored(room: &[f64], n: usize) {
     }
 }
 
-// The strips and bounds of one set.
-fn replay(
-    points: &[f64],
-    n: usize,
-    ends: &[u16],
-    sheet: bool,
-    es: &mut [f64],
-    rows: &mut [f64],
-    line: &mut [f64],
-    room: &mut [f64],
-)
-    requires { ⌜ (0 < n) × (2 * n ≤ length (now points)) × Loops 0 (now ends) n × (6 * n ≤ length (now es)) × (3 * n ≤ length (now rows)) × (n + 2 ≤ length (now line)) ⌝ }
+// The strips and bounds of one set, in tables that hold ones before.
+fn replay(points: &[f64], n: usize, ends: &[u16], sheet: bool)
+    requires { ⌜ (0 < n) × (n ≤ 512) × (2 * n ≤ length (now points)) × Loops 0 (now ends) n ⌝ }
 {
-    let stored = strips::trapezoids(points, n, ends, sheet, es, rows, line, room, 0);
+    let mut es = [1.0f64; 3072];
+    let mut rows = [1.0f64; 1536];
+    let mut line = [1.0f64; 514];
+    let mut room = [1.0f64; 98304];
+    let stored = strips::trapezoids(
+        points,
+        n,
+        ends,
+        sheet,
+        &mut es,
+        &mut rows,
+        &mut line,
+        &mut room,
+        0,
+    );
     match stored {
-        strips::Stored::Count(m) => show_stored(room, m),
+        strips::Stored::Count(m) => show_stored(&room, m),
         strips::Stored::NoRoom => show_refusal(),
     }
     show_bounds(strips::bounds(points, n));
@@ -178,21 +183,12 @@ fn show_refusal() {
 }
 
 // The strips and bounds of what may be a set.
-fn try_set(
-    points: &[f64],
-    n: usize,
-    ends: &[u16],
-    sheet: bool,
-    es: &mut [f64],
-    rows: &mut [f64],
-    line: &mut [f64],
-    room: &mut [f64],
-)
-    requires { ⌜ (2 * n ≤ length (now points)) × (6 * n ≤ length (now es)) × (3 * n ≤ length (now rows)) × (n + 2 ≤ length (now line)) ⌝ }
+fn try_set(points: &[f64], n: usize, ends: &[u16], sheet: bool)
+    requires { ⌜ (n ≤ 512) × (2 * n ≤ length (now points)) ⌝ }
 {
     if n > 0 {
         if loops_lie(ends, n) {
-            replay(points, n, ends, sheet, es, rows, line, room);
+            replay(points, n, ends, sheet);
         }
     }
 }
@@ -216,46 +212,26 @@ fn points_of(head: &[u8]) -> usize
 }
 
 // One set of the input, and one turn fewer; none where the input ends.
-fn turn(
-    left: u64,
-    points: &mut [f64],
-    ends: &mut [u16],
-    es: &mut [f64],
-    rows: &mut [f64],
-    line: &mut [f64],
-    room: &mut [f64],
-) -> u64
-    requires { ⌜ (0 < left) × (1024 ≡ length (now points)) × (64 ≡ length (now ends)) × (3072 ≡ length (now es)) × (1536 ≡ length (now rows)) × (514 ≡ length (now line)) ⌝ }
+fn turn(left: u64) -> u64
+    requires { ⌜ 0 < left ⌝ }
     ensures { λ r. ⌜ r < left ⌝ }
 {
     let mut head = [0u8; 132];
+    let mut points = [1.0f64; 1024];
+    let mut ends = [1u16; 64];
     let got = io::read_full(0, &mut head);
     let loops = loops_of(&head);
     let n = points_of(&head);
-    read_points(n, points);
-    take_ends(&head, loops, ends);
+    read_points(n, &mut points);
+    take_ends(&head, loops, &mut ends);
     let sheet = head[0] == 1;
-    try_set(points, n, &ends[..loops], sheet, es, rows, line, room);
+    try_set(&points, n, &ends[..loops], sheet);
     if got < 132 { 0 } else { left - 1 }
 }
 
 fn main() {
-    let mut points = [0.0f64; 1024];
-    let mut ends = [0u16; 64];
-    let mut es = [0.0f64; 3072];
-    let mut rows = [0.0f64; 1536];
-    let mut line = [0.0f64; 514];
-    let mut room = [0.0f64; 98304];
     let mut left: u64 = 1000000;
     while left > 0 {
-        left = turn(
-            left,
-            &mut points,
-            &mut ends,
-            &mut es,
-            &mut rows,
-            &mut line,
-            &mut room,
-        );
+        left = turn(left);
     }
 }

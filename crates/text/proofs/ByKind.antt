@@ -1,9 +1,9 @@
 -- The lines that go by kind are those of the job's kinds, and the lines' lengths. Assumes nothing.
-use Prim.Native.Nat.{ℕ, zero, suc, _+_, _*_, _≤_, _<_}
+use Prim.Native.Nat.{ℕ, suc, _+_, _*_, _≤_, _<_}
 use mathlib.Core.Path.{_≡_, refl, sym, ap, ap₂, _∙_}
 use mathlib.Core.Logic.{inl, inr}
 use mathlib.Core.Bool.{Bool, true, false}
-use mathlib.Core.List.{List, [], _∷_, _++_, map, flatMap, append-assoc, append-nil}
+use mathlib.Core.List.{List, [], _∷_, _++_, map, flatMap}
 use native.Mathlib.Omega.{arith}
 use native.Mathlib.Numerals.{add-one}
 use lib.ListN.{length, getD, take, length-append}
@@ -11,13 +11,13 @@ use lib.Ieee.{Float}
 use borrow.Author.Tests.{eq-eqb, ne-eqb}
 use Rattle.numbers.proofs.Rounding.{order}
 use Rattle.index.specs.Buckets.{upFrom}
+use Rattle.index.proofs.Flat.{flat-snoc}
 use Rattle.kinds.specs.Kinds.{Kind}
 use Rattle.job.specs.Jobs.{Job}
 use Rattle.filling.specs.declared.Plan.{Plan}
-use Rattle.filling.specs.Accounts.{Position}
 use Rattle.filling.specs.State.{orientationCounts}
 use Rattle.tables.specs.Tabled.{Tabled}
-use Rattle.nesting.specs.CopyOrder.{Numbered, numbered}
+use Rattle.nesting.specs.CopyOrder.{numbered}
 use Rattle.nesting.specs.Text.{decimal, hex, line, putWord, leftWord, fillWord, lookWord, rightWord, areaWord, offcutWord, planLine, putLine, positionAt, putLines, leftLine, leftLines, fillLine, fillLines, lookLine, lookLines, lastLines, planText}
 use Rattle.lines.specs.Writing.{Wrote}
 use Rattle.lines.proofs.Appending.{wrote-none, wrote-both, wrote-same}
@@ -27,13 +27,6 @@ use Rattle.text.specs.Tables.{fillAt, putsTo, leftsTo, fillsTo, lookAt, 
 
 -- ---- one line more
 
-flat-snoc : (f : ℕ → List ℕ) (m c : ℕ) → flatMap f (upFrom m c) ++ f (c + m) ≡ flatMap f (upFrom (suc m) c)
-unfolding flatMap upFrom
-flat-snoc f zero c = let e : c + 0 ≡ c = omega arith in rw (e, append-nil (f c))
-flat-snoc f (suc m) c =
-    let e : c + suc m ≡ suc c + m = omega arith in
-    append-assoc (f c) (flatMap f (upFrom m (suc c))) (f (c + suc m)) ∙ ap (λ (l : List ℕ). f c ++ l) (ap (λ (k : ℕ). flatMap f (upFrom m (suc c)) ++ f k) e ∙ flat-snoc f m (suc c))
-
 pub lines-none : (f : ℕ → List ℕ) (b : List ℕ) (at : ℕ) → Wrote b at (flatMap f (upFrom 0 0)) b at
 unfolding flatMap upFrom
 lines-none f b at = wrote-none b at
@@ -41,7 +34,7 @@ lines-none f b at = wrote-none b at
 pub lines-next : (f : ℕ → List ℕ) {b m a : List ℕ} {at p e : ℕ} (i : ℕ) → Wrote b at (flatMap f (upFrom i 0)) m p → Wrote m p (f i) a e → Wrote b at (flatMap f (upFrom (i + 1) 0)) a e
 lines-next f i u v =
     let z : 0 + i ≡ i = omega arith in
-    wrote-same (ap (λ (k : ℕ). flatMap f (upFrom i 0) ++ f k) (sym z) ∙ (flat-snoc f i 0 ∙ ap (λ (k : ℕ). flatMap f (upFrom k 0)) (sym (add-one i)))) (wrote-both u v)
+    wrote-same (ap (λ (k : ℕ). flatMap f (upFrom i 0) ++ f k) (sym z) ∙ (sym (flat-snoc f i 0) ∙ ap (λ (k : ℕ). flatMap f (upFrom k 0)) (sym (add-one i)))) (wrote-both u v)
 
 -- ---- lengths
 

@@ -1,26 +1,16 @@
-use mathlib.Core.Path.{_≡_, sym, ap, _∙_, refl, subst}
-use mathlib.Core.Bool.{Bool, true, false}
-use mathlib.Core.List.{List, [], _∷_, _++_}
-use Prim.Native.Nat.{ℕ, suc, _+_, _-_, _*_, _/_, _≤_, _<_}
+use mathlib.Core.Path.{_≡_, sym, ap, _∙_, refl}
+use mathlib.Core.List.{List}
+use Prim.Native.Nat.{ℕ, _+_, _-_, _≤_}
 use native.Mathlib.Omega.{arith}
 use lib.ListN.{length, getD, set, length-set}
 use lib.Seq.{getD-set-other}
-use borrow.Author.Needs.{needs}
-use Rattle.trapezoid.specs.declared.Trapezoid.{Trapezoid}
-use Rattle.trapezoid.specs.Strip.{stripAt}
-use Rattle.index.specs.Buckets.{buckets, bucketIn, entered, entriesOf}
-use Rattle.index.specs.Listing.{Laid}
-use Rattle.index.proofs.Steps.{bucket-top}
-use Rattle.enter.specs.EntryRoom.{entriesIn, startOf, startsOf, Rooms, Entering, enterOf}
-use Rattle.enter.specs.Gaps.{Moved, before, Opened, Blocks, filled, rooms, entering, newIn, one, Counted}
-use Rattle.enter.proofs.Starts.{CountedTo, counted-start, counted-step, counted-end, cleared-step, count-turn, counted-none, before-first, before-next, before-pos, before-back, before-rise, start-gain, start-last, start-rise, laid-starts, laid-entries, laid-table, enter-fits, enter-over}
-use Rattle.enter.proofs.Opening.{moved-start, moved-step, opened-start, opened-turn, opened-end, opened-blocks}
-use Rattle.enter.proofs.GapFilling.{filled-on, filled-end, strip-room, fill-turn, all-entries, copy-blocks, copy-laid, copy-entered, copy-refused}
+use Rattle.enter.specs.Gaps.{filled, rooms}
+use Rattle.enter.proofs.GapFilling.{filled-on, filled-end}
 use Rattle.enter.proofs.fill_strip.Statement.{statement}
 use Rattle.enter.proofs.fill_strip.Tie as tie
 use Rattle.enter.proofs.fill_strip.Reads as reads
 use Rattle.enter.proofs.fill_strip.Lts as lts
-use Rattle.enter.proofs.set_entry.Reads as set-entry-reads
+use Rattle.gaps.proofs.set_entry.Reads as set-entry-reads
 
 past : (b d : ℕ) → b + 1 ≤ d → d + 1 ≡ b + 1 → ⊥
 past b d a q = omega arith

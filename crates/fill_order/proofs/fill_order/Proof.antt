@@ -2,19 +2,18 @@
 use Prim.Native.Nat.{ℕ}
 use mathlib.Core.Path.{_≡_, ap, _∙_}
 use lib.ListN.{length, replicate}
-use borrow.Author.Needs.{needs}
 use Rattle.fill_order.proofs.fill_order.Statement.{statement}
 use Rattle.fill_order.proofs.fill_order.Tie as tie
 use Rattle.fill_order.proofs.fill_order.Lts as lts
 
 set-all-requires : tie.Need-set-all-requires
-set-all-requires c κs = search needs
+set-all-requires c κs = tt
 
 set-all-requires-2 : tie.Need-set-all-requires-2
-set-all-requires-2 c κs = search needs
+set-all-requires-2 c κs = tt
 
 set-all-requires-3 : tie.Need-set-all-requires-3
-set-all-requires-3 c κs = search needs
+set-all-requires-3 c κs = tt
 
 fill-copies-requires : tie.Need-fill-copies-requires
 fill-copies-requires c κs = let p = c .before .before .before .before .before .before .before .before .before .before .before .before .before .before .before .before .before .before .before .before .before .before .before .before .before .before .before .before .before .before .before .before .before .before .before .before .before .before .before .before .before .before .pre in (

@@ -8,19 +8,8 @@ loops-lie-requires c κs = search needs
 
 replay-requires : tie.Need-replay-requires
 replay-requires c κs =
-    (c .before .before .before .before .before .before .if1 .taken, search needs, c .before .before .before .before .before .loops-lie .ensures (c .before .before .before .before .if2 .taken), search needs, search needs, search needs)
-
-same-length : tie.Need-same-length
-same-length c = search needs
-
-same-length-2 : tie.Need-same-length-2
-same-length-2 c = search needs
-
-same-length-3 : tie.Need-same-length-3
-same-length-3 c = search needs
-
-same-length-4 : tie.Need-same-length-4
-same-length-4 c = search needs
+    let p = c .before .before .before .before .before .pre in
+    (c .before .before .if1 .taken, p .0, p .1, c .before .loops-lie .ensures (c .if2 .taken))
 
 returns : tie.Need-returns
 returns c = search needs
@@ -32,15 +21,4 @@ returns-3 : tie.Need-returns-3
 returns-3 c = search needs
 
 pub try-set-spec : {M : Type 1} → statement M
-try-set-spec =
-    tie.close
-    (tie.spec
-    loops-lie-requires
-    replay-requires
-    same-length
-    same-length-2
-    same-length-3
-    same-length-4
-    returns
-    returns-2
-    returns-3)
+try-set-spec = tie.close (tie.spec loops-lie-requires replay-requires returns returns-2 returns-3)

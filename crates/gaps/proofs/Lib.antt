@@ -1,0 +1,4 @@
+pub mod Before
+pub mod Opening
+pub mod Tail
+pub mod Inserting

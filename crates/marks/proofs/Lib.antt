@@ -1,0 +1,3 @@
+pub mod NewIn
+pub mod Spans
+pub mod Marking

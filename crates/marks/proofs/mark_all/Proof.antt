@@ -1,0 +1,100 @@
+use mathlib.Core.Path.{_≡_, sym, _∙_, subst}
+use Prim.Native.Nat.{ℕ, _+_, _-_, _≤_}
+use native.Mathlib.Omega.{arith}
+use lib.ListN.{length}
+use Rattle.index.specs.Buckets.{buckets}
+use Rattle.marks.proofs.NewIn.{new-few}
+use Rattle.marks.proofs.Marking.{Marking, marking-none, marking-turn}
+use Rattle.marks.proofs.mark_all.Statement.{statement}
+use Rattle.marks.proofs.mark_all.Tie as tie
+use Rattle.marks.proofs.mark_all.Reads as reads
+use Rattle.marks.proofs.mark_all.Lts as lts
+use Rattle.marks.proofs.clear.Reads as clear-reads
+use Rattle.marks.proofs.kept_span.Reads as kept-span-reads
+use Rattle.marks.proofs.mark.Reads as mark-reads
+
+abbrev Inv-loop : tie.InvT-loop
+Inv-loop ix standing from to firsts lasts first end marks₀ i₀ marks i = (from ≤ i) × (i ≤ to) × (length marks ≡ buckets) × Marking ix standing from to i first end marks
+
+abbrev μ-loop : tie.MeasureT-loop
+μ-loop ix standing from to firsts lasts first end marks₀ i₀ marks i = to - i
+
+sub-clear : tie.Need-sub-clear Inv-loop μ-loop
+sub-clear c = c .before .before .before .before .before .pre .0
+
+clear-requires : tie.Need-clear-requires Inv-loop μ-loop
+clear-requires c κs = omega (arith, c .before .before .before .before .before .pre .5, c .before .before .before .before .before .pre .7)
+
+loop-holds : tie.Need-loop-holds Inv-loop μ-loop
+loop-holds c = (omega arith, c .before .before .before .before .before .before .before .before .pre .0, c .before .before .clear .kept .0 ∙ c .before .before .before .before .before .before .before .before .pre .7, marking-none (c .before .before .before .before .before .before .before .before .args .ix) (c .before .before .before .before .before .before .before .before .args .standing .now) (c .before .before .before .before .before .before .before .before .args .from) (c .before .before .before .before .before .before .before .before .args .to) (c .before .before .before .before .before .before .before .before .args .first) (c .before .before .before .before .before .before .before .before .args .end) (c .before .before .clear .last .0) (c .before .before .clear .ensures))
+
+kept-span-requires : tie.Need-kept-span-requires Inv-loop μ-loop
+kept-span-requires c κs = let p = c .before .before .before .before .before .before .before .before .before .before .pre in
+    let l = c .before .loop in
+    let t = c .loop-test .taken in
+    (l .inv .0, omega (arith, p .1, t), p .2, p .3, record { low = λ j a b. p .4 .low j (omega (arith, t)) b; high = λ j a b. p .4 .high j (omega (arith, t)) b })
+
+mark-requires : tie.Need-mark-requires Inv-loop μ-loop
+mark-requires c κs = let p = c .before .before .before .before .before .before .before .before .before .before .before .before .pre in
+    let g = c .before .before .before .before .before .before .before .before .before .before .before .before .args in
+    let l = c .before .before .before .loop in
+    let t = c .before .before .loop-test .taken in
+    let E = c .before .kept-span .ensures in
+    let w = p .6 .low (l .i) (l .inv .0) t in
+    let h = p .6 .high (l .i) (l .inv .0) t in (
+      omega (arith, h, E .1, p .5, l .inv .2),
+      omega (arith, w, E .0),
+      λ a. (
+          let k = l .inv .3 (c .before .kept-span .result .hi) (omega (arith, w, E .0, a)) (omega (arith, h, E .1)) in
+          let f = new-few (g .ix) (g .standing .now) (l .i - g .from) (g .from) (c .before .kept-span .result .hi) in (
+            omega (arith, k, f, p .1, t),
+            λ q. (
+                let k = l .inv .3 (c .before .kept-span .result .lo - 1) (omega (arith, q)) (omega (arith, h, E .1, a)) in
+                let f = new-few (g .ix) (g .standing .now) (l .i - g .from) (g .from) (c .before .kept-span .result .lo - 1 + 1) in
+                omega (arith, k, f, t, l .inv .0)
+                ),
+          )
+          ),
+    )
+
+add-i : tie.Need-add-i Inv-loop μ-loop
+add-i c = omega (arith, c .before .before .before .before .before .loop-test .taken, c .before .before .before .before .before .before .before .before .before .before .before .before .before .before .before .pre .1)
+
+loop-less : tie.Need-loop-less Inv-loop μ-loop
+loop-less c = omega (arith, c .before .before .before .before .before .loop-test .taken)
+
+loop-again : tie.Need-loop-again Inv-loop μ-loop
+loop-again c = let l = c .before .before .before .before .before .before .loop in
+    let g = c .before .before .before .before .before .before .before .before .before .before .before .before .before .before .before .args in
+    let E = c .before .before .before .before .kept-span .ensures in (
+      omega (arith, l .inv .0),
+      omega (arith, c .before .before .before .before .before .loop-test .taken),
+      c .before .before .mark .kept .0 ∙ l .inv .2,
+      marking-turn (g .ix) (g .standing .now) (g .from) (g .to) (l .i) (g .first) (g .end) _ _ (l .marks) (c .before .before .mark .last .0) (l .inv .0) (E .0) (E .1) (c .before .before .mark .ensures) (l .inv .3),
+    )
+
+same-length : tie.Need-same-length Inv-loop μ-loop
+same-length c = c .before .loop .inv .2 ∙ sym (c .before .before .before .before .before .before .before .before .before .before .pre .7)
+
+returns : tie.Need-returns Inv-loop μ-loop
+returns c = let l = c .before .loop in
+    let g = c .before .before .before .before .before .before .before .before .before .before .args in
+    let e : l .i ≡ g .to = omega (arith, l .inv .1) in
+    subst (λ (k : ℕ). Marking (g .ix) (g .standing .now) (g .from) (g .to) k (g .first) (g .end) (l .marks)) e (l .inv .3)
+
+pub mark-all-spec : {M : Type 1} → statement M
+mark-all-spec =
+    tie.close
+    (tie.spec
+    Inv-loop
+    μ-loop
+    sub-clear
+    clear-requires
+    loop-holds
+    kept-span-requires
+    mark-requires
+    add-i
+    loop-less
+    loop-again
+    same-length
+    returns)

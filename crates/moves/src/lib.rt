@@ -1,0 +1,93 @@
+// Moving entries up in their room, and buckets' starts with them.
+ghost use Prim.Native.Nat.{ℕ, _+_, _≤_, _<_};
+ghost use lib.ListN.{length, getD};
+ghost use Rattle.moves.specs.Moves.{Moved, Shifted};
+use index::Entry;
+
+// Moves the entries from `from` to below `to` up by `by`, four at once, the last first; answers where
+// those begin that are left, at most four.
+fn move_fours(s: &mut [Entry], from: usize, to: usize, by: usize) -> usize
+    requires { ⌜ (from ≤ to) × (to + by ≤ length (now s)) ⌝ }
+    ensures { λ r. ⌜ (from ≤ r) × (r ≤ to) × (r ≤ from + 4) × Moved r to by (now (s .entry)) (now (s .exit)) ⌝ }
+{
+    let mut j = to;
+    while j - from > 4 {
+        j -= 4;
+        let a = s[j];
+        let b = s[j + 1];
+        let c = s[j + 2];
+        let d = s[j + 3];
+        let at = j + by;
+        s[at + 3] = d;
+        s[at + 2] = c;
+        s[at + 1] = b;
+        s[at] = a;
+    }
+    j
+}
+
+// Moves the entries from `from` to below `to` up by `by`, one by one, the last first.
+fn move_ones(s: &mut [Entry], from: usize, to: usize, by: usize)
+    requires { ⌜ (from ≤ to) × (to + by ≤ length (now s)) ⌝ }
+    ensures { λ _. ⌜ Moved from to by (now (s .entry)) (now (s .exit)) ⌝ }
+{
+    let mut j = to;
+    while j > from {
+        j -= 1;
+        s[j + by] = s[j];
+    }
+}
+
+// Moves the entries from `from` to below `to` up by `by`: those of many buckets. Only crates
+// of ours call it.
+pub fn move_block(s: &mut [Entry], from: usize, to: usize, by: usize)
+    requires { ⌜ (from ≤ to) × (to + by ≤ length (now s)) ⌝ }
+    ensures { λ _. ⌜ Moved from to by (now (s .entry)) (now (s .exit)) ⌝ }
+{
+    let j = move_fours(s, from, to, by);
+    move_ones(s, from, j, by);
+}
+
+// Moves the entries from `from` to below `to`, four or more, up by `by`: by fours, and the first four
+// once more from what they were, which spares the single ones.
+fn move_long(s: &mut [Entry], from: usize, to: usize, by: usize)
+    requires { ⌜ (from + 4 ≤ to) × (to + by ≤ length (now s)) ⌝ }
+    ensures { λ _. ⌜ Moved from to by (now (s .entry)) (now (s .exit)) ⌝ }
+{
+    let a = s[from];
+    let b = s[from + 1];
+    let c = s[from + 2];
+    let d = s[from + 3];
+    move_fours(s, from, to, by);
+    let at = from + by;
+    s[at + 3] = d;
+    s[at + 2] = c;
+    s[at + 1] = b;
+    s[at] = a;
+}
+
+// Moves the entries from `from` to below `to` up by `by`: those of one bucket. Only crates
+// of ours call it.
+pub fn move_up(s: &mut [Entry], from: usize, to: usize, by: usize)
+    requires { ⌜ (from ≤ to) × (to + by ≤ length (now s)) ⌝ }
+    ensures { λ _. ⌜ Moved from to by (now (s .entry)) (now (s .exit)) ⌝ }
+{
+    if to - from < 4 {
+        move_ones(s, from, to, by);
+        return;
+    }
+    move_long(s, from, to, by);
+}
+
+// Adds `by` to the starts from number `from` on. Only crates of ours call it.
+pub fn shift(starts: &mut [usize], from: usize, by: usize)
+    requires { ⌜ (from ≤ length (now starts)) × ((c : ℕ) → from ≤ c → c < length (now starts) → getD (now starts) c 0 + by < 18446744073709551616) ⌝ }
+    ensures { λ _. ⌜ Shifted from by (now (starts .entry)) (length (now (starts .entry))) (now (starts .exit)) ⌝ }
+{
+    let n = starts.len();
+    let mut b = from;
+    while b < n {
+        starts[b] = starts[b] + by;
+        b += 1;
+    }
+}

@@ -1,0 +1,1 @@
+// Laws of a round of the swap search, in proofs/ alone.
