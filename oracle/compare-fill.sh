@@ -9,13 +9,6 @@ if [ $# != 2 ]; then
     sed -n '2,5s/^# //p' "$0" >&2
     exit 2
 fi
-oracle=$here/build/oracle
-if [ ! -x "$oracle" ] || [ -n "$(find "$here/src" "$here/lift.py" -newer "$oracle")" ]; then
-    "$here/build.sh" >&2 || exit 1
-fi
-test=${TEST:-$here/../target/bin/filling_test}
-if [ ! -x "$test" ]; then
-    echo "no program $test: run rt check filling_test" >&2
-    exit 1
-fi
+. "$here/needs.sh"
+program filling_test
 exec python3 "$here/compare_fill.py" "$test" "$1" "$2"

@@ -6,7 +6,7 @@
 set -eu
 here=$(cd "$(dirname "${BASH_SOURCE[0]}")" && pwd)
 [ -f "$here/build/lifted.rs" ] || "$here/build.sh" >&2
-(cd "$here/.." && ${RT:-rt} staticlib look_exports) >&2
+(cd "$here/.." && ${RT:-rt} staticlib exports) >&2
 awk -v want='^(type P2|fn bounds|struct Trapezoid|impl Trapezoid|fn trapezoids|struct Index|impl Index|lines look)$' '
     /^\/\/ lifted / { name = $5; for (i = 6; i <= NF; i++) name = name " " $i
         on = name ~ want
@@ -14,7 +14,7 @@ awk -v want='^(type P2|fn bounds|struct Trapezoid|impl Trapezoid|fn trapezoids|s
     on { print }
     /^\/\/ end/ { if (on && name == "lines look") print "        *out = intervals;\n        (x, y)\n    }\n}"; on = 0 }
 ' "$here/build/lifted.rs" >"$here/build/looks_lifted.rs"
-rustc -O --edition 2021 -A warnings -o "$here/build/looks" "$here/looks.rs" -L "$here/../target/staticlib" -l static=look_exports
+rustc -O --edition 2021 -A warnings -o "$here/build/looks" "$here/looks.rs" -L "$here/../target/staticlib" -l static=exports
 if [ "${1:-}" = time ]; then exec "$here/build/looks" time; fi
 if [ "${1:-}" = sample ]; then exec "$here/build/looks" "$@"; fi
 exec "$here/build/looks" compare "$1" "$2"

@@ -11,15 +11,8 @@ if [ $# != 2 ]; then
 fi
 work=$here/build/compare-swaps
 mkdir -p "$work"
-oracle=$here/build/oracle
-if [ ! -x "$oracle" ] || [ -n "$(find "$here/src" "$here/lift.py" -newer "$oracle")" ]; then
-    "$here/build.sh" >&2 || exit 1
-fi
-test=${TEST:-$here/../target/bin/swaps_test}
-if [ ! -x "$test" ]; then
-    echo "no program $test: run rt check swaps_test" >&2
-    exit 1
-fi
+. "$here/needs.sh"
+program swaps_test
 python3 "$here/sample-swaps.py" "$1" "$2" "$work" || exit 1
 "$test" <"$work/jobs" >"$work/printed" || exit 1
 python3 - "$work" <<'P'

@@ -12,8 +12,8 @@ import sys
 
 from bits import fields, pack, pack_fields, read_container, write_container
 from cases import case4, job, part, rect
+from stored import HERE, store
 
-HERE = os.path.dirname(os.path.abspath(__file__))
 ORACLE = os.path.join(HERE, "build", "oracle")
 SEED = 5
 GENERATED = 12000
@@ -90,20 +90,5 @@ def sample(folder):
     return out
 
 
-def main():
-    if len(sys.argv) != 2:
-        sys.exit(__doc__)
-    folder = sys.argv[1]
-    work = os.path.join(HERE, "build", "sample")
-    os.makedirs(work, exist_ok=True)
-    out = sample(work)
-    write_container(os.path.join(folder, "stdin"), [one for one, _ in out])
-    with open(os.path.join(folder, "stdout"), "w") as f:
-        f.writelines(text + "\n" for _, text in out)
-    count = collections.Counter(text for _, text in out)
-    print(", ".join(f"{text}: {n}" for text, n in sorted(count.items())))
-    print(f"{len(out)} jobs")
-
-
 if __name__ == "__main__":
-    main()
+    store(__doc__, sample, lambda label, text: text + "\n", lambda text: text)

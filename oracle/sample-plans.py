@@ -8,7 +8,6 @@ sample-plans.py DIR          writes DIR/stdin and DIR/stdout
 import collections
 import os
 import subprocess
-import sys
 
 from bits import fields, pack, pack_fields, read_container, write_container
 from cases import CLOCKWISE, case4, grid, job, length_cases, part, rect, rooms_cases, run_cases, starred
@@ -17,8 +16,8 @@ from draws import Draws
 from examples import nan_corner
 from jobs import ties, valid
 from shapes import ell, finish, rectangle, slanted, triangle
+from stored import HERE, store
 
-HERE = os.path.dirname(os.path.abspath(__file__))
 ORACLE = os.path.join(HERE, "build", "oracle")
 SEED = 8
 LONGEST = 560  # bytes of a generated job
@@ -160,21 +159,5 @@ def sample(folder):
     return out
 
 
-def main():
-    if len(sys.argv) != 2:
-        sys.exit(__doc__)
-    folder = sys.argv[1]
-    os.makedirs(folder, exist_ok=True)
-    work = os.path.join(HERE, "build", "sample")
-    os.makedirs(work, exist_ok=True)
-    out = sample(work)
-    write_container(os.path.join(folder, "stdin"), [one for one, _ in out])
-    with open(os.path.join(folder, "stdout"), "w") as f:
-        f.writelines(f"job {label}\n{text}" for (label, _), text in out)
-    count = collections.Counter(number(text) for _, text in out)
-    print(", ".join(f"{text}: {n}" for text, n in sorted(count.items())))
-    print(f"{len(out)} jobs")
-
-
 if __name__ == "__main__":
-    main()
+    store(__doc__, sample, lambda label, text: f"job {label}\n{text}", number)

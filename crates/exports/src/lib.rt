@@ -9,6 +9,15 @@ ghost use Rattle.job.specs.Jobs.{readJob};
 ghost use Rattle.job.specs.Meaning.{verdictOf};
 ghost use Rattle.exports.specs.Answers.{verdictNumber, told};
 ghost use Rattle.random.specs.SplitMix64.{nextState, mixed};
+ghost use Rattle.numbers.proofs.Doubles.{Finite};
+ghost use Rattle.index.specs.Buckets.{buckets};
+ghost use Rattle.index.specs.Listing.{intervals, Laid};
+ghost use Rattle.height.specs.Raising.{FiniteEnds};
+ghost use Rattle.look.specs.Ready.{Lookable};
+use height::Look;
+use index::Entry;
+use index::Index;
+use look::Answer;
 
 // The next draw, and the state moved on.
 #[no_mangle]
@@ -50,4 +59,94 @@ pub extern "C" fn panel_judge(bytes: &[u8]) -> u64
         job::Verdict::Accepted(_, _) => 0,
         job::Verdict::Refused(k) => bits::refusal_number(k),
     }
+}
+
+// A height; 1e300 where it is full.
+fn height_or(l: Look) -> f64 {
+    match l {
+        Look::Free(h) => h,
+        Look::Full => 1.0e300,
+    }
+}
+
+// The width of a new index's buckets.
+#[no_mangle]
+pub extern "C" fn panel_width(x0: f64, x1: f64) -> f64 {
+    let ix = Index::new(x0, x1);
+    ix.width
+}
+
+// A look: its height, 1e300 where it is full, -1e300 where the room does not hold its intervals.
+#[no_mangle]
+pub extern "C" fn panel_look(
+    x0: f64,
+    width: f64,
+    x: f64,
+    y_low: f64,
+    y_high: f64,
+    inset: &[f64],
+    apart: &[f64],
+    sheet: &[f64],
+    sheet_entries: &[Entry],
+    sheet_starts: &[usize],
+    placed: &[f64],
+    placed_entries: &[Entry],
+    placed_starts: &[usize],
+    room: &mut [f64],
+) -> f64
+    requires { ⌜ Lookable (record { x0 = x0; width = width }) x «y_low» «y_high» (now inset) (now apart) (now sheet) (now placed) (now «sheet_entries») (now «sheet_starts») (now «placed_entries») (now «placed_starts») ⌝ }
+{
+    let ix = Index {
+        x0: x0,
+        width: width,
+    };
+    let answer = look::look_at(
+        ix,
+        x,
+        y_low,
+        y_high,
+        inset,
+        apart,
+        sheet,
+        sheet_entries,
+        sheet_starts,
+        placed,
+        placed_entries,
+        placed_starts,
+        room,
+    );
+    match answer {
+        Answer::NoRoom => -1.0e300,
+        Answer::Seen(l) => height_or(l),
+    }
+}
+
+// Enters the strips from `from` to below `to`.
+#[no_mangle]
+pub extern "C" fn panel_enter(
+    x0: f64,
+    width: f64,
+    standing: &[f64],
+    from: usize,
+    to: usize,
+    entries: &mut [Entry],
+    starts: &mut [usize],
+    gains: &mut [usize],
+) -> bool
+    requires { ⌜ (from ≤ to) × (6 * to ≤ length (now standing)) × (length (now gains) ≡ buckets) × Laid (record { x0 = x0; width = width }) (now standing) from (now entries) (now starts) ⌝ }
+{
+    let ix = Index {
+        x0: x0,
+        width: width,
+    };
+    enter::enter_copy(ix, standing, from, to, entries, starts, gains)
+}
+
+// The smallest height in none of the first n intervals of the room.
+#[no_mangle]
+pub extern "C" fn panel_height(room: &mut [f64], n: usize, y_low: f64, y_high: f64) -> f64
+    requires { ⌜ (2 * n ≤ length (now room)) × Finite «y_low» × Finite «y_high» × FiniteEnds (intervals (now room) n) ⌝ }
+{
+    let l = height::height(room, n, y_low, y_high);
+    height_or(l)
 }

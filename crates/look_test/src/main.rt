@@ -4,6 +4,8 @@
 // left and right end, the column's x, y_low and y_high by their bits), then all strips by their bits.
 // `se` and `ss` are the sheet's entries and starts, `pe` and `ps` those of the placed strips `put`.
 // The stored answers are those of the lifted Rust (oracle/sample-looks.sh), never of this code.
+mod show;
+
 ghost use mathlib.Core.Path.{_≡_};
 ghost use mathlib.Core.Bool.{true};
 ghost use Prim.Native.Nat.{ℕ, _+_, _*_, _≤_, _<_};
@@ -12,10 +14,8 @@ ghost use Rattle.index.specs.Buckets.{buckets};
 ghost use Rattle.index.specs.Listing.{Bounded};
 ghost use Rattle.look.specs.Ready.{BoundedStrips, Lookable};
 ghost use Rattle.look_test.specs.Fair.{FairColumn, FairStrips, Entered};
-use height::Look;
 use index::Entry;
 use index::Index;
-use look::Answer;
 
 fn wide(x: u8) -> u64
     ensures { λ r. ⌜ r < 256 ⌝ }
@@ -166,47 +166,6 @@ fn enter_both(
     false
 }
 
-// The bits of x; 0 for a NaN.
-fn bits(x: f64) -> u64 {
-    if x == x {
-        return f64::to_bits(x);
-    }
-    0
-}
-
-fn show_free(h: f64) {
-    io::write_all(1, b"free ");
-    io::print_hex(1, bits(h), 16);
-    io::write_all(1, b"\n");
-}
-
-fn show_full() {
-    io::write_all(1, b"full\n");
-}
-
-fn show_look(l: Look) {
-    match l {
-        Look::Free(h) => show_free(h),
-        Look::Full => show_full(),
-    }
-}
-
-fn show_refusal() {
-    io::write_all(1, b"no 22\n");
-}
-
-fn show(a: Answer) {
-    match a {
-        Answer::NoRoom => show_refusal(),
-        Answer::Seen(l) => show_look(l),
-    }
-}
-
-// What no stored look is: numbers too large, or entries that do not fit.
-fn show_bad() {
-    io::write_all(1, b"bad\n");
-}
-
 // A look with the whole room, then with one interval fewer.
 fn look_twice(
     ix: Index,
@@ -226,7 +185,7 @@ fn look_twice(
     requires { ⌜ Lookable ix x lo hi (now inset) (now apart) (now sheet) (now put) (now se) (now ss) (now pe) (now ps) ⌝ }
 {
     let a = look::look_at(ix, x, lo, hi, inset, apart, sheet, se, ss, put, pe, ps, out);
-    show(a);
+    show::show(a);
     let n = out.len();
     if n > 0 {
         let m = n - 1;
@@ -245,7 +204,7 @@ fn look_twice(
             ps,
             &mut out[..m],
         );
-        show(b);
+        show::show(b);
     }
 }
 
@@ -304,7 +263,7 @@ fn look_fresh(
         );
         return;
     }
-    show_bad();
+    show::show_bad();
 }
 
 // The answers to one look.
@@ -322,7 +281,7 @@ fn replay(head: &[u8], sheet: &[f64], put: &[f64], inset: &[f64], apart: &[f64],
             return;
         }
     }
-    show_bad();
+    show::show_bad();
 }
 
 // A count of the head.

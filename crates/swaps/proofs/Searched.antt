@@ -16,10 +16,10 @@ use Rattle.filling.specs.Rooms.{Lent}
 use Rattle.filling.specs.Fill.{fillOrder}
 use Rattle.nesting.specs.CopyOrder.{copyOrder}
 use Rattle.nesting.specs.Rounds.{Swaps, ended, rounds, firstKept, swapSearch}
+use Rattle.all_rounds.proofs.Going.{rounds-ended}
 use Rattle.better.specs.declared.Best.{Best}
 use Rattle.better.specs.Keeping.{swapsBy}
 use Rattle.swaps.specs.Counting.{roundsFor}
-use Rattle.swaps.proofs.Going.{rounds-ended}
 
 two-or-more : (j : Job) (l : Lent) (n m : ℕ) (q : Swaps) → (elim (leb 2 m) [ true ↦ rounds j l n q | false ↦ q ]) ≡ rounds j l (elim (leb 2 m) [ true ↦ n | false ↦ 0 ]) q
 unfolding rounds

@@ -1,5 +1,5 @@
 -- For inner functions' contracts only: how rounds are counted. Definitions only. Assumes nothing.
-use Prim.Native.Nat.{ℕ, _+_}
+use Prim.Native.Nat.{ℕ}
 use mathlib.Core.Bool.{true, false}
 use lib.Dec.{leb}
 use Rattle.filling.specs.declared.Verdict.{Verdict}
@@ -9,8 +9,3 @@ use Rattle.filling.specs.declared.Verdict.the-variants.{Accepted, Refused}
 abbrev pub roundsFor : Verdict → ℕ → ℕ → ℕ
 roundsFor Accepted copies n = elim (leb 2 copies) [ true ↦ n | false ↦ 0 ]
 roundsFor (Refused k) copies n = 0
-
--- where the rounds go on after round i of n
-abbrev pub roundAfter : Verdict → ℕ → ℕ → ℕ
-roundAfter Accepted i n = i + 1
-roundAfter (Refused k) i n = n

@@ -3,7 +3,7 @@
 // tables and rooms must be those of a job.
 ghost use mathlib.Core.Bool.{true};
 ghost use mathlib.Core.Path.{_≡_};
-ghost use Prim.Native.Nat.{_≤_, _<_};
+ghost use Prim.Native.Nat.{_≤_};
 ghost use lib.ListN.{length};
 ghost use Rattle.index.specs.Buckets.{buckets};
 ghost use Rattle.job.specs.Jobs.{Job};
@@ -15,7 +15,7 @@ ghost use Rattle.nesting.specs.CopyOrder.{copyOrder};
 ghost use Rattle.nesting.specs.Rounds.{rounds, swapSearch};
 ghost use Rattle.fill_laws.specs.Prepared.{given, Prepared};
 ghost use Rattle.better.specs.Keeping.{swapsBy};
-ghost use Rattle.swaps.specs.Counting.{roundAfter, roundsFor};
+ghost use Rattle.swaps.specs.Counting.{roundsFor};
 use better::Round;
 use filling::Verdict;
 use index::Entry;
@@ -34,17 +34,6 @@ fn rounds_for(v: Verdict, copies: usize, n: usize) -> usize
             0
         }
         Verdict::Refused(_) => 0,
-    }
-}
-
-// The round that comes after round i of n: none after a refusal.
-fn round_after(v: Verdict, i: usize, n: usize) -> usize
-    requires { ⌜ i < n ⌝ }
-    ensures { λ r. ⌜ r ≡ roundAfter v i n ⌝ }
-{
-    match v {
-        Verdict::Accepted => i + 1,
-        Verdict::Refused(_) => n,
     }
 }
 
@@ -118,52 +107,40 @@ pub fn swap_search<'a>(
         best_x,
         best_y,
     );
-    let first = r.verdict;
+    let v = r.verdict;
     let b = r.best;
-    let m = rounds_for(first, order.len(), n);
-    let mut verdict = first;
-    let mut best = b;
-    let mut i = 0;
-    while i < m {
-        let o = one_round::one_round(
-            ix,
-            bounds,
-            resolution,
-            best,
-            order,
-            rows,
-            areas,
-            inset_bounds,
-            parts,
-            apart,
-            inset,
-            sheet,
-            sheet_entries,
-            sheet_starts,
-            placed,
-            entries,
-            starts,
-            gains,
-            room,
-            look_counts,
-            next_column,
-            orientation,
-            x,
-            y,
-            best_column,
-            best_counts,
-            best_orientation,
-            best_x,
-            best_y,
-        );
-        let kept = o.best;
-        best = kept;
-        let next = o.verdict;
-        verdict = next;
-        i = round_after(verdict, i, m);
-    }
-    Round {
-        verdict: verdict,
-        best: best,
-    }
+    let m = rounds_for(v, order.len(), n);
+    all_rounds::all_rounds(
+        ix,
+        bounds,
+        resolution,
+        v,
+        m,
+        b,
+        order,
+        rows,
+        areas,
+        inset_bounds,
+        parts,
+        apart,
+        inset,
+        sheet,
+        sheet_entries,
+        sheet_starts,
+        placed,
+        entries,
+        starts,
+        gains,
+        room,
+        look_counts,
+        next_column,
+        orientation,
+        x,
+        y,
+        best_column,
+        best_counts,
+        best_orientation,
+        best_x,
+        best_y,
+    )
 }

@@ -1,10 +1,11 @@
--- `swaps::round_after` meets its contract. Assumes nothing.
+-- `all_rounds::round_after` meets its contract. Assumes nothing.
 use mathlib.Core.Path.{sym, ap}
 use Rattle.filling.specs.declared.Verdict.{Verdict}
-use Rattle.swaps.specs.Counting.{roundAfter}
+use Rattle.fill_laws.specs.Prepared.{given}
+use Rattle.all_rounds.specs.Counting.{roundAfter}
 use borrow.Author.Needs.{needs}
-use Rattle.swaps.proofs.round_after.Statement.{statement}
-use Rattle.swaps.proofs.round_after.Tie as tie
+use Rattle.all_rounds.proofs.round_after.Statement.{statement}
+use Rattle.all_rounds.proofs.round_after.Tie as tie
 
 enum-told : tie.Need-enum-told
 enum-told c = search needs

@@ -4,8 +4,8 @@ use mathlib.Core.Bool.{true, not}
 use lib.Dec.{T}
 use lib.Ieee.{Float, nan, inf, fin, eq, isNan}
 use borrow.Author.Needs.{needs}
-use Rattle.look_test.proofs.bits.Statement.{statement}
-use Rattle.look_test.proofs.bits.Tie as tie
+use Rattle.look_test.proofs.show.bits.Statement.{statement}
+use Rattle.look_test.proofs.show.bits.Tie as tie
 
 not-nan : (x : Float) → eq x x ≡ true → T (not (isNan x))
 unfolding eq isNan

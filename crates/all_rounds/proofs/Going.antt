@@ -1,5 +1,5 @@
 -- What holds between rounds. Assumes nothing.
-use Prim.Native.Nat.{ℕ, zero, suc, _+_, _-_, _≤_, _<_, _^_}
+use Prim.Native.Nat.{ℕ, zero, suc, _+_, _-_, _≤_, _<_}
 use native.Mathlib.Omega.{arith}
 use mathlib.Core.Path.{_≡_, refl, ap, sym, _∙_}
 use mathlib.Core.Bool.{true}
@@ -16,7 +16,7 @@ use Rattle.nesting.specs.Rounds.{Kept, Swaps, kept, ended, oneRound, rounds}
 use Rattle.fill_laws.specs.Prepared.{Given, Prepared}
 use Rattle.better.specs.declared.Best.{Best}
 use Rattle.better.specs.Keeping.{keptBy, swapsBy}
-use Rattle.swaps.specs.Counting.{roundAfter}
+use Rattle.all_rounds.specs.Counting.{roundAfter}
 
 -- rooms as long as those that are lent
 abbrev pub Long : Lent → List Float → List ℕ → List Float → Type 0
@@ -60,13 +60,6 @@ rounds-none : (j : Job) (l : Lent) (m : ℕ) (s : Swaps) → m ≤ 0 → rounds 
 unfolding rounds
 rounds-none j l zero s h = refl
 rounds-none j l (suc m) s h = absurd (omega arith)
-
--- room for one more improvement
-pub one-more : (b₀ b i n : ℕ) → b₀ + n < 2 ^ 64 → i < n → b + (n - i) ≤ b₀ + n → b + 1 < 2 ^ 64
-one-more b₀ b i n h g w = omega arith
-
-pub positive : {i n : ℕ} → i < n → 0 < n
-positive h = omega arith
 
 pub after-less : (v : Verdict) (i n r : ℕ) → i < n → r ≡ roundAfter v i n → n - r < n - i
 after-less Accepted i n r h e = omega arith
