@@ -18,7 +18,7 @@ use timed::lifted::reach::{Filled, Lifted};
 extern "C" {
     fn panel_fill(
         bytes: &[u8], order: &[usize], shapes: &mut [f64], sheet: &mut [f64], placed: &mut [f64],
-        sheet_entries: &mut [usize], placed_entries: &mut [usize], intervals: &mut [f64],
+        sheet_entries: &mut [u16], placed_entries: &mut [u16], intervals: &mut [f64],
         positions: &mut [f64],
     ) -> u64;
 }
@@ -26,7 +26,7 @@ extern "C" {
 /// The rooms that the program `plan` lends.
 struct Rooms {
     strips: [Vec<f64>; 3],
-    entries: [Vec<usize>; 2],
+    entries: [Vec<u16>; 2],
     intervals: Vec<f64>,
     positions: Vec<f64>,
 }

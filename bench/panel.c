@@ -8,7 +8,7 @@
 /* One byte more than a job may have, and the rooms that `plan` lends. */
 static uint8_t job[65537], text[PANEL_TEXT];
 static double shapes[6 * 1365], sheet[6 * 1365], placed[6 * 1365];
-static size_t sheet_entries[16384], placed_entries[16384];
+static uint16_t sheet_entries[16384], placed_entries[16384];
 static double intervals[2 * 4096], positions[5 * 4096];
 
 int main(void) {

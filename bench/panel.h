@@ -10,8 +10,9 @@
 #define PANEL_TEXT 524288
 
 /* Each room is given with its length, and no two may overlap. A strip is six doubles, an entry one
-   number, an interval two doubles, a position five (kind, copy, orientation, x, y). A room may have any
-   length and hold anything; one that is too short makes a refusal (20, 21, 22 or 30), no error.
+   number of 16 bits, an interval two doubles, a position five (kind, copy, orientation, x, y). A room
+   may have any length and hold anything; one that is too short makes a refusal (20, 21, 22 or 30), no
+   error. Of the rooms sheet and placed at most 65,536 strips are used.
    The answer is where the text ends; zeros lie after it. The positions stay in their room, with zeros
    after them; the other rooms are left zero, and all of them where the job is refused. A text
    buffer shorter than PANEL_TEXT: the answer is 0 and nothing is written. Job lengths are not
@@ -21,8 +22,8 @@ size_t panel_nest(
     double *shapes, size_t shapes_length,
     double *sheet, size_t sheet_length,
     double *placed, size_t placed_length,
-    size_t *sheet_entries, size_t sheet_entries_length,
-    size_t *placed_entries, size_t placed_entries_length,
+    uint16_t *sheet_entries, size_t sheet_entries_length,
+    uint16_t *placed_entries, size_t placed_entries_length,
     double *intervals, size_t intervals_length,
     double *positions, size_t positions_length,
     uint8_t *out, size_t out_length);

@@ -13,6 +13,7 @@ MILLION = 1000000.0
 ABOVE = math.nextafter(MILLION, 2 * MILLION)  # 1,000,000.0000000001
 TINY = 5e-324
 MOST = 2**64 - 1
+MOST_ENTRY = 2**16 - 1
 STRANGE = [NAN, INF, LESS_INF, ABOVE, -ABOVE]
 
 
@@ -152,7 +153,7 @@ def entries(t):
         at = [c.number(ROOMS[room], i) for i in range(n)]
         t.refused_slot(room, 0, at[0] + 1)
         t.refused_slot(room, n - 1, at[n - 1] + 1)
-        t.refused_slot(room, n - 1, MOST)
+        t.refused_slot(room, n - 1, MOST_ENTRY)
         t.refused_slot(room, n // 2, at[n // 2] + 1)
         where = next(i for i in range(n - 1) if at[i] != at[i + 1])
         s.slot(room, where, at[where + 1])

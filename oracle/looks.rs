@@ -22,15 +22,15 @@ extern "C" {
     fn panel_look(
         x0: f64, width: f64, x: f64, y_low: f64, y_high: f64,
         inset: *const f64, inset_len: usize, apart: *const f64, apart_len: usize,
-        sheet: *const f64, sheet_len: usize, sheet_entries: *const usize, sheet_entries_len: usize,
+        sheet: *const f64, sheet_len: usize, sheet_entries: *const u16, sheet_entries_len: usize,
         sheet_starts: *const usize, sheet_starts_len: usize,
-        placed: *const f64, placed_len: usize, placed_entries: *const usize, placed_entries_len: usize,
+        placed: *const f64, placed_len: usize, placed_entries: *const u16, placed_entries_len: usize,
         placed_starts: *const usize, placed_starts_len: usize,
         room: *mut f64, room_len: usize,
     ) -> f64;
     fn panel_enter(
         x0: f64, width: f64, standing: *const f64, standing_len: usize, from: usize, to: usize,
-        entries: *mut usize, entries_len: usize, starts: *mut usize, starts_len: usize,
+        entries: *mut u16, entries_len: usize, starts: *mut usize, starts_len: usize,
         gains: *mut usize, gains_len: usize,
     ) -> bool;
     fn panel_height(room: *mut f64, room_len: usize, n: usize, y_low: f64, y_high: f64) -> f64;
@@ -49,7 +49,7 @@ struct Ours {
     x0: f64,
     width: f64,
     strips: Vec<f64>,
-    entries: Vec<usize>,
+    entries: Vec<u16>,
     starts: Vec<usize>,
     gains: Vec<usize>,
 }
@@ -71,7 +71,7 @@ impl Ours {
         }
     }
     fn list(&self) -> Vec<usize> {
-        self.entries[..self.starts[512]].to_vec()
+        self.entries[..self.starts[512]].iter().map(|&i| i as usize).collect()
     }
 }
 

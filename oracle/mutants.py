@@ -3,7 +3,8 @@
 
 Each wrong planner is the planner by hand (src/, option --by-hand) with a few
 words changed. It is built, run on the jobs that the crate plan_test replays
-and its texts are held against the stored ones.
+and its texts are held against the stored ones; those of WIDE on the jobs and
+rooms of wide_test.
 
 mutants.py [NAME..]          a line for each: how many jobs catch it, the first's label
 mutants.py --table           the same as a table in Markdown
@@ -15,11 +16,12 @@ import shutil
 import subprocess
 import sys
 
+import wide
 from bits import read_container
 
 HERE = os.path.dirname(os.path.abspath(__file__))
 WORK = os.path.join(HERE, "build", "mutants")
-STORED = os.path.join(HERE, "..", "crates", "plan_test")
+CRATES = os.path.join(HERE, "..", "crates")
 
 WINS = "Some((r, t, ..)) => right < r || (right == r && top < t),"
 SORT = "order(a.0 + a.1, b.0 + b.1).then(b.2.cmp(&a.2)).then(order(a.0, b.0))"
@@ -33,7 +35,7 @@ SAME = "if order[i] == order[j] || p.fill != q.fill || p.priority != q.priority 
 DRAWS = "let i = (next_random(&mut draws) % n) as usize;"
 REST = "if inside == (winding > 0) {"
 PUT = "    for (kind, copy, o, x, y) in list {"
-ROOM = """    if state.placed_strips + strips.len() > capacity(rooms.placed.len(), STRIP) {
+ROOM = """    if state.placed_strips + strips.len() > most {
         return Err(Stop::Refused(20));
     }
     let entries = state.placed_index.count() + state.placed_index.needed(&strips);
@@ -45,11 +47,11 @@ ROOM_TURNED = """    let entries = state.placed_index.count() + state.placed_ind
     if entries > capacity(rooms.placed_entries.len(), ENTRY) {
         return Err(Stop::Refused(21));
     }
-    if state.placed_strips + strips.len() > capacity(rooms.placed.len(), STRIP) {
+    if state.placed_strips + strips.len() > most {
         return Err(Stop::Refused(20));
     }
 """
-SHEET20 = "    keep(&mut rooms.sheet, &mut sheet_strips, &strips)?;\n"
+SHEET20 = "    keep(&mut rooms.sheet, most, &mut sheet_strips, &strips)?;\n"
 SHEET21 = """    if sheet_index.needed(&strips) > capacity(rooms.sheet_entries.len(), ENTRY) {
         return Err(Stop::Refused(21));
     }
@@ -184,6 +186,22 @@ MUTANTS = [
     ("printing", "offcut held at zero", [("print", "let offcut = bounds(&job.sheet)[2] - right;", "let offcut = (bounds(&job.sheet)[2] - right).max(0.0);")]),
 ]
 
+NUMBER = ("index", 'Entry::try_from(first + i).expect("a strip number")', "(first + i) as Entry")
+KEPT = "    sheet_index.enter(&mut rooms.sheet_entries, &strips, 0);\n"
+SHEET_MOST = ("filling", "let most = standing(rooms.sheet.len());", "let most = capacity(rooms.sheet.len(), STRIP);")
+PLACED_MOST = ("filling", "let most = standing(rooms.placed.len());", "let most = capacity(rooms.placed.len(), STRIP);")
+
+# In rooms for more strips than entries can number.
+WIDE = [
+    ("W8", "strip numbers wrap", [("rooms", "capacity(slots, STRIP).min(STRIP_NUMBERS)", "capacity(slots, STRIP)"), NUMBER]),
+    ("W8", "65,536 strips refused", [("rooms", ".min(STRIP_NUMBERS)", ".min(STRIP_NUMBERS - 1)")]),
+    ("W8", "65,537 strips accepted", [("rooms", ".min(STRIP_NUMBERS)", ".min(STRIP_NUMBERS + 1)"), NUMBER]),
+    ("W8", "the sheet's strips not counted", [SHEET_MOST, NUMBER]),
+    ("W8", "the placed strips not counted", [PLACED_MOST, NUMBER]),
+    ("W8", "the shapes' strips counted too", [("filling", "(capacity(room.len(), STRIP), 0)", "(standing(room.len()), 0)")]),
+    ("W8", "20 by number after 21", [SHEET_MOST, NUMBER, ("filling", KEPT, "    if strips.len() > 65_536 {\n        return Err(Stop::Refused(20));\n    }\n" + KEPT)]),
+]
+
 # No text can tell these from the right planner.
 EQUAL = [
     ("swaps", "j drawn before i", [("nesting", DRAWS + "\n        let j = (next_random(&mut draws) % n) as usize;", "let j = (next_random(&mut draws) % n) as usize;\n        " + DRAWS)]),
@@ -215,9 +233,8 @@ def build(name, edits):
     return program
 
 
-def caught(name, edits, jobs, told):
+def caught(program, jobs, told):
     """Labels of the jobs whose text differs."""
-    program = build(name, edits)
     out = os.path.join(WORK, "answers")
     done = subprocess.run([program, "--by-hand", "--batch", jobs, "--out", out],
                           stdout=subprocess.DEVNULL, stderr=subprocess.DEVNULL)
@@ -227,10 +244,21 @@ def caught(name, edits, jobs, told):
     return [label for (label, want), text in zip(told, texts) if want != text]
 
 
-def stored():
-    """The stored jobs' file, and the stored text of each (lines from one label to the next)."""
-    jobs = os.path.join(STORED, "stdin")
-    lines = open(os.path.join(STORED, "stdout"), "rb").read().splitlines(True)
+def caught_wide(program):
+    """Labels of wide_test's jobs whose text differs."""
+    texts = []
+    for _, *rest in wide.cases():
+        try:
+            texts.append(wide.answer(*rest, program=program, options=["--by-hand"]))
+        except SystemExit:
+            texts.append(b"it stops")
+    return [label for (label, want), text in zip(stored("wide_test")[1], texts) if want != text]
+
+
+def stored(crate):
+    """A crate's stored jobs' file, and the stored text of each (lines from one label to the next)."""
+    jobs = os.path.join(CRATES, crate, "stdin")
+    lines = open(os.path.join(CRATES, crate, "stdout"), "rb").read().splitlines(True)
     told, at = [], 0
     for label, _ in read_container(jobs):
         assert lines[at] == b"job " + label.encode() + b"\n", label
@@ -250,15 +278,16 @@ def main():
         jobs, told = args[1], list(read_container(args[2]))
         args = args[3:]
     else:
-        jobs, told = stored()
+        jobs, told = stored("plan_test")
     names = set(args)
     n = survived = 0
     if table:
         print("| from | wrong planner | jobs that catch it | the first |\n|---|---|---|---|")
-    for group, name, edits in MUTANTS + EQUAL:
+    for group, name, edits in MUTANTS + WIDE + EQUAL:
         if names and name not in names:
             continue
-        labels = caught(name, edits, jobs, told)
+        program = build(name, edits)
+        labels = caught_wide(program) if group == "W8" else caught(program, jobs, told)
         equal = any(name == other for _, other, _ in EQUAL)
         n += 1
         survived += not labels and not equal

@@ -2,7 +2,7 @@
 //! because of the state": start, next copy and a filling.
 use crate::index::{height, Index};
 use crate::job::Job;
-use crate::rooms::{capacity, load, store, Rooms, ENTRY, POSITION, STRIP};
+use crate::rooms::{capacity, load, standing, store, Rooms, ENTRY, POSITION, STRIP};
 use crate::strips::{bounds, moved, trapezoids, Strip};
 use crate::watch::{Look, Watch};
 use std::ops::Range;
@@ -92,9 +92,14 @@ pub fn rearrangement(job: &Job, order: &[usize]) -> bool {
     job.parts.iter().zip(&counts).all(|(p, &n)| p.quantity == n)
 }
 
-/// Stores strips from strip number `at` on, or 20.
-fn keep(room: &mut [f64], at: &mut usize, strips: &[Strip]) -> Result<Range<usize>, Stop> {
-    if *at + strips.len() > capacity(room.len(), STRIP) {
+/// Stores strips from strip number `at` on, or 20 where there would be more than `most`.
+fn keep(
+    room: &mut [f64],
+    most: usize,
+    at: &mut usize,
+    strips: &[Strip],
+) -> Result<Range<usize>, Stop> {
+    if *at + strips.len() > most {
         return Err(Stop::Refused(20));
     }
     let first = *at;
@@ -109,17 +114,17 @@ fn keep(room: &mut [f64], at: &mut usize, strips: &[Strip]) -> Result<Range<usiz
 /// inset strips.
 fn shapes(job: &Job, room: &mut [f64]) -> Result<Vec<Slot>, Stop> {
     let mut slots = vec![];
-    let mut at = 0;
+    let (most, mut at) = (capacity(room.len(), STRIP), 0);
     for (kind, part) in job.parts.iter().enumerate() {
         for (orientation, o) in part.orientations.iter().enumerate() {
-            let apart = keep(room, &mut at, &trapezoids(&o.apart, false))?;
+            let apart = keep(room, most, &mut at, &trapezoids(&o.apart, false))?;
             let (bounds, inset) = (bounds(&o.inset), 0..0);
             slots.push(Slot { kind, orientation, bounds, apart, inset, column: Some(0), looks: 0 });
         }
     }
     for slot in &mut slots {
         let o = &job.parts[slot.kind].orientations[slot.orientation];
-        slot.inset = keep(room, &mut at, &trapezoids(&o.inset, false))?;
+        slot.inset = keep(room, most, &mut at, &trapezoids(&o.inset, false))?;
     }
     Ok(slots)
 }
@@ -135,7 +140,8 @@ pub fn start(job: &Job, order: &[usize], rooms: &mut Rooms) -> Result<State, Sto
     let sheet = bounds(&job.sheet);
     let strips = trapezoids(&job.sheet, true);
     let mut sheet_strips = 0;
-    keep(&mut rooms.sheet, &mut sheet_strips, &strips)?;
+    let most = standing(rooms.sheet.len());
+    keep(&mut rooms.sheet, most, &mut sheet_strips, &strips)?;
     let placed_index = Index::new(sheet[0], sheet[2]);
     let mut sheet_index = placed_index.clone();
     if sheet_index.needed(&strips) > capacity(rooms.sheet_entries.len(), ENTRY) {
@@ -214,7 +220,8 @@ fn search(
 fn place(state: &mut State, slot: usize, x: f64, y: f64, rooms: &mut Rooms) -> Result<(), Stop> {
     let apart = state.slots[slot].apart.clone();
     let strips: Vec<Strip> = apart.map(|i| moved(&load(&rooms.shapes, i), x, y)).collect();
-    if state.placed_strips + strips.len() > capacity(rooms.placed.len(), STRIP) {
+    let most = standing(rooms.placed.len());
+    if state.placed_strips + strips.len() > most {
         return Err(Stop::Refused(20));
     }
     let entries = state.placed_index.count() + state.placed_index.needed(&strips);
@@ -222,7 +229,7 @@ fn place(state: &mut State, slot: usize, x: f64, y: f64, rooms: &mut Rooms) -> R
         return Err(Stop::Refused(21));
     }
     state.placed_index.enter(&mut rooms.placed_entries, &strips, state.placed_strips);
-    keep(&mut rooms.placed, &mut state.placed_strips, &strips)?;
+    keep(&mut rooms.placed, most, &mut state.placed_strips, &strips)?;
     Ok(())
 }
 

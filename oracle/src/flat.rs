@@ -3,7 +3,7 @@
 use crate::filling::{ranges, rearrangement, Slot, State};
 use crate::index::Index;
 use crate::job::Job;
-use crate::rooms::{capacity, load, Rooms, ENTRY, STRIP};
+use crate::rooms::{capacity, load, standing, Entry, Rooms, ENTRY, STRIP};
 use crate::strips::Strip;
 use std::ops::Range;
 
@@ -122,18 +122,18 @@ impl Flat {
 
     /// Counts within their ranges.
     fn counts_fit(&self, job: &Job, rooms: &Rooms) -> bool {
-        let holds = |room: &[f64]| capacity(room.len(), STRIP);
+        let holds = capacity(rooms.shapes.len(), STRIP);
         let within = |first: usize, n: usize, room: usize| {
             first.checked_add(n).is_some_and(|end| end <= room)
         };
         if self.taken > job.copies()
-            || self.sheet_strips > holds(&rooms.sheet)
-            || self.apart_strips > holds(&rooms.shapes)
-            || self.placed_strips > holds(&rooms.placed)
+            || self.sheet_strips > standing(rooms.sheet.len())
+            || self.apart_strips > holds
+            || self.placed_strips > standing(rooms.placed.len())
         {
             return false;
         }
-        let inset = holds(&rooms.shapes) - self.apart_strips;
+        let inset = holds - self.apart_strips;
         slots(job).iter().all(|(_, _, i)| {
             let p = &self.parts[4 * i..4 * i + 4];
             within(p[0], p[1], self.apart_strips) && within(p[2], p[3], inset)
@@ -169,7 +169,7 @@ impl Flat {
     }
 
     /// The index of the first n strips of a room, if the entry room begins with their entries.
-    fn index(&self, strips: &[f64], n: usize, entries: &[u64]) -> Option<Index> {
+    fn index(&self, strips: &[f64], n: usize, entries: &[Entry]) -> Option<Index> {
         let list: Vec<Strip> = (0..n).map(|i| load(strips, i)).collect();
         let mut index = Index::new(self.sheet_bounds[0], self.sheet_bounds[2]);
         let mut right = vec![0; index.needed(&list) * ENTRY];

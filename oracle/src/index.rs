@@ -1,6 +1,6 @@
 //! The index by hand from document 01, "Index": entries lie in a lent room by
 //! bucket, then strip number. The starts of the buckets are work space.
-use crate::rooms::{capacity, load, ENTRY, INTERVAL};
+use crate::rooms::{capacity, load, Entry, ENTRY, INTERVAL};
 use crate::strips::{forbidden, larger, Strip};
 
 const BUCKETS: usize = 512;
@@ -45,12 +45,12 @@ impl Index {
         strips.iter().map(|s| self.bucket(s[1]) - self.bucket(s[0]) + 1).sum()
     }
 
-    /// Enters strips numbered from `first` on; the room holds them.
-    pub fn enter(&mut self, entries: &mut [u64], strips: &[Strip], first: usize) {
-        let mut new: Vec<Vec<u64>> = vec![vec![]; BUCKETS];
+    /// Enters strips numbered from `first` on; the room holds them, and an entry their numbers.
+    pub fn enter(&mut self, entries: &mut [Entry], strips: &[Strip], first: usize) {
+        let mut new: Vec<Vec<Entry>> = vec![vec![]; BUCKETS];
         for (i, s) in strips.iter().enumerate() {
             for b in self.bucket(s[0])..=self.bucket(s[1]) {
-                new[b].push((first + i) as u64);
+                new[b].push(Entry::try_from(first + i).expect("a strip number"));
             }
         }
         let mut end = self.count() + new.iter().map(Vec::len).sum::<usize>();
@@ -69,7 +69,7 @@ impl Index {
     #[allow(clippy::too_many_arguments)]
     pub fn intervals(
         &self,
-        entries: &[u64],
+        entries: &[Entry],
         standing: &[f64],
         moving: &[f64],
         strips: std::ops::Range<usize>,

@@ -1,6 +1,12 @@
 //! The lent rooms: their records, sizes and contents.
 use crate::strips::Strip;
 
+/// An entry: the number of a standing strip.
+pub type Entry = u16;
+
+/// Strip numbers run from 0 to 65,535.
+const STRIP_NUMBERS: usize = 65_536;
+
 // Slots of one record in each kind of room.
 pub const STRIP: usize = 6; // doubles
 pub const ENTRY: usize = 1; // strip number
@@ -57,8 +63,8 @@ pub struct Rooms {
     pub shapes: Vec<f64>,
     pub sheet: Vec<f64>,
     pub placed: Vec<f64>,
-    pub sheet_entries: Vec<u64>,
-    pub placed_entries: Vec<u64>,
+    pub sheet_entries: Vec<Entry>,
+    pub placed_entries: Vec<Entry>,
     pub intervals: Vec<f64>,
     pub positions: Vec<f64>,
 }
@@ -84,6 +90,16 @@ impl Rooms {
 /// The whole records that fit a room.
 pub fn capacity(slots: usize, record: usize) -> usize {
     slots / record
+}
+
+/// The strips that a room for standing strips (sheet, placed) is used for.
+pub fn standing(slots: usize) -> usize {
+    capacity(slots, STRIP).min(STRIP_NUMBERS)
+}
+
+/// Entries as plain numbers.
+pub fn numbers(entries: &[Entry]) -> Vec<u64> {
+    entries.iter().map(|&e| e as u64).collect()
 }
 
 pub fn load(room: &[f64], i: usize) -> Strip {

@@ -7,7 +7,7 @@ use crate::job::{self, Job};
 use crate::nesting::{next_random, Plan};
 use crate::print::{hex, position_room, positions};
 use crate::probed::{lifted::reach::Lifted, Signal};
-use crate::rooms::{Rooms, Sizes};
+use crate::rooms::{numbers, Entry, Rooms, Sizes};
 use crate::strips::bounds;
 use crate::watch::Watch;
 
@@ -61,11 +61,12 @@ fn bits(x: f64) -> u64 {
     if x.is_nan() { 0x7ff8_0000_0000_0000 } else { x.to_bits() }
 }
 
-/// What a slot of a room holds before a call: not a number, an infinity, minus zero, or whatever
-/// double a draw's bits are.
-fn garbage(state: &mut u64) -> u64 {
+/// What a slot of room a holds before a call: not a number, an infinity, minus zero, or whatever
+/// double a draw's bits are; in an entry room a draw's last 16 bits.
+fn garbage(a: usize, state: &mut u64) -> u64 {
     let draw = next_random(state);
     match draw % 8 {
+        _ if entry_room(a) => draw % 65_536,
         0 => bits(f64::NAN),
         1 => bits(f64::INFINITY),
         2 => bits(f64::NEG_INFINITY),
@@ -110,16 +111,15 @@ impl Script {
 
     /// The rooms as they are lent.
     fn lent(&self) -> Rooms {
-        let doubles = |a: usize| {
-            self.rooms[a][..self.lengths[a]].iter().map(|&w| f64::from_bits(w)).collect()
-        };
-        let numbers = |a: usize| self.rooms[a][..self.lengths[a]].to_vec();
+        let words = |a: usize| self.rooms[a][..self.lengths[a]].iter();
+        let doubles = |a| words(a).map(|&w| f64::from_bits(w)).collect();
+        let entries = |a| words(a).map(|&w| w as Entry).collect();
         Rooms {
             shapes: doubles(0),
             sheet: doubles(1),
             placed: doubles(2),
-            sheet_entries: numbers(3),
-            placed_entries: numbers(4),
+            sheet_entries: entries(3),
+            placed_entries: entries(4),
             intervals: doubles(5),
             positions: doubles(6),
         }
@@ -133,7 +133,7 @@ impl Script {
             }
         }
         for (a, room) in [(3, &r.sheet_entries), (4, &r.placed_entries)] {
-            self.rooms[a][..room.len()].copy_from_slice(room);
+            self.rooms[a][..room.len()].copy_from_slice(&numbers(room));
         }
     }
 
@@ -276,7 +276,7 @@ impl Script {
     fn spoil(&mut self, a: usize, n: usize, seed: u64) {
         let mut state = seed;
         for slot in self.rooms[a][..self.lengths[a]].iter_mut().skip(n) {
-            *slot = if entry_room(a) { next_random(&mut state) } else { garbage(&mut state) };
+            *slot = garbage(a, &mut state);
         }
     }
 
@@ -323,7 +323,7 @@ impl Script {
             b'H' => self.spoil(c.a, c.n, c.m),
             b'R' if c.n >= self.lengths[c.a] => return Err(format!("room {} at {}", c.a, c.n)),
             b'R' => {
-                self.rooms[c.a][c.n] = c.m;
+                self.rooms[c.a][c.n] = if entry_room(c.a) { c.m % 65_536 } else { c.m };
                 self.edited = true;
             }
             b'Q' => self.counts = data.take(c.n)?.iter().map(|&n| n as u64).collect(),

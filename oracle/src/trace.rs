@@ -4,7 +4,7 @@ use crate::filling::{next_copy, start, State, Stop};
 use crate::job::Job;
 use crate::nesting::copy_order;
 use crate::print::{hex, hexes};
-use crate::rooms::{Rooms, Sizes};
+use crate::rooms::{numbers, Rooms, Sizes};
 use crate::watch::Watch;
 
 pub struct Calls {
@@ -53,8 +53,8 @@ pub fn rooms_text(rooms: &Rooms) -> String {
     room_text("shapes", bits(&rooms.shapes), true)
         + &room_text("sheet", bits(&rooms.sheet), true)
         + &room_text("placed", bits(&rooms.placed), true)
-        + &room_text("sheet_entries", rooms.sheet_entries.clone(), false)
-        + &room_text("placed_entries", rooms.placed_entries.clone(), false)
+        + &room_text("sheet_entries", numbers(&rooms.sheet_entries), false)
+        + &room_text("placed_entries", numbers(&rooms.placed_entries), false)
         + &room_text("intervals", bits(&rooms.intervals), true)
         + &room_text("positions", bits(&rooms.positions), true)
 }

@@ -3,7 +3,7 @@
 use crate::filling::{Ranges, Slot, State};
 use crate::probed::lifted::reach::Lifted;
 use crate::probed::Search;
-use crate::rooms::{load, Rooms};
+use crate::rooms::{load, numbers, Rooms};
 
 /// One look. `y` is the lowest height in no interval, free or not.
 pub struct Look {
@@ -91,10 +91,10 @@ impl Watch<'_, '_> {
         if !same {
             return Err("placed strips differ".into());
         }
-        if entries != rooms.placed_entries[..state.placed_index.count()] {
+        if entries != numbers(&rooms.placed_entries[..state.placed_index.count()]) {
             return Err("placed entries differ".into());
         }
-        if lifted.sheet_entries() != rooms.sheet_entries[..state.sheet_index.count()] {
+        if lifted.sheet_entries() != numbers(&rooms.sheet_entries[..state.sheet_index.count()]) {
             return Err("sheet entries differ".into());
         }
         Ok(())

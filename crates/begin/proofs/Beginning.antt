@@ -54,7 +54,7 @@ tables-same : (r r′ : Float) (b b′ : Rect) (n n′ a a′ : ℕ) (x x′ : L
 tables-same r r′ b b′ n n′ a a′ x x′ y y′ e f g h i k = rw (e, f, g, h, i, k)
 
 verdict-by-length : (p : Planner) (l : Lent) (shapes sheet : List Float) (entries : List ℕ) → Cleared l shapes sheet entries → prepareVerdict p (given shapes sheet entries) ≡ prepareVerdict p (l .rooms)
-unfolding prepareVerdict Rattle.trapezoid.specs.Strip.capacity
+unfolding prepareVerdict Rattle.index.specs.Buckets.standingCapacity Rattle.trapezoid.specs.Strip.capacity
 verdict-by-length p l shapes sheet entries C =
     let a = ap length (C .shapes-zero) ∙ length-zeros posZero (l .rooms .shapes) in
     let b = ap length (C .sheet-zero) ∙ length-zeros posZero (l .rooms .sheet) in

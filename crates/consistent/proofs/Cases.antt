@@ -1,5 +1,5 @@
 -- The groups of 31's tests by cases, in the code's order. Assumes nothing.
-use Prim.Native.Nat.{ℕ, _-_, _*_, _≤_, _<_}
+use Prim.Native.Nat.{ℕ, _/_, _-_, _*_, _≤_, _<_}
 use native.Mathlib.Nat.{le-of-eq}
 use native.Mathlib.Omega.{arith}
 use mathlib.Core.Path.{_≡_, sym, ap, subst, _∙_}
@@ -13,7 +13,7 @@ use borrow.Author.Tests.{lt-leb, le-leb}
 use Rattle.trapezoid.specs.Strip.{capacity}
 use Rattle.strips.specs.declared.Rect.{Rect}
 use Rattle.index.specs.declared.Index.{Index}
-use Rattle.index.specs.Buckets.{indexOf, entriesOf}
+use Rattle.index.specs.Buckets.{indexOf, entriesOf, stripNumbers, standingCapacity}
 use Rattle.index.specs.Listing.{Laid}
 use Rattle.entries.specs.declared.Walked.{Walked}
 use Rattle.entries.specs.declared.Walked.the-variants.{At, Wrong}
@@ -29,22 +29,26 @@ pub room-for : (n : ℕ) (room : List Float) → n ≤ capacity room → 6 * n �
 unfolding capacity
 room-for n room h = omega arith
 
-module _ (n a m : ℕ) (sheet shapes placed : List Float) where
-  pub counts-sheet : capacity sheet < n → countsTest n a m sheet shapes placed ≡ false
-  unfolding countsTest
-  counts-sheet h = let e : leb n (capacity sheet) ≡ false = lt-leb n (capacity sheet) h in rw e
+pub room-in : (n : ℕ) (room : List Float) → n ≤ standingCapacity room → 6 * n ≤ length room
+unfolding standingCapacity capacity
+room-in n room h = let g : n ≤ Prim.Native.Nat.min (length room / 6) stripNumbers = h in omega arith
 
-  pub counts-apart : n ≤ capacity sheet → capacity shapes < a → countsTest n a m sheet shapes placed ≡ false
+module _ (n a m : ℕ) (sheet shapes placed : List Float) where
+  pub counts-sheet : standingCapacity sheet < n → countsTest n a m sheet shapes placed ≡ false
+  unfolding countsTest
+  counts-sheet h = let e : leb n (standingCapacity sheet) ≡ false = lt-leb n (standingCapacity sheet) h in rw e
+
+  pub counts-apart : n ≤ standingCapacity sheet → capacity shapes < a → countsTest n a m sheet shapes placed ≡ false
   unfolding countsTest
   counts-apart g h =
-      let e : leb n (capacity sheet) ≡ true = le-leb n (capacity sheet) g in
+      let e : leb n (standingCapacity sheet) ≡ true = le-leb n (standingCapacity sheet) g in
       let f : leb a (capacity shapes) ≡ false = lt-leb a (capacity shapes) h in
       rw (e, f)
 
-  pub counts-placed : n ≤ capacity sheet → a ≤ capacity shapes → leb m (capacity placed) ≡ countsTest n a m sheet shapes placed
+  pub counts-placed : n ≤ standingCapacity sheet → a ≤ capacity shapes → leb m (standingCapacity placed) ≡ countsTest n a m sheet shapes placed
   unfolding countsTest
   counts-placed g h =
-      let e : leb n (capacity sheet) ≡ true = le-leb n (capacity sheet) g in
+      let e : leb n (standingCapacity sheet) ≡ true = le-leb n (standingCapacity sheet) g in
       let f : leb a (capacity shapes) ≡ true = le-leb a (capacity shapes) h in
       rw (e, f)
 

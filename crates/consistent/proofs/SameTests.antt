@@ -8,6 +8,7 @@ use lib.ListN.{length, getD, take, length-map}
 use lib.Dec.{leb}
 use lib.Ieee.{Float}
 use Rattle.trapezoid.specs.Strip.{capacity}
+use Rattle.index.specs.Buckets.{stripNumbers, standingCapacity}
 use Rattle.job.specs.Jobs.{Job}
 use Rattle.filling.specs.declared.Tables.{Tables}
 use Rattle.filling.specs.declared.State.{State}
@@ -89,7 +90,7 @@ module _ (j : Job) (s : State) (w : Rooms) (rows : List ℕ) (areas : List Float
   standing = take (6 * s .«placed_strips») (w .placed)
 
   abbrev counts : Bool
-  counts = leb (t .«sheet_strips») (capacity (w .sheet)) && (leb (t .«apart_strips») (capacity (w .shapes)) && leb (s .«placed_strips») (capacity (w .placed)))
+  counts = leb (t .«sheet_strips») (standingCapacity (w .sheet)) && (leb (t .«apart_strips») (capacity (w .shapes)) && leb (s .«placed_strips») (standingCapacity (w .placed)))
 
   abbrev stands : Bool
   stands = stripsFit sheet && (stripsFit standing && (entriesLie (entriesFor (t .«sheet_bounds») sheet) (w .sheet-entries) && entriesLie (entriesFor (t .«sheet_bounds») standing) (w .placed-entries)))

@@ -7,6 +7,7 @@ use lib.ListN.{take, drop}
 use lib.Dec.{leb}
 use lib.Ieee.{Float}
 use Rattle.trapezoid.specs.Strip.{capacity}
+use Rattle.index.specs.Buckets.{standingCapacity}
 use Rattle.strips.specs.declared.Rect.{Rect}
 use Rattle.filling.specs.declared.State.{State}
 use Rattle.filling.specs.Rooms.{Rooms}
@@ -39,7 +40,7 @@ unfoldable pub stateTest : ℕ → ℕ → Float → Rect → Float → Float �
 stateTest taken copies resolution bounds right area ordered = leb taken copies && (resolutionFits resolution && (boundsFit bounds && (layoutFits right area && ordered)))
 
 unfoldable pub countsTest : ℕ → ℕ → ℕ → List Float → List Float → List Float → Bool
-countsTest sheet-strips apart-strips placed-strips sheet shapes placed = leb sheet-strips (capacity sheet) && (leb apart-strips (capacity shapes) && leb placed-strips (capacity placed))
+countsTest sheet-strips apart-strips placed-strips sheet shapes placed = leb sheet-strips (standingCapacity sheet) && (leb apart-strips (capacity shapes) && leb placed-strips (standingCapacity placed))
 
 unfoldable pub standingTest : Rect → List Float → List Float → List ℕ → List ℕ → Bool
 standingTest bounds sheet placed sheet-entries placed-entries =

@@ -40,13 +40,13 @@ fn strip_counts_fit(
 ) -> bool
     ensures { λ r. ⌜ (r ≡ countsTest «sheet_strips» «apart_strips» «placed_strips» (now (sheet .entry)) (now (shapes .entry)) (now (placed .entry))) × (r ≡ true → (6 * «sheet_strips» ≤ length (now (sheet .entry))) × (6 * «apart_strips» ≤ length (now (shapes .entry))) × (6 * «placed_strips» ≤ length (now (placed .entry)))) ⌝ }
 {
-    if sheet_strips > trapezoid::capacity(sheet) {
+    if sheet_strips > index::standing_capacity(sheet) {
         return false;
     }
     if apart_strips > trapezoid::capacity(shapes) {
         return false;
     }
-    placed_strips <= trapezoid::capacity(placed)
+    placed_strips <= index::standing_capacity(placed)
 }
 
 // The copies taken, resolution, sheet bounds, right and unplaced area, and the order.

@@ -3,7 +3,7 @@ ghost use mathlib.Core.Path.{_≡_};
 ghost use mathlib.Core.Bool.{true, false};
 ghost use Prim.Native.Nat.{ℕ, _+_, _-_, _*_, _≤_, _<_, max, min};
 ghost use lib.ListN.{length, getD};
-ghost use Rattle.index.specs.Buckets.{buckets, entered};
+ghost use Rattle.index.specs.Buckets.{buckets, entered, stripNumbers};
 ghost use Rattle.index.specs.Listing.{Laid};
 ghost use Rattle.enter.specs.EntryRoom.{startOf, enterOf};
 ghost use Rattle.marks.specs.NewEntries.{Within, Kept};
@@ -83,7 +83,7 @@ fn measure(
 
 // Puts a strip's number at the end of each of the buckets lo to hi.
 fn fill_strip(entries: &mut [Entry], starts: &mut [usize], number: usize, lo: usize, hi: usize)
-    requires { ⌜ (length (now starts) ≡ buckets + 1) × (hi < buckets) × ((b : ℕ) → lo ≤ b → b ≤ hi → getD (now starts) (b + 1) 0 < length (now entries)) ⌝ }
+    requires { ⌜ (length (now starts) ≡ buckets + 1) × (hi < buckets) × ((b : ℕ) → lo ≤ b → b ≤ hi → getD (now starts) (b + 1) 0 < length (now entries)) × (number < stripNumbers) ⌝ }
     ensures { λ _. ⌜ rooms (now (entries .exit)) (now (starts .exit)) ≡ filled number (hi + 1 - lo) lo (rooms (now (entries .entry)) (now (starts .entry))) ⌝ }
 {
     let mut b = lo;
@@ -106,7 +106,7 @@ fn fill(
     entries: &mut [Entry],
     starts: &mut [usize],
 )
-    requires { ⌜ (from ≤ to) × (6 * to ≤ length (now standing)) × (length (now firsts) ≡ 64) × (length (now lasts) ≡ 64) × Kept ix (now standing) from (to - from) (now firsts) (now lasts) × (startOf ix (now standing) to buckets ≤ length (now entries)) × Blocks (startOf ix (now standing) to) (entered ix (now standing) from) (now entries) (now starts) ⌝ }
+    requires { ⌜ (from ≤ to) × (6 * to ≤ length (now standing)) × (length (now firsts) ≡ 64) × (length (now lasts) ≡ 64) × Kept ix (now standing) from (to - from) (now firsts) (now lasts) × (startOf ix (now standing) to buckets ≤ length (now entries)) × Blocks (startOf ix (now standing) to) (entered ix (now standing) from) (now entries) (now starts) × (to ≤ stripNumbers) ⌝ }
     ensures { λ _. ⌜ Blocks (startOf ix (now (standing .entry)) to) (entered ix (now (standing .entry)) to) (now (entries .exit)) (now (starts .exit)) × ((j : ℕ) → startOf ix (now (standing .entry)) to buckets ≤ j → getD (now (entries .exit)) j 0 ≡ getD (now (entries .entry)) j 0) ⌝ }
 {
     let mut i = from;
@@ -127,7 +127,7 @@ fn enter_many(
     starts: &mut [usize],
     gains: &mut [usize],
 ) -> bool
-    requires { ⌜ (from ≤ to) × (6 * to ≤ length (now standing)) × (length (now gains) ≡ buckets) × Laid ix (now standing) from (now entries) (now starts) ⌝ }
+    requires { ⌜ (from ≤ to) × (6 * to ≤ length (now standing)) × (length (now gains) ≡ buckets) × Laid ix (now standing) from (now entries) (now starts) × (to ≤ stripNumbers) ⌝ }
     ensures { λ r. ⌜ (entering r (now (entries .exit)) (now (starts .exit)) ≡ enterOf ix (now (standing .entry)) to (rooms (now (entries .entry)) (now (starts .entry)))) × (r ≡ true → Laid ix (now (standing .entry)) to (now (entries .exit)) (now (starts .exit))) ⌝ }
 {
     let mut firsts = [0u16; 64];
@@ -161,7 +161,7 @@ fn enter_one(
     entries: &mut [Entry],
     starts: &mut [usize],
 ) -> bool
-    requires { ⌜ (6 * from + 6 ≤ length (now standing)) × Laid ix (now standing) from (now entries) (now starts) ⌝ }
+    requires { ⌜ (6 * from + 6 ≤ length (now standing)) × Laid ix (now standing) from (now entries) (now starts) × (from < stripNumbers) ⌝ }
     ensures { λ r. ⌜ (entering r (now (entries .exit)) (now (starts .exit)) ≡ enterOf ix (now (standing .entry)) (from + 1) (rooms (now (entries .entry)) (now (starts .entry)))) × (r ≡ true → Laid ix (now (standing .entry)) (from + 1) (now (entries .exit)) (now (starts .exit))) ⌝ }
 {
     let s = marks::span_of(ix, standing, from);
@@ -191,7 +191,7 @@ pub fn enter_copy(
     starts: &mut [usize],
     gains: &mut [usize],
 ) -> bool
-    requires { ⌜ (from ≤ to) × (6 * to ≤ length (now standing)) × (length (now gains) ≡ buckets) × Laid ix (now standing) from (now entries) (now starts) ⌝ }
+    requires { ⌜ (from ≤ to) × (6 * to ≤ length (now standing)) × (length (now gains) ≡ buckets) × Laid ix (now standing) from (now entries) (now starts) × (to ≤ stripNumbers) ⌝ }
     ensures { λ r. ⌜ (entering r (now (entries .exit)) (now (starts .exit)) ≡ enterOf ix (now (standing .entry)) to (rooms (now (entries .entry)) (now (starts .entry)))) × (r ≡ true → Laid ix (now (standing .entry)) to (now (entries .exit)) (now (starts .exit))) ⌝ }
 {
     if to - from == 1 {

@@ -10,7 +10,7 @@ ghost use Rattle.job.specs.Meaning.{verdictOf};
 ghost use Rattle.exports.specs.Answers.{verdictNumber, told};
 ghost use Rattle.random.specs.SplitMix64.{nextState, mixed};
 ghost use Rattle.numbers.proofs.Doubles.{Finite};
-ghost use Rattle.index.specs.Buckets.{buckets};
+ghost use Rattle.index.specs.Buckets.{buckets, stripNumbers};
 ghost use Rattle.index.specs.Listing.{intervals, Laid};
 ghost use Rattle.height.specs.Raising.{FiniteEnds};
 ghost use Rattle.look.specs.Ready.{Lookable};
@@ -133,7 +133,7 @@ pub extern "C" fn panel_enter(
     starts: &mut [usize],
     gains: &mut [usize],
 ) -> bool
-    requires { ⌜ (from ≤ to) × (6 * to ≤ length (now standing)) × (length (now gains) ≡ buckets) × Laid (record { x0 = x0; width = width }) (now standing) from (now entries) (now starts) ⌝ }
+    requires { ⌜ (from ≤ to) × (6 * to ≤ length (now standing)) × (length (now gains) ≡ buckets) × Laid (record { x0 = x0; width = width }) (now standing) from (now entries) (now starts) × (to ≤ stripNumbers) ⌝ }
 {
     let ix = Index {
         x0: x0,

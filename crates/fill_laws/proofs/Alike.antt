@@ -34,7 +34,7 @@ pub record Alike (j : Job) (s : State) (w w′ : Rooms) : Type 0 where
 -- ---- what a step tests
 
 store-same : (p : Planner) (w w′ : Rooms) (strips : List Float) → length (w .placed) ≡ length (w′ .placed) → length (w .placed-entries) ≡ length (w′ .placed-entries) → storeVerdict p w strips ≡ storeVerdict p w′ strips
-unfolding storeVerdict capacity
+unfolding storeVerdict Rattle.index.specs.Buckets.standingCapacity capacity
 store-same p w w′ strips a b = rw (a, b)
 
 winner-same : (p : Planner) (w w′ : Rooms) (k : ℕ) (st : List Float) (cs : List Choice) → length (w .placed) ≡ length (w′ .placed) → length (w .placed-entries) ≡ length (w′ .placed-entries) → winnerVerdict p w k st cs ≡ winnerVerdict p w′ k st cs

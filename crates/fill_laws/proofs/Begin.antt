@@ -1,5 +1,5 @@
 -- Before the first copy: what holds of any placed rooms, and that the filling is the definition's. Assumes nothing.
-use Prim.Native.Nat.{ℕ, zero, suc, _+_, _-_, _*_, _/_, _≤_, _<_}
+use Prim.Native.Nat.{ℕ, zero, suc, _+_, _-_, _*_, _/_, _≤_, _<_, min}
 use native.Mathlib.Omega.{arith}
 use mathlib.Core.Path.{_≡_, refl, sym, ap, ap₂, _∙_}
 use mathlib.Core.Bool.{Bool, true, false, not, _&&_}
@@ -12,7 +12,7 @@ use lib.Ieee.{Float}
 use Rattle.numbers.specs.Numbers.{posZero}
 use Rattle.trapezoid.specs.Strip.{capacity}
 use Rattle.index.specs.declared.Index.{Index}
-use Rattle.index.specs.Buckets.{buckets, upFrom, keep, entered}
+use Rattle.index.specs.Buckets.{buckets, upFrom, keep, entered, stripNumbers, standingCapacity}
 use Rattle.index.specs.Listing.{Laid}
 use Rattle.job.specs.Jobs.{Job, accepted, readJob}
 use Rattle.filling.specs.declared.State.{State}
@@ -67,7 +67,7 @@ refuse-none : (t : Bool) (r : Refusal) (v : Verdict) → t ≡ false → v ≡ A
 unfolding refuseIf
 refuse-none t r v e d = rw (e, refuseIf) d
 
-module _ (j : Job) (order : List ℕ) (r : rearranged j order ≡ true) where
+module _ (j : Job) (few : capacity (plannerOf j .sheet) ≤ stripNumbers) (order : List ℕ) (r : rearranged j order ≡ true) where
   abbrev P : Planner
   P = plannerOf j
 
@@ -80,8 +80,8 @@ module _ (j : Job) (order : List ℕ) (r : rearranged j order ≡ true) where
       }
 
   prepared : prepareVerdict P (enough .rooms) ≡ Accepted
-  unfolding prepareVerdict enough
-  prepared = refuse-none _ _ _ (not-below (capacity (P .sheet))) (refuse-none _ _ _ (not-below (length (entriesFor (P .bounds) (P .sheet)))) (refuse-none _ _ _ (not-below (capacity (apartStrips P ++ insetStrips P))) refl))
+  unfolding prepareVerdict enough standingCapacity
+  prepared = refuse-none _ _ _ (le-ltb (min (capacity (P .sheet)) stripNumbers) (capacity (P .sheet)) (omega (arith, few))) (refuse-none _ _ _ (not-below (length (entriesFor (P .bounds) (P .sheet)))) (refuse-none _ _ _ (not-below (capacity (apartStrips P ++ insetStrips P))) refl))
 
   started : startVerdict j order enough ≡ Accepted
   unfolding startVerdict enough
@@ -89,7 +89,7 @@ module _ (j : Job) (order : List ℕ) (r : rearranged j order ≡ true) where
 
 -- ---- what holds of a job before its first copy, whatever the placed rooms hold
 
-module _ (bytes : List ℕ) (j : Job) (read : readJob bytes ≡ accepted j) (order : List ℕ) (r : rearranged j order ≡ true) (lent : Rooms) (placed : List Float) (entries : List ℕ) where
+module _ (bytes : List ℕ) (j : Job) (read : readJob bytes ≡ accepted j) (few : capacity (plannerOf j .sheet) ≤ stripNumbers) (order : List ℕ) (r : rearranged j order ≡ true) (lent : Rooms) (placed : List Float) (entries : List ℕ) where
   abbrev p : Planner
   p = plannerOf j
 
@@ -115,7 +115,7 @@ module _ (bytes : List ℕ) (j : Job) (read : readJob bytes ≡ accepted j) (ord
 
   counts : stripCountsFit (before .tables) (before .«placed_strips») w ≡ true
   unfolding stripCountsFit firstState
-  counts = go (leb (tablesOf p .«sheet_strips») (capacity (firstRooms p lent .sheet))) (leb (tablesOf p .«apart_strips») (capacity (firstRooms p lent .shapes))) (leb 0 (capacity (firstRooms p lent .placed))) (first-counts j z lent) (at-most 0 (capacity placed) (omega arith))
+  counts = go (leb (tablesOf p .«sheet_strips») (standingCapacity (firstRooms p lent .sheet))) (leb (tablesOf p .«apart_strips») (capacity (firstRooms p lent .shapes))) (leb 0 (standingCapacity (firstRooms p lent .placed))) (first-counts j z lent few) (at-most 0 (standingCapacity placed) (omega arith))
     where
       go : (a b c : Bool) {d : Bool} → a && (b && c) ≡ true → d ≡ true → a && (b && d) ≡ true
       go true true c e f = f
@@ -131,7 +131,7 @@ module _ (bytes : List ℕ) (j : Job) (read : readJob bytes ≡ accepted j) (ord
       let b = jobs-within bytes j read in
       let n = rearranged-length j order r in
       record {
-        kept = record { linked = linked; paired = first-kept j z order (enough j order r) (started j order r) .paired };
+        kept = record { linked = linked; paired = first-kept j z order (enough j few order r) (started j few order r) .paired };
         fine = first-fine j z b order n;
         order-kept = first-order j z order n;
         few = first-few j order;

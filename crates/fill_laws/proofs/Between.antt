@@ -64,11 +64,11 @@ pub held-first : (j : Job) (g : Given) (h : Prepared j g) (order : List ℕ) →
 held-first j g h order r wide t placed entries looks next orientation x y a b c =
     record {
       plain = plainStart (plannerOf j) order;
-      own = subst (λ (s : State). Own j order s (roomsBy (plannerOf j) (h .lent) placed entries) (plainStart (plannerOf j) order)) (sym state) (own-first (h .bytes) j (h .read) order r (h .lent) placed entries);
+      own = subst (λ (s : State). Own j order s (roomsBy (plannerOf j) (h .lent) placed entries) (plainStart (plannerOf j) order)) (sym state) (own-first (h .bytes) j (h .read) (h .few) order r (h .lent) placed entries);
       same = λ l d e f.
           let n : length order - 0 ≡ length order = omega arith in
           ap₂ (λ (m : ℕ) (s : State). fillFrom j (l .intervals) m s (roomsBy (plannerOf j) (h .lent) placed entries)) n state
-          ∙ fill-first (h .bytes) j (h .read) order r (h .lent) placed entries l d e;
+          ∙ fill-first (h .bytes) j (h .read) (h .few) order r (h .lent) placed entries l d e;
     }
   where
     totals : t ≡ record { «placed_strips» = 0; right = plannerOf j .bounds .left; «unplaced_area» = posZero }

@@ -1,5 +1,5 @@
 -- For inner functions' contracts only: the tables and rooms that a filling is given, that they are a job's, and the state that it leaves. Definitions only. Assumes nothing.
-use Prim.Native.Nat.{ℕ, _+_, _*_}
+use Prim.Native.Nat.{ℕ, _+_, _*_, _≤_}
 use mathlib.Core.Path.{_≡_}
 use mathlib.Core.List.{List}
 use lib.ListN.{length, take, replicate}
@@ -8,6 +8,7 @@ use Rattle.numbers.specs.Numbers.{posZero}
 use Rattle.trapezoid.specs.Strip.{capacity}
 use Rattle.index.specs.declared.Index.{Index}
 use Rattle.index.specs.Listing.{Laid}
+use Rattle.index.specs.Buckets.{stripNumbers}
 use Rattle.strips.specs.declared.Rect.{Rect}
 use Rattle.job.specs.Jobs.{Job, accepted, readJob}
 use Rattle.filling.specs.declared.State.{State}
@@ -48,6 +49,7 @@ given ix bounds resolution rows areas inset-bounds parts apart inset sheet sheet
 pub record Prepared (j : Job) (g : Given) : Type 0 where
   pub bytes : List ℕ
   pub read : readJob bytes ≡ accepted j
+  pub few : capacity (plannerOf j .sheet) ≤ stripNumbers
   pub lent : Rooms
   pub tabled : Tabled j (g .rows) (g .areas)
   pub index : g .index ≡ sheetIndex (plannerOf j .bounds)

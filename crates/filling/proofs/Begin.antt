@@ -3,15 +3,16 @@ use mathlib.Core.Path.{_≡_, refl, sym, ap, ap₂, subst, _∙_}
 use mathlib.Core.Logic.{_⊎_, inl, inr, _≢_}
 use mathlib.Core.Bool.{Bool, true, false, not, _&&_}
 use mathlib.Core.List.{List, [], _∷_, _++_, map, flatMap, append-nil, append-assoc}
-use Prim.Native.Nat.{ℕ, zero, suc, _+_, _-_, _*_, _/_, _%_, _≤_, _<_}
+use Prim.Native.Nat.{ℕ, zero, suc, _+_, _-_, _*_, _/_, _%_, _≤_, _<_, min}
 use native.Mathlib.Omega.{arith}
 use lib.ListN.{length, getD, set, take, drop, replicate, length-append, length-map, length-replicate, getD-replicate, List·getD-map}
 use lib.Seq.{take-at, drop-at}
-use lib.Dec.{T, eqb, eqb→eq}
+use lib.Dec.{T, ltb, eqb, eqb→eq, nltb→le}
 use lib.Ieee.{Float, nan}
 use Rattle.numbers.proofs.Truth.{either}
 use Rattle.numbers.specs.Numbers.{posZero}
 use Rattle.trapezoid.specs.Strip.{flat, capacity, partOf}
+use Rattle.index.specs.Buckets.{stripNumbers, standingCapacity}
 use Rattle.strips.specs.declared.Rect.{Rect}
 use Rattle.kinds.specs.Kinds.{Orientation, Kind}
 use Rattle.job.specs.Jobs.{Job, Answer, accepted, refused, readJob}
@@ -212,14 +213,14 @@ module _ (j : Job) (z : Sized j) where
       let k = z .kinds in
       rows-every (partAt (tablesOf (plannerOf j) .parts)) (partFits (capacity (apartRoom (tablesOf (plannerOf j)) (firstRooms (plannerOf j) w .shapes))) (capacity (insetRoom (tablesOf (plannerOf j)) (firstRooms (plannerOf j) w .shapes)))) 0 (orientationCounts j) (z .turns) (omega arith) (part-fits j w)
 
-  pub first-counts : (w : Rooms) → stripCountsFit (tablesOf (plannerOf j)) 0 (firstRooms (plannerOf j) w) ≡ true
-  unfolding stripCountsFit tablesOf firstRooms capacity
-  first-counts w =
+  pub first-counts : (w : Rooms) → capacity (plannerOf j .sheet) ≤ stripNumbers → stripCountsFit (tablesOf (plannerOf j)) 0 (firstRooms (plannerOf j) w) ≡ true
+  unfolding stripCountsFit tablesOf firstRooms standingCapacity capacity
+  first-counts w f =
       let p = plannerOf j in
       let a = laid-long (p .sheet) (zeros posZero (w .sheet)) in
       let b = laid-long (apartStrips p ++ insetStrips p) (zeros posZero (w .shapes)) in
       let c = length-append (apartStrips p) (insetStrips p) in
-      rw (at-most (length (p .sheet) / 6) (length (laid (p .sheet) (zeros posZero (w .sheet))) / 6) (omega arith), at-most (length (apartStrips p) / 6) (length (laid (apartStrips p ++ insetStrips p) (zeros posZero (w .shapes))) / 6) (omega arith), at-most 0 (length (zeros posZero (w .placed)) / 6) (omega arith))
+      rw (at-most (length (p .sheet) / 6) (min (length (laid (p .sheet) (zeros posZero (w .sheet))) / 6) stripNumbers) (omega arith), at-most (length (apartStrips p) / 6) (length (laid (apartStrips p ++ insetStrips p) (zeros posZero (w .shapes))) / 6) (omega arith), at-most 0 (min (length (zeros posZero (w .placed)) / 6) stripNumbers) (omega arith))
 
   pub tracks-read : (order : List ℕ) → tracksOf j (firstState (plannerOf j) order) ≡ map (map (λ s. record { next-column = column 0; look-count = 0 })) (plannerOf j .shapes)
   unfolding tracksOf firstState trackAt rememberedOf
@@ -300,6 +301,14 @@ begun j order l e =
     back : (t : Bool) → not t ≡ false → t ≡ true
     back true q = refl
     back false q = sym q
+
+-- an accepted start's sheet has at most as many strips as its room is used for
+pub prepared-few : (p : Planner) (w : Rooms) → prepareVerdict p w ≡ Accepted → capacity (p .sheet) ≤ stripNumbers
+unfolding prepareVerdict standingCapacity
+prepared-few p w e =
+    let a = later-accepted (ltb (min (capacity (w .sheet)) stripNumbers) (capacity (p .sheet))) Why.StripRoom _ e .0 in
+    let b : capacity (p .sheet) ≤ min (capacity (w .sheet)) stripNumbers = nltb→le (min (capacity (w .sheet)) stripNumbers) (capacity (p .sheet)) (rw a tt) in
+    omega arith
 
 pub record Started (j : Job) (order : List ℕ) (l : Lent) (r : Start) : Type 0 where
   pub verdict-is : startVerdict j order l ≡ Accepted

@@ -12,7 +12,7 @@ use lib.Ieee.{Float}
 use Rattle.numbers.proofs.Truth.{either}
 use Rattle.numbers.specs.Numbers.{posZero}
 use Rattle.trapezoid.specs.Strip.{capacity}
-use Rattle.index.specs.Buckets.{upFrom, entriesOf, byBucket, numbersIn}
+use Rattle.index.specs.Buckets.{upFrom, entriesOf, byBucket, numbersIn, standingCapacity}
 use Rattle.strips.specs.declared.Rect.{Rect}
 use Rattle.job.specs.Jobs.{Job, Answer, accepted, refused, readJob}
 use Rattle.filling.specs.declared.State.{State}
@@ -38,7 +38,7 @@ use Rattle.filling.proofs.Sizes.{Sized, sized}
 use Rattle.filling.proofs.Rows.{Row, no-more, and-more, Table, no-kind, and-kind}
 use Rattle.filling.proofs.Steps as Steps
 use Rattle.filling.proofs.Steps.{Linked, Took, refused≢accepted, later-accepted, place-refused, place-taken}
-use Rattle.filling.proofs.Begin.{first-order, first-standing, first-without, first-parts, first-counts, rearranged-length, Begun, begun, Started, start-accepted}
+use Rattle.filling.proofs.Begin.{first-order, first-standing, first-without, first-parts, first-counts, prepared-few, rearranged-length, Begun, begun, Started, start-accepted}
 use Rattle.filling.proofs.Runs.{step-consistent, call-outcome, step-keeps}
 use Rattle.filling.proofs.Demand3.{Fit, fresh, closed, reached, spent, Tracked, Paired, Kept, took-keeps, first-kept}
 use Rattle.filling.proofs.Numbers31.{WithinBounds, Fine, summed, layout-fits, left-bounded, Goods, row-good, fine-none, fine-placed}
@@ -179,18 +179,18 @@ module _ (j : Job) (z : Sized j) (b : WithinBounds (plannerOf j)) (order : List 
     counts-now [] v = h .counts
     counts-now (c ∷ cs) v =
         let now = St ++ newStrips P k (best c cs) in
-        let l : ltb (capacity (w .placed)) (capacity now) ≡ false = later-accepted (ltb (capacity (w .placed)) (capacity now)) Why.StripRoom _ v .0 in
-        let m : capacity now ≤ capacity (w .placed) = nltb→le (capacity (w .placed)) (capacity now) (rw l tt) in
+        let l : ltb (standingCapacity (w .placed)) (capacity now) ≡ false = later-accepted (ltb (standingCapacity (w .placed)) (capacity now)) Why.StripRoom _ v .0 in
+        let m : capacity now ≤ standingCapacity (w .placed) = nltb→le (standingCapacity (w .placed)) (capacity now) (rw l tt) in
         counts-more (s .tables) (s .«placed_strips») (capacity now) w (laid now (w .placed)) (entriesFor (P .bounds) now) (h .counts) (room-now now (w .placed) m)
       where
-        room-now : (now placed : List Float) → capacity now ≤ capacity placed → capacity now ≤ capacity (laid now placed)
-        room-now now placed m = unfold capacity in (let a = laid-long now placed in omega arith)
+        room-now : (now placed : List Float) → capacity now ≤ standingCapacity placed → capacity now ≤ standingCapacity (laid now placed)
+        room-now now placed m = unfold standingCapacity in unfold capacity in (let a = laid-long now placed in omega arith)
 
-        counts-more : (t : Tables) (n m : ℕ) (w : Rooms) (placed : List Float) (es : List ℕ) → leb (t .«sheet_strips») (capacity (w .sheet)) && (leb (t .«apart_strips») (capacity (w .shapes)) && leb n (capacity (w .placed))) ≡ true
-            → m ≤ capacity placed → leb (t .«sheet_strips») (capacity (w .sheet)) && (leb (t .«apart_strips») (capacity (w .shapes)) && leb m (capacity placed)) ≡ true
-        counts-more t n m w placed es c l = go (leb (t .«sheet_strips») (capacity (w .sheet))) (leb (t .«apart_strips») (capacity (w .shapes))) c (at-most m (capacity placed) l)
+        counts-more : (t : Tables) (n m : ℕ) (w : Rooms) (placed : List Float) (es : List ℕ) → leb (t .«sheet_strips») (standingCapacity (w .sheet)) && (leb (t .«apart_strips») (capacity (w .shapes)) && leb n (standingCapacity (w .placed))) ≡ true
+            → m ≤ standingCapacity placed → leb (t .«sheet_strips») (standingCapacity (w .sheet)) && (leb (t .«apart_strips») (capacity (w .shapes)) && leb m (standingCapacity placed)) ≡ true
+        counts-more t n m w placed es c l = go (leb (t .«sheet_strips») (standingCapacity (w .sheet))) (leb (t .«apart_strips») (capacity (w .shapes))) c (at-most m (standingCapacity placed) l)
           where
-            go : (x y : Bool) → x && (y && leb n (capacity (w .placed))) ≡ true → leb m (capacity placed) ≡ true → x && (y && leb m (capacity placed)) ≡ true
+            go : (x y : Bool) → x && (y && leb n (standingCapacity (w .placed))) ≡ true → leb m (standingCapacity placed) ≡ true → x && (y && leb m (standingCapacity placed)) ≡ true
             go true true u v = v
             go true false u v = u
             go false y u v = u
@@ -314,7 +314,7 @@ own-start j z b order l v =
       fine = first-fine j z b order n;
       order-kept = first-order j z order n;
       few = first-few j order;
-      counts = first-counts j z (l .rooms);
+      counts = first-counts j z (l .rooms) (prepared-few (plannerOf j) (l .rooms) (begun j order l v .prepared));
       parts = first-parts j z (l .rooms);
       sheet-entries = first-sheet j (l .rooms);
       placed-entries = first-placed j z order n (firstRooms (plannerOf j) (l .rooms) .placed-entries);

@@ -12,6 +12,7 @@ use lib.Ieee.{Float}
 use Rattle.numbers.proofs.Truth.{either}
 use Rattle.numbers.specs.Numbers.{posZero}
 use Rattle.trapezoid.specs.Strip.{capacity}
+use Rattle.index.specs.Buckets.{standingCapacity}
 use Rattle.bits.specs.declared.Refusal as Input
 use Rattle.job.specs.Jobs.{Job, Answer, accepted, refused, readJob}
 use Rattle.filling.specs.declared.State.{State}
@@ -48,7 +49,7 @@ copyLines p w iv k st ss ts fs [] = record { holds = anyAbove (intervalCapacity 
 copyLines p w iv k st ss ts fs (a ∷ as′) =
     let strips = st ++ newStrips p k (best a as′) in
     record { holds = anyAbove (intervalCapacity iv) (intervalCounts p st ss ts fs); refusal = Why.IntervalRoom }
-    ∷ record { holds = ltb (capacity (w .placed)) (capacity strips); refusal = Why.StripRoom }
+    ∷ record { holds = ltb (standingCapacity (w .placed)) (capacity strips); refusal = Why.StripRoom }
     ∷ record { holds = ltb (length (w .placed-entries)) (length (entriesFor (p .bounds) strips)); refusal = Why.EntryRoom }
     ∷ []
 

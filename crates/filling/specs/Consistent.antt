@@ -11,7 +11,7 @@ use Rattle.numbers.specs.Numbers.{posZero, fromInt}
 use Rattle.trapezoid.specs.declared.Trapezoid.{Trapezoid}
 use Rattle.trapezoid.specs.Strip.{stripAt, capacity}
 use Rattle.index.specs.declared.Index.{Index}
-use Rattle.index.specs.Buckets.{upFrom, indexOf, entriesOf}
+use Rattle.index.specs.Buckets.{upFrom, indexOf, entriesOf, standingCapacity}
 use Rattle.strips.specs.declared.Rect.{Rect}
 use Rattle.bits.specs.Fields.{Range, resolutionRange}
 use Rattle.job.specs.Jobs.{Job}
@@ -52,10 +52,10 @@ boundsFit b = bounded (b .left) && (bounded (b .bottom) && (bounded (b .right) &
 unfoldable pub takenFits : Job → State → Bool
 takenFits j s = leb (s .taken) (j .copies)
 
--- strips lie within their rooms
+-- strips lie within what their rooms are used for
 unfoldable pub stripCountsFit : Tables → ℕ → Rooms → Bool
 stripCountsFit t placed w =
-    leb (t .«sheet_strips») (capacity (w .sheet)) && (leb (t .«apart_strips») (capacity (w .shapes)) && leb placed (capacity (w .placed)))
+    leb (t .«sheet_strips») (standingCapacity (w .sheet)) && (leb (t .«apart_strips») (capacity (w .shapes)) && leb placed (standingCapacity (w .placed)))
 
 -- an orientation's strips lie within the two parts of the shapes room
 unfoldable pub partFits : ℕ → ℕ → Part → Bool

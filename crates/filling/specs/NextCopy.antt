@@ -8,6 +8,7 @@ use lib.Dec.{ltb}
 use lib.Ieee.{Float}
 use Rattle.numbers.specs.Numbers.{_⊕_, larger, posZero}
 use Rattle.trapezoid.specs.Strip.{capacity}
+use Rattle.index.specs.Buckets.{standingCapacity}
 use Rattle.job.specs.Jobs.{Job, Answer, accepted, refused, readJob}
 use Rattle.filling.specs.declared.State.{State}
 use Rattle.filling.specs.declared.Layout.{Layout}
@@ -47,7 +48,7 @@ newStrips p k c = movedStrips (shapeOf p k (c .orientation) .apart) (c .x) (c .y
 -- "strips to be stored exceed the lent strip room" before "bucket entries exceed their room"
 unfoldable pub storeVerdict : Planner → Rooms → List Float → Verdict
 storeVerdict p w strips =
-    refuseIf (ltb (capacity (w .placed)) (capacity strips)) Why.StripRoom
+    refuseIf (ltb (standingCapacity (w .placed)) (capacity strips)) Why.StripRoom
     (refuseIf (ltb (length (w .placed-entries)) (length (entriesFor (p .bounds) strips))) Why.EntryRoom Accepted)
 
 -- a copy without a place stores nothing

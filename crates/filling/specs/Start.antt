@@ -7,6 +7,7 @@ use lib.Dec.{ltb}
 use lib.Ieee.{Float}
 use Rattle.numbers.specs.Numbers.{posZero}
 use Rattle.trapezoid.specs.Strip.{capacity}
+use Rattle.index.specs.Buckets.{standingCapacity}
 use Rattle.bits.specs.declared.Refusal as Input
 use Rattle.job.specs.Jobs.{Job, Answer, accepted, refused, readJob}
 use Rattle.filling.specs.declared.Tables.{Tables}
@@ -81,7 +82,7 @@ firstRooms p w =
 -- "Then come the sheet's strips (20) and entries (21), the shapes' strips by kind and orientation, apart before inset (20)"
 unfoldable pub prepareVerdict : Planner → Rooms → Verdict
 prepareVerdict p w =
-    refuseIf (ltb (capacity (w .sheet)) (capacity (p .sheet))) Why.StripRoom
+    refuseIf (ltb (standingCapacity (w .sheet)) (capacity (p .sheet))) Why.StripRoom
     (refuseIf (ltb (length (w .sheet-entries)) (length (entriesFor (p .bounds) (p .sheet)))) Why.EntryRoom
     (refuseIf (ltb (capacity (w .shapes)) (capacity (apartStrips p ++ insetStrips p))) Why.StripRoom
     Accepted))

@@ -15,6 +15,7 @@ use Rattle.numbers.proofs.Truth.{either}
 use Rattle.numbers.proofs.Doubles.{k, o, u}
 use Rattle.numbers.proofs.Literals.{milli}
 use Rattle.trapezoid.specs.Strip.{stripAt, capacity}
+use Rattle.index.specs.Buckets.{stripNumbers, standingCapacity}
 use Rattle.strips.specs.declared.Rect.{Rect}
 use Rattle.index.specs.Listing.{Laid, Bounded, Fair}
 use Rattle.index.specs.declared.Index.{Index}
@@ -140,15 +141,19 @@ within-room : (n : ℕ) (room : List Float) → leb n (capacity room) ≡ true �
 unfolding capacity
 within-room n room e = let h : n ≤ length room / 6 = leb-true n (length room / 6) e in omega arith
 
+within-standing : (n : ℕ) (room : List Float) → leb n (standingCapacity room) ≡ true → 6 * n ≤ length room
+unfolding standingCapacity capacity
+within-standing n room e = let h : n ≤ Prim.Native.Nat.min (length room / 6) stripNumbers = leb-true n (Prim.Native.Nat.min (length room / 6) stripNumbers) e in omega arith
+
 pub strips-within : (j : Job) (s : State) (w : Rooms) → consistent j s w ≡ true → StripsWithin s w
 unfolding stripCountsFit
 strips-within j s w e =
     let a = tests-of j s w e .counts in
-    let b = both-second (leb (s .tables .«sheet_strips») (capacity (w .sheet))) _ a in
+    let b = both-second (leb (s .tables .«sheet_strips») (standingCapacity (w .sheet))) _ a in
     record {
-      sheet = within-room (s .tables .«sheet_strips») (w .sheet) (both-first (leb (s .tables .«sheet_strips») (capacity (w .sheet))) _ a);
+      sheet = within-standing (s .tables .«sheet_strips») (w .sheet) (both-first (leb (s .tables .«sheet_strips») (standingCapacity (w .sheet))) _ a);
       apart = within-room (s .tables .«apart_strips») (w .shapes) (both-first (leb (s .tables .«apart_strips») (capacity (w .shapes))) _ b);
-      placed = within-room (s .«placed_strips») (w .placed) (both-second (leb (s .tables .«apart_strips») (capacity (w .shapes))) _ b);
+      placed = within-standing (s .«placed_strips») (w .placed) (both-second (leb (s .tables .«apart_strips») (capacity (w .shapes))) _ b);
     }
 
 -- the first n strips of a room

@@ -14,7 +14,7 @@ use lib.Ieee.{Float}
 use Rattle.numbers.specs.Numbers.{_⊕_, larger, posZero}
 use Rattle.trapezoid.specs.Strip.{capacity}
 use Rattle.index.specs.declared.Index.{Index}
-use Rattle.index.specs.Buckets.{upFrom, entriesOf}
+use Rattle.index.specs.Buckets.{upFrom, entriesOf, standingCapacity}
 use Rattle.enter.specs.EntryRoom.{startsOf}
 use Rattle.filling.specs.declared.State.{State}
 use Rattle.filling.specs.declared.Refusal.{Refusal}
@@ -248,14 +248,14 @@ module _ (p : Planner) (k : ℕ) (s : State) (w : Rooms) (intervals : List Float
       count-is = sym (strips-count part (c .x) (c .y) (s .«placed_strips») (w .placed) room)
 
       abbrev few : Bool
-      few = ltb (capacity (w .placed)) (capacity strips)
+      few = ltb (standingCapacity (w .placed)) (capacity strips)
 
       abbrev tight : Bool
       tight = ltb (length (w .placed-entries)) (length (entriesOf ix strips (capacity strips)))
 
       verdict-is : storeVerdict p w (standing ++ newStrips p k c) ≡ refuseIf few Why.StripRoom (refuseIf tight Why.EntryRoom Verdicts.Accepted)
       unfolding storeVerdict entriesFor
-      verdict-is = ap (λ (z : List Float). refuseIf (ltb (capacity (w .placed)) (capacity z)) Why.StripRoom (refuseIf (ltb (length (w .placed-entries)) (length (entriesOf ix z (capacity z)))) Why.EntryRoom Verdicts.Accepted)) strips-are
+      verdict-is = ap (λ (z : List Float). refuseIf (ltb (standingCapacity (w .placed)) (capacity z)) Why.StripRoom (refuseIf (ltb (length (w .placed-entries)) (length (entriesOf ix z (capacity z)))) Why.EntryRoom Verdicts.Accepted)) strips-are
 
       abbrev storing : Left
       storing = storeOf ix part (c .x) (c .y) (s .«placed_strips») (w .placed) (w .placed-entries) starts

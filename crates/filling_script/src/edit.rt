@@ -4,6 +4,7 @@ use crate::show;
 use filling::Layout;
 use filling::State;
 use filling::Tables;
+use index::Entry;
 use strips::Rect;
 
 fn infinity() -> f64 {
@@ -47,6 +48,11 @@ fn garbage(draw: u64) -> f64 {
     }
 }
 
+// The last 16 bits of a number.
+fn entry_of(n: u64) -> Entry {
+    (n % 65536) as u16
+}
+
 // Garbage from slot `from` on.
 pub fn spoil(room: &mut [f64], from: usize, seed: u64) {
     let mut state = seed;
@@ -57,11 +63,11 @@ pub fn spoil(room: &mut [f64], from: usize, seed: u64) {
     }
 }
 
-pub fn spoil_numbers(room: &mut [usize], from: usize, seed: u64) {
+pub fn spoil_entries(room: &mut [Entry], from: usize, seed: u64) {
     let mut state = seed;
     let mut i = from;
     while i < room.len() {
-        room[i] = random::next_random(&mut state) as usize;
+        room[i] = entry_of(random::next_random(&mut state));
         i += 1;
     }
 }
@@ -72,9 +78,9 @@ fn set_double(room: &mut [f64], i: usize, x: f64) {
     }
 }
 
-fn set_number(room: &mut [usize], i: usize, n: usize) {
+fn set_entry(room: &mut [Entry], i: usize, n: u64) {
     if i < room.len() {
-        room[i] = n;
+        room[i] = entry_of(n);
     }
 }
 
@@ -91,12 +97,12 @@ pub fn obey(c: Command, room: &mut [f64]) {
     }
 }
 
-pub fn obey_numbers(c: Command, room: &mut [usize]) {
+pub fn obey_entries(c: Command, room: &mut [Entry]) {
     let letter = c.letter;
     match letter {
-        72 => spoil_numbers(room, c.n, c.m),
-        82 => set_number(room, c.n, c.m as usize),
-        80 => show::numbers(c.a, room),
+        72 => spoil_entries(room, c.n, c.m),
+        82 => set_entry(room, c.n, c.m),
+        80 => show::entries(c.a, room),
         86 => show::entry_room(room),
         _ => {}
     }

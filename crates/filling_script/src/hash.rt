@@ -3,6 +3,7 @@ use filling::Layout;
 use filling::Plan;
 use filling::State;
 use filling::Tables;
+use index::Entry;
 use strips::Rect;
 
 // The bits of x; one pattern for every NaN.
@@ -42,6 +43,16 @@ pub fn numbers(start: u64, room: &[usize]) -> u64 {
     let mut i: usize = 0;
     while i < room.len() {
         h = mix_number(h, room[i]);
+        i += 1;
+    }
+    h
+}
+
+pub fn entries(start: u64, room: &[Entry]) -> u64 {
+    let mut h = start;
+    let mut i: usize = 0;
+    while i < room.len() {
+        h = mix_number(h, index::entry(room, i));
         i += 1;
     }
     h

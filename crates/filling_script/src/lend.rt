@@ -5,6 +5,7 @@ use crate::command;
 use crate::command::Command;
 use crate::edit;
 use crate::show;
+use index::Entry;
 
 // How many of a room's slots are lent: number a of the lengths, at most all.
 pub fn lent(lengths: &[usize], a: usize, most: usize) -> usize
@@ -66,10 +67,10 @@ fn touch(c: Command, a: usize, lengths: &[usize], room: &mut [f64]) {
     }
 }
 
-fn touch_numbers(c: Command, a: usize, lengths: &[usize], room: &mut [usize]) {
+fn touch_entries(c: Command, a: usize, lengths: &[usize], room: &mut [Entry]) {
     if of_room(c.letter, c.a, a) {
         let n = lent(lengths, a, room.len());
-        edit::obey_numbers(c, &mut room[..n]);
+        edit::obey_entries(c, &mut room[..n]);
     }
 }
 
@@ -93,8 +94,8 @@ pub fn touch_rooms(
     shapes: &mut [f64],
     sheet: &mut [f64],
     placed: &mut [f64],
-    sheet_entries: &mut [usize],
-    placed_entries: &mut [usize],
+    sheet_entries: &mut [Entry],
+    placed_entries: &mut [Entry],
     intervals: &mut [f64],
     positions: &mut [f64],
 ) {
@@ -102,8 +103,8 @@ pub fn touch_rooms(
     touch(c, 0, lengths, shapes);
     touch(c, 1, lengths, sheet);
     touch(c, 2, lengths, placed);
-    touch_numbers(c, 3, lengths, sheet_entries);
-    touch_numbers(c, 4, lengths, placed_entries);
+    touch_entries(c, 3, lengths, sheet_entries);
+    touch_entries(c, 4, lengths, placed_entries);
     touch(c, 5, lengths, intervals);
     touch(c, 6, lengths, positions);
     tail(c.letter);

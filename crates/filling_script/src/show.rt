@@ -4,6 +4,7 @@ use filling::Layout;
 use filling::Plan;
 use filling::State;
 use filling::Verdict;
+use index::Entry;
 
 // 0, or the number of a refusal.
 pub fn verdict(v: Verdict) {
@@ -44,11 +45,11 @@ pub fn doubles(a: usize, room: &[f64]) {
     end();
 }
 
-pub fn numbers(a: usize, room: &[usize]) {
+pub fn entries(a: usize, room: &[Entry]) {
     room_name(a);
     let mut i: usize = 0;
     while i < room.len() {
-        word(room[i] as u64);
+        word(index::entry(room, i) as u64);
         i += 1;
     }
     end();
@@ -59,8 +60,8 @@ pub fn room(r: &[f64]) {
     word(hash::doubles(r.len() as u64, r));
 }
 
-pub fn entry_room(r: &[usize]) {
-    word(hash::numbers(r.len() as u64, r));
+pub fn entry_room(r: &[Entry]) {
+    word(hash::entries(r.len() as u64, r));
 }
 
 fn layout(l: Layout) {

@@ -10,6 +10,7 @@ use filling_script::command::Command;
 use filling_script::edit;
 use filling_script::lend;
 use filling_script::show;
+use index::Entry;
 use report::NestResult;
 use started::Started;
 use step::Stepped;
@@ -51,8 +52,8 @@ fn start(
     shapes: &mut [f64],
     sheet: &mut [f64],
     placed: &mut [f64],
-    sheet_entries: &mut [usize],
-    placed_entries: &mut [usize],
+    sheet_entries: &mut [Entry],
+    placed_entries: &mut [Entry],
     intervals: &mut [f64],
     positions: &mut [f64],
 ) -> State {
@@ -87,8 +88,8 @@ fn next_copy(
     shapes: &[f64],
     sheet: &[f64],
     placed: &mut [f64],
-    sheet_entries: &[usize],
-    placed_entries: &mut [usize],
+    sheet_entries: &[Entry],
+    placed_entries: &mut [Entry],
     intervals: &mut [f64],
 ) -> State {
     let j = lend::lent(lengths, 7, bytes.len());
@@ -119,8 +120,8 @@ fn fill(
     shapes: &mut [f64],
     sheet: &mut [f64],
     placed: &mut [f64],
-    sheet_entries: &mut [usize],
-    placed_entries: &mut [usize],
+    sheet_entries: &mut [Entry],
+    placed_entries: &mut [Entry],
     intervals: &mut [f64],
     positions: &mut [f64],
 ) {
@@ -157,8 +158,8 @@ fn call(
     shapes: &mut [f64],
     sheet: &mut [f64],
     placed: &mut [f64],
-    sheet_entries: &mut [usize],
-    placed_entries: &mut [usize],
+    sheet_entries: &mut [Entry],
+    placed_entries: &mut [Entry],
     intervals: &mut [f64],
     positions: &mut [f64],
 ) -> State {
@@ -285,8 +286,8 @@ fn main() {
     let mut shapes = [0.0f64; 8200];
     let mut sheet = [0.0f64; 8200];
     let mut placed = [0.0f64; 8200];
-    let mut sheet_entries = [0usize; 16500];
-    let mut placed_entries = [0usize; 16500];
+    let mut sheet_entries = [0u16; 16500];
+    let mut placed_entries = [0u16; 16500];
     let mut intervals = [0.0f64; 8200];
     let mut positions = [0.0f64; 20500];
     let mut state = edit::zero_state();

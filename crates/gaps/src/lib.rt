@@ -3,17 +3,17 @@ ghost use mathlib.Core.Path.{_≡_};
 ghost use Prim.Native.Nat.{ℕ, _+_, _≤_, _<_, _^_};
 ghost use mathlib.Core.List.{List};
 ghost use lib.ListN.{length, getD, set};
-ghost use Rattle.index.specs.Buckets.{buckets};
+ghost use Rattle.index.specs.Buckets.{buckets, stripNumbers};
 ghost use Rattle.gaps.specs.OpenGaps.{before, Marked, Opened, Inserted, Stepped};
 use index::Entry;
 use index::Index;
 
 // Writes the number of a strip as entry e. Only crates of ours call it.
 pub fn set_entry(entries: &mut [Entry], e: usize, number: usize)
-    requires { ⌜ e < length (now entries) ⌝ }
+    requires { ⌜ (e < length (now entries)) × (number < stripNumbers) ⌝ }
     ensures { λ _. ⌜ now (entries .exit) ≡ set (now (entries .entry)) e number ⌝ }
 {
-    entries[e] = number;
+    entries[e] = number as u16;
 }
 
 // Moves each bucket before `end` up by the new entries before it, from the last to the first that has
@@ -66,7 +66,7 @@ pub fn open_all(
 // Moves `width` buckets from lo on up by 0, 1, .., the last first; a strip's number goes to each one's end.
 // Only crates of ours call it.
 pub fn insert(entries: &mut [Entry], starts: &[usize], number: usize, lo: usize, width: usize)
-    requires { ⌜ (lo + width < length (now starts)) × ((b c : ℕ) → b ≤ c → c < length (now starts) → getD (now starts) b 0 ≤ getD (now starts) c 0) × (getD (now starts) (lo + width) 0 + width ≤ length (now entries)) ⌝ }
+    requires { ⌜ (lo + width < length (now starts)) × ((b c : ℕ) → b ≤ c → c < length (now starts) → getD (now starts) b 0 ≤ getD (now starts) c 0) × (getD (now starts) (lo + width) 0 + width ≤ length (now entries)) × (number < stripNumbers) ⌝ }
     ensures { λ _. ⌜ Inserted lo width number (now (starts .entry)) (now (entries .entry)) 0 (now (entries .exit)) ⌝ }
 {
     let mut by = width;

@@ -7,7 +7,7 @@ use lib.Dec.{leb}
 use lib.Ieee.{Float, binary64, ofBits, toUnsigned}
 use Rattle.numbers.specs.Numbers.{_⊖_, _⊘_, larger, fromInt}
 use Rattle.trapezoid.specs.declared.Trapezoid.{Trapezoid}
-use Rattle.trapezoid.specs.Strip.{stripAt}
+use Rattle.trapezoid.specs.Strip.{stripAt, capacity}
 use Rattle.index.specs.declared.Index.{Index}
 
 -- the n numbers from c on
@@ -66,7 +66,15 @@ byBucket ss = flatMap (λ b. numbersIn b 0 ss) (upFrom buckets 0)
 unfoldable pub entriesOf : Index → List Float → ℕ → List ℕ
 entriesOf ix standing n = byBucket (map (λ i. spanOf ix (stripAt standing i)) (upFrom n 0))
 
+-- document 02, W8: "Strip numbers run from 0 to 65,535. A room for standing strips is used up to 65,536 strips"
+abbrev pub stripNumbers : ℕ
+stripNumbers = 65_536
+
+-- how many standing strips a room is used for
+unfoldable pub standingCapacity : List Float → ℕ
+standingCapacity room = min (capacity room) stripNumbers
+
 -- what a computed claim opens
 unfoldable pub buckets-compute : Unit {0}
-unfolding upFrom keep indexOf bucketIn covers entered spanOf numbersIn byBucket entriesOf
+unfolding upFrom keep indexOf bucketIn covers entered spanOf numbersIn byBucket entriesOf standingCapacity
 buckets-compute = tt

@@ -3,13 +3,16 @@ ghost use mathlib.Core.Path.{_≡_};
 ghost use Prim.Native.Nat.{ℕ, _+_, _-_, _*_, _/_, _≤_, _<_};
 ghost use lib.ListN.{length, getD};
 ghost use Rattle.trapezoid.specs.Strip.{stripAt, capacity};
-ghost use Rattle.index.specs.Buckets.{indexOf, bucketIn};
+ghost use Rattle.index.specs.Buckets.{indexOf, bucketIn, standingCapacity};
 ghost use Rattle.index.specs.Intervals.{countsOf};
 ghost use Rattle.index.specs.Listing.{movingOf, heightsOf, meetingAt, pairOf, collected, push, pushAll, entryOf, listEntries, listMoving, listed, Usable};
 use trapezoid::Trapezoid;
 
 // An entry of a bucket: the number of a standing strip.
-pub type Entry = usize;
+pub type Entry = u16;
+
+// How many strips entries can number: 0 to 65,535.
+pub const STRIP_NUMBERS: usize = 65536;
 
 // The buckets: Index::BUCKETS of them, each `width` wide, the first from x0 on.
 pub struct Index {
@@ -117,7 +120,18 @@ pub fn entry(entries: &[Entry], e: usize) -> usize
     requires { ⌜ e < length (now entries) ⌝ }
     ensures { λ r. ⌜ r ≡ getD (now (entries .entry)) e 0 ⌝ }
 {
-    entries[e]
+    entries[e] as usize
+}
+
+// How many strips a room for standing strips is used for: at most as many as entries can name.
+pub fn standing_capacity(room: &[f64]) -> usize
+    ensures { λ r. ⌜ r ≡ standingCapacity (now (room .entry)) ⌝ }
+{
+    let n = trapezoid::capacity(room);
+    if n < STRIP_NUMBERS {
+        return n;
+    }
+    STRIP_NUMBERS
 }
 
 // The forbidden heights of a pair that meets over a..b.

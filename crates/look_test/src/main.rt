@@ -209,7 +209,7 @@ fn look_twice(
 }
 
 // A table of entries. The `ensures` gives the length, which lending it as a slice needs.
-fn table() -> [usize; 130560]
+fn table() -> [Entry; 130560]
     ensures { λ r. ⌜ 130560 ≡ length r ⌝ }
 {
     [1; 130560]

@@ -1,5 +1,6 @@
 // What C and Rust may link (`rt staticlib plan_exports`, bench/panel.h): the text of a whole plan, and a
 // filling for speed tables, under plain names.
+use index::Entry;
 
 // Where the text ends, or 0 for a buffer of less than 524,288 bytes.
 #[no_mangle]
@@ -8,8 +9,8 @@ pub extern "C" fn panel_nest(
     shapes: &mut [f64],
     sheet: &mut [f64],
     placed: &mut [f64],
-    sheet_entries: &mut [usize],
-    placed_entries: &mut [usize],
+    sheet_entries: &mut [Entry],
+    placed_entries: &mut [Entry],
     intervals: &mut [f64],
     positions: &mut [f64],
     out: &mut [u8],
@@ -35,8 +36,8 @@ pub extern "C" fn panel_fill(
     shapes: &mut [f64],
     sheet: &mut [f64],
     placed: &mut [f64],
-    sheet_entries: &mut [usize],
-    placed_entries: &mut [usize],
+    sheet_entries: &mut [Entry],
+    placed_entries: &mut [Entry],
     intervals: &mut [f64],
     positions: &mut [f64],
 ) -> u64 {

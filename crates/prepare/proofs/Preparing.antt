@@ -9,6 +9,7 @@ use lib.Dec.{ltb}
 use lib.Ieee.{Float}
 use borrow.Author.Tests.{lt-ltb, le-ltb}
 use Rattle.trapezoid.specs.Strip.{capacity}
+use Rattle.index.specs.Buckets.{standingCapacity}
 use Rattle.index.specs.Listing.{Laid}
 use Rattle.strips.specs.declared.Rect.{Rect}
 use Rattle.sets.specs.Sets.{setAt}
@@ -37,25 +38,25 @@ use Rattle.prepare.proofs.Tabled.{slots-are, sheet-bounds-are, sheet-st
 
 -- ---- the verdict
 module _ (p : Planner) (w : Rooms) where
-  pub refused-strips : capacity (w .sheet) < capacity (p .sheet) → prepareVerdict p w ≡ Refused Why.StripRoom
+  pub refused-strips : standingCapacity (w .sheet) < capacity (p .sheet) → prepareVerdict p w ≡ Refused Why.StripRoom
   unfolding prepareVerdict refuseIf
-  refused-strips h = rw (lt-ltb (capacity (w .sheet)) (capacity (p .sheet)) h)
+  refused-strips h = rw (lt-ltb (standingCapacity (w .sheet)) (capacity (p .sheet)) h)
 
-  module _ (s : capacity (p .sheet) ≤ capacity (w .sheet)) where
+  module _ (s : capacity (p .sheet) ≤ standingCapacity (w .sheet)) where
     pub refused-entries : length (w .sheet-entries) < length (entriesFor (p .bounds) (p .sheet)) → prepareVerdict p w ≡ Refused Why.EntryRoom
     unfolding prepareVerdict refuseIf
-    refused-entries h = rw (le-ltb (capacity (w .sheet)) (capacity (p .sheet)) s, lt-ltb (length (w .sheet-entries)) (length (entriesFor (p .bounds) (p .sheet))) h)
+    refused-entries h = rw (le-ltb (standingCapacity (w .sheet)) (capacity (p .sheet)) s, lt-ltb (length (w .sheet-entries)) (length (entriesFor (p .bounds) (p .sheet))) h)
 
     module _ (e : length (entriesFor (p .bounds) (p .sheet)) ≤ length (w .sheet-entries)) where
       pub refused-shapes : capacity (w .shapes) < capacity (apartStrips p ++ insetStrips p) → prepareVerdict p w ≡ Refused Why.StripRoom
       unfolding prepareVerdict refuseIf
       refused-shapes h =
-          rw (le-ltb (capacity (w .sheet)) (capacity (p .sheet)) s, le-ltb (length (w .sheet-entries)) (length (entriesFor (p .bounds) (p .sheet))) e, lt-ltb (capacity (w .shapes)) (capacity (apartStrips p ++ insetStrips p)) h)
+          rw (le-ltb (standingCapacity (w .sheet)) (capacity (p .sheet)) s, le-ltb (length (w .sheet-entries)) (length (entriesFor (p .bounds) (p .sheet))) e, lt-ltb (capacity (w .shapes)) (capacity (apartStrips p ++ insetStrips p)) h)
 
       pub prepared-all : capacity (apartStrips p ++ insetStrips p) ≤ capacity (w .shapes) → prepareVerdict p w ≡ Accepted
       unfolding prepareVerdict refuseIf
       prepared-all h =
-          rw (le-ltb (capacity (w .sheet)) (capacity (p .sheet)) s, le-ltb (length (w .sheet-entries)) (length (entriesFor (p .bounds) (p .sheet))) e, le-ltb (capacity (w .shapes)) (capacity (apartStrips p ++ insetStrips p)) h)
+          rw (le-ltb (standingCapacity (w .sheet)) (capacity (p .sheet)) s, le-ltb (length (w .sheet-entries)) (length (entriesFor (p .bounds) (p .sheet))) e, le-ltb (capacity (w .shapes)) (capacity (apartStrips p ++ insetStrips p)) h)
 
 -- ---- through the tables
 module _ (bytes rows places : List ℕ) (at kinds : ℕ) (j : Job) (T : FromTables bytes rows places at kinds j) where

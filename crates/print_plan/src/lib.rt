@@ -2,7 +2,7 @@
 // `no` and the number of its refusal. 11 is tested first.
 
 // Writes the first n bytes, if there are so many.
-fn write_from(text: &[u8], n: usize) {
+pub fn write_from(text: &[u8], n: usize) {
     if n <= text.len() {
         io::write_all(1, &text[..n]);
     }
@@ -18,8 +18,8 @@ pub fn print_plan(bytes: &[u8]) {
     let mut shapes = [0.0; 8190];
     let mut sheet = [0.0; 8190];
     let mut placed = [0.0; 8190];
-    let mut sheet_entries = [0usize; 16384];
-    let mut placed_entries = [0usize; 16384];
+    let mut sheet_entries = [0u16; 16384];
+    let mut placed_entries = [0u16; 16384];
     let mut intervals = [0.0; 8192];
     let mut positions = [0.0; 20480];
     let mut out = [0u8; 524288];

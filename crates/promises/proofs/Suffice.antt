@@ -1,5 +1,5 @@
 -- None is refused where the rooms suffice: a start, as many calls as the job has copies, and a filling. Assumes nothing.
-use Prim.Native.Nat.{ℕ, zero, suc, _+_, _*_, _/_, _≤_, _<_}
+use Prim.Native.Nat.{ℕ, zero, suc, _+_, _*_, _/_, _≤_, _<_, min}
 use native.Mathlib.Nat.{mul-le-mul-left, mul-le-mul-right, le-trans}
 use native.Mathlib.Omega.{arith}
 use mathlib.Core.Path.{_≡_, refl, sym, ap, _∙_}
@@ -10,6 +10,7 @@ use borrow.Author.Tests.{le-ltb}
 use lib.Ieee.{Float}
 use Rattle.numbers.specs.Numbers.{posZero}
 use Rattle.trapezoid.specs.Strip.{capacity}
+use Rattle.index.specs.Buckets.{stripNumbers, standingCapacity}
 use Rattle.job.specs.Jobs.{Job, accepted, readJob}
 use Rattle.filling.specs.declared.State.{State}
 use Rattle.filling.specs.declared.Refusal.the-variants as Why
@@ -44,16 +45,18 @@ use Rattle.promises.proofs.Few.{entries-few, new-few, standing-few, sta
 pub record Ample (j : Job) (m n : ℕ) (w : Rooms) : Type 0 where
   pub apart : (k o : ℕ) → capacity (shapeOf (plannerOf j) k o .apart) ≤ m
   pub inset : (k o : ℕ) → capacity (shapeOf (plannerOf j) k o .inset) ≤ n
-  pub placed : j .copies * m ≤ capacity (w .placed)
+  pub placed : j .copies * m ≤ standingCapacity (w .placed)
   pub placed-entries : 512 * (j .copies * m) ≤ length (w .placed-entries)
 
 -- an interval room that holds whatever a look at a copy of the job can count
 abbrev pub AmpleIntervals : Job → ℕ → ℕ → List Float → Type 0
 AmpleIntervals j m n intervals = n * capacity (plannerOf j .sheet) + m * (j .copies * m) ≤ intervalCapacity intervals
 
-laid-capacity : (l room : List Float) → Sixfold l → capacity l ≤ capacity room → capacity (laid l room) ≡ capacity room
-unfolding capacity
-laid-capacity l room q b = ap (λ (u : ℕ). u / 6) (length-laid l room (omega arith))
+laid-capacity : (l room : List Float) → Sixfold l → capacity l ≤ standingCapacity room → standingCapacity (laid l room) ≡ standingCapacity room
+unfolding standingCapacity capacity
+laid-capacity l room q b =
+    let c : length l / 6 ≤ min (length room / 6) stripNumbers = b in
+    ap (λ (u : ℕ). min (u / 6) stripNumbers) (length-laid l room (omega arith))
 
 module _ (j : Job) (z : Sized j) (s : State) (w : Rooms) (h : Linked j s w) (m n : ℕ) (a : Ample j m n w) (k : ℕ) (ks : List ℕ) (e : Nexts j s k ks) where
   abbrev P : Planner
@@ -98,7 +101,7 @@ module _ (j : Job) (z : Sized j) (s : State) (w : Rooms) (h : Linked j s w) (m n
   winner-fits : (cs : List Choice) → winnerVerdict P w k St cs ≡ Accepted
   unfolding winnerVerdict storeVerdict refuseIf
   winner-fits [] = refl
-  winner-fits (c ∷ cs) = rw (le-ltb (capacity (w .placed)) (capacity (Now (best c cs))) (le-trans (now-few (best c cs)) (a .placed)), le-ltb (length (w .placed-entries)) (length (entriesFor (P .bounds) (Now (best c cs)))) (entered-few (best c cs)))
+  winner-fits (c ∷ cs) = rw (le-ltb (standingCapacity (w .placed)) (capacity (Now (best c cs))) (le-trans (now-few (best c cs)) (a .placed)), le-ltb (length (w .placed-entries)) (length (entriesFor (P .bounds) (Now (best c cs)))) (entered-few (best c cs)))
 
   module _ (iv : List Float) (r : AmpleIntervals j m n iv) where
     look-below : (i : ℕ) → i < length (getD (P .shapes) k []) → (c : ℕ) → length (intervalsAt P St (getD (getD (P .shapes) k []) i noShape) c) ≤ intervalCapacity iv
@@ -120,7 +123,7 @@ module _ (j : Job) (z : Sized j) (s : State) (w : Rooms) (h : Linked j s w) (m n
     unfolding coreStep placeNext
     core-fits = rw (e, h .plan, h .stand, place-taken P St (getD (tracksOf j s) k []) k s w iv copy-fits)
 
-  placed-long : (d : Choice) → capacity (laid (Now d) (w .placed)) ≡ capacity (w .placed)
+  placed-long : (d : Choice) → standingCapacity (laid (Now d) (w .placed)) ≡ standingCapacity (w .placed)
   placed-long d =
       let b = le-trans (now-few d) (a .placed) in
       let q : Sixfold (Now d) = sixfold-append St (newStrips P k d) (standing-sixfold P (standingOf s)) (new-sixfold P k d) in
@@ -210,7 +213,7 @@ module _ (bytes : List ℕ) (j : Job) (e : readJob bytes ≡ accepted j) (order 
 -- rooms that hold what a start stores
 pub record AmpleStart (j : Job) (l : Lent) : Type 0 where
   pub positions : j .copies ≤ positionCapacity (l .positions)
-  pub sheet : capacity (plannerOf j .sheet) ≤ capacity (l .rooms .sheet)
+  pub sheet : capacity (plannerOf j .sheet) ≤ standingCapacity (l .rooms .sheet)
   pub sheet-entries : length (entriesFor (plannerOf j .bounds) (plannerOf j .sheet)) ≤ length (l .rooms .sheet-entries)
   pub shapes : capacity (apartStrips (plannerOf j) ++ insetStrips (plannerOf j)) ≤ capacity (l .rooms .shapes)
 
@@ -219,10 +222,10 @@ unfolding startVerdict prepareVerdict refuseIf
 start-fits j order l r a =
     let p = plannerOf j in
     let w = l .rooms in
-    rw (le-ltb (positionCapacity (l .positions)) (j .copies) (a .positions), r, le-ltb (capacity (w .sheet)) (capacity (p .sheet)) (a .sheet), le-ltb (length (w .sheet-entries)) (length (entriesFor (p .bounds) (p .sheet))) (a .sheet-entries), le-ltb (capacity (w .shapes)) (capacity (apartStrips p ++ insetStrips p)) (a .shapes))
+    rw (le-ltb (positionCapacity (l .positions)) (j .copies) (a .positions), r, le-ltb (standingCapacity (w .sheet)) (capacity (p .sheet)) (a .sheet), le-ltb (length (w .sheet-entries)) (length (entriesFor (p .bounds) (p .sheet))) (a .sheet-entries), le-ltb (capacity (w .shapes)) (capacity (apartStrips p ++ insetStrips p)) (a .shapes))
 
 first-ample : (j : Job) (m n : ℕ) (w : Rooms) → Ample j m n w → Ample j m n (firstRooms (plannerOf j) w)
-unfolding firstRooms capacity
+unfolding firstRooms standingCapacity capacity
 first-ample j m n w a =
     record {
       apart = a .apart;

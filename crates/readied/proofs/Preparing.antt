@@ -18,7 +18,7 @@ use Rattle.filling.specs.Consistent.{sheetIndex, entriesFor}
 use Rattle.filling.specs.Start.{apartStrips, insetStrips, tablesOf, firstState, firstRooms, prepareVerdict}
 use Rattle.filling.proofs.Reading.{length-zeros, laid-long}
 use Rattle.filling.proofs.Sizes.{sized}
-use Rattle.filling.proofs.Begin.{first-linked}
+use Rattle.filling.proofs.Begin.{first-linked, prepared-few}
 use Rattle.prepare.specs.Ready as Rooms₀
 use Rattle.prepare.specs.Ready.{Readied, PreparedIs}
 use Rattle.prepare.specs.declared.Prepared as Answers
@@ -35,7 +35,7 @@ use Rattle.readied.specs.Zeroed.{Zeroed, ReadInto}
 -- 20 and 21 go by the rooms' lengths
 pub verdict-zeroed : (p : Planner) (l : Lent) (shapes sheet : List Float) (entries : List ℕ) → shapes ≡ zeros posZero (l .rooms .shapes) → sheet ≡ zeros posZero (l .rooms .sheet) → entries ≡ zeros 0 (l .rooms .sheet-entries)
     → prepareVerdict p (Rooms₀.given shapes sheet entries) ≡ prepareVerdict p (l .rooms)
-unfolding prepareVerdict capacity
+unfolding prepareVerdict Rattle.index.specs.Buckets.standingCapacity capacity
 verdict-zeroed p l shapes sheet entries a b c =
     rw (ap length a ∙ length-zeros posZero (l .rooms .shapes), ap length b ∙ length-zeros posZero (l .rooms .sheet), ap length c ∙ length-zeros 0 (l .rooms .sheet-entries))
 
@@ -86,11 +86,12 @@ module _ (j : Job) (bytes : List ℕ) (at kinds : ℕ) (resolution : Float) (row
       subst (λ (z : Rect). Laid (sheetIndex z) (take (6 * n) sheet) (capacity (take (6 * n) sheet)) entries starts) (sym (D .sheet-bounds))
       (subst (λ (z : List Float). Laid (sheetIndex (P .bounds)) z (capacity z) entries starts) (sym own-sheet) (D .indexed))
 
-  pub prepared-is : Prepared j (given (sheetIndex b) b resolution rows areas bounds parts (take (6 * a) shapes) (drop (6 * a) shapes) (take (6 * n) sheet) entries starts)
-  prepared-is =
+  pub prepared-is : prepareVerdict (plannerOf j) (l .rooms) ≡ Accepted → Prepared j (given (sheetIndex b) b resolution rows areas bounds parts (take (6 * a) shapes) (drop (6 * a) shapes) (take (6 * n) sheet) entries starts)
+  prepared-is v =
       record {
         bytes = bytes;
         read = R .read;
+        few = prepared-few (plannerOf j) (l .rooms) v;
         lent = l .rooms;
         tabled = R .tabled;
         index = ap sheetIndex (D .sheet-bounds);
@@ -145,7 +146,7 @@ module _ (j : Job) (bytes : List ℕ) (at kinds : ℕ) (resolution : Float) (row
     ready-verdict = same-verdict ∙ at-ready .0
 
     pub ready-given : Prepared j (given (sheetIndex b) b resolution rows areas bounds parts (take (6 * a) shapes) (drop (6 * a) shapes) (take (6 * n) sheet) entries starts)
-    ready-given = prepared-is j bytes at kinds resolution rows areas places R l shapes₀ sheet₀ entries₀ (Z .shapes-zero) (Z .sheet-zero) (Z .sheet-entries-zero) b n a i shapes sheet entries starts bounds parts (at-ready .1)
+    ready-given = prepared-is j bytes at kinds resolution rows areas places R l shapes₀ sheet₀ entries₀ (Z .shapes-zero) (Z .sheet-zero) (Z .sheet-entries-zero) b n a i shapes sheet entries starts bounds parts (at-ready .1) ready-verdict
 
     pub ready-sheet : 6 * n ≤ length sheet
     ready-sheet = sheet-within j bytes at kinds resolution rows areas places R l shapes₀ sheet₀ entries₀ (Z .shapes-zero) (Z .sheet-zero) (Z .sheet-entries-zero) b n a i shapes sheet entries starts bounds parts (at-ready .1)

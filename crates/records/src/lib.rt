@@ -16,7 +16,7 @@ fn wide(x: u8) -> usize
 }
 
 // The number of four bytes, most significant first.
-fn number(a: u8, b: u8, c: u8, d: u8) -> usize {
+pub fn number(a: u8, b: u8, c: u8, d: u8) -> usize {
     ((wide(a) * 256 + wide(b)) * 256 + wide(c)) * 256 + wide(d)
 }
 

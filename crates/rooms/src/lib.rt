@@ -14,8 +14,8 @@ pub fn zero(room: &mut [f64])
     }
 }
 
-// Zero in every slot of a room of whole numbers.
-pub fn zero_numbers(room: &mut [usize])
+// Zero in every slot of a room of 16-bit numbers.
+pub fn zero_numbers(room: &mut [u16])
     ensures { λ _. ⌜ now (room .exit) ≡ zeros 0 (now (room .entry)) ⌝ }
 {
     let mut i = 0;

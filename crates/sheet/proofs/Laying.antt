@@ -3,7 +3,7 @@ use mathlib.Core.Path.{_≡_, refl, sym, ap, subst, _∙_}
 use mathlib.Core.Logic.{_⊎_, inl, inr}
 use mathlib.Core.Bool.{Bool, true, false, true≢false}
 use mathlib.Core.List.{List, _++_}
-use Prim.Native.Nat.{ℕ, _+_, _-_, _*_, _≤_, _<_}
+use Prim.Native.Nat.{ℕ, _+_, _-_, _*_, _/_, _≤_, _<_, min}
 use native.Mathlib.Omega.{arith}
 use lib.ListN.{length, take, drop}
 use lib.Seq.{take-at}
@@ -12,7 +12,7 @@ use Rattle.numbers.proofs.Rounding.{order}
 use Rattle.trapezoid.specs.declared.Trapezoid.{Trapezoid}
 use Rattle.trapezoid.specs.Strip.{flat, capacity}
 use Rattle.index.specs.declared.Index.{Index}
-use Rattle.index.specs.Buckets.{entriesOf, indexOf}
+use Rattle.index.specs.Buckets.{entriesOf, indexOf, stripNumbers, standingCapacity}
 use Rattle.index.specs.Listing.{Laid}
 use Rattle.enter.specs.EntryRoom.{Entering, enterOf, entriesIn}
 use Rattle.enter.specs.Gaps.{rooms, entering}
@@ -51,8 +51,8 @@ module _ (ss : List Trapezoid) (room₀ room : List Float) (r : Stored) (e : rec
     unfolding laid
     front-is = ap (take (6 * n)) room-is ∙ take-at (flat ss) (drop (length (flat ss)) room₀) (6 * n) (let c = counted in let l = length-flat ss in omega (arith, c .0))
 
-  pub over : r ≡ NoRoom → capacity room₀ < capacity (flat ss)
-  unfolding capacity
+  pub over : r ≡ NoRoom → standingCapacity room₀ < capacity (flat ss)
+  unfolding standingCapacity capacity
   over d = let b = not-stored ss room₀ room 0 r e d in let l = length-flat ss in omega arith
 
 -- ---- their entries
@@ -85,7 +85,7 @@ module _ (bytes : List ℕ) (at : ℕ) (sheet₀ sheet : List Float) (r : Stored
   B = setBounds (setAt bytes at)
 
   pub no-strips : (entries₀ entries starts : List ℕ) → r ≡ NoRoom → SheetIs Sheet.NoStrips B S sheet₀ sheet entries₀ entries starts
-  no-strips entries₀ entries starts d = subst (λ (l : List Float). capacity sheet₀ < capacity l) (sheet-strips bytes at) (over (stripsAt bytes at true) sheet₀ sheet r e d)
+  no-strips entries₀ entries starts d = subst (λ (l : List Float). standingCapacity sheet₀ < capacity l) (sheet-strips bytes at) (over (stripsAt bytes at true) sheet₀ sheet r e d)
 
   module _ (n : ℕ) (d : r ≡ Count n) where
     pub fits : 6 * n ≤ length sheet₀
@@ -97,11 +97,16 @@ module _ (bytes : List ℕ) (at : ℕ) (sheet₀ sheet : List Float) (r : Stored
     front : take (6 * n) sheet ≡ S
     front = front-is (stripsAt bytes at true) sheet₀ sheet r e n d ∙ sheet-strips bytes at
 
-    strips-in : capacity S ≤ capacity sheet₀
-    unfolding capacity
-    strips-in = let h = fits in let m = n-is in omega arith
+    -- more strips than an entry can name
+    pub too-many : stripNumbers < n → (entries₀ entries starts : List ℕ) → SheetIs Sheet.NoStrips B S sheet₀ sheet entries₀ entries starts
+    unfolding standingCapacity
+    too-many h entries₀ entries starts = let m = n-is in omega arith
 
-    module _ (b : Rect) (bb : b ≡ B) (ix : Index) (x : ix ≡ indexOf (b .left) (b .right)) (entries₀ starts₀ entries starts : List ℕ) (t : Bool) where
+    strips-in : n ≤ stripNumbers → capacity S ≤ standingCapacity sheet₀
+    unfolding standingCapacity capacity
+    strips-in few = let h = fits in let m : n ≡ length S / 6 = n-is in omega arith
+
+    module _ (few : n ≤ stripNumbers) (b : Rect) (bb : b ≡ B) (ix : Index) (x : ix ≡ indexOf (b .left) (b .right)) (entries₀ starts₀ entries starts : List ℕ) (t : Bool) where
       index-is : ix ≡ sheetIndex B
       unfolding sheetIndex
       index-is = x ∙ ap (λ (c : Rect). indexOf (c .left) (c .right)) bb
@@ -119,7 +124,7 @@ module _ (bytes : List ℕ) (at : ℕ) (sheet₀ sheet : List Float) (r : Stored
             bb,
             record {
               number = n-is;
-              strips-fit = strips-in;
+              strips-fit = strips-in few;
               entries-fit = h .0;
               strips = room-is (stripsAt bytes at true) sheet₀ sheet r e n d ∙ ap (λ (l : List Float). laid l sheet₀) (sheet-strips bytes at);
               entries-are = h .1;
@@ -129,4 +134,4 @@ module _ (bytes : List ℕ) (at : ℕ) (sheet₀ sheet : List Float) (r : Stored
 
       pub no-entries : entering t entries starts ≡ enterOf ix (take (6 * n) sheet) n (rooms entries₀ starts₀) → t ≡ false → SheetIs Sheet.NoEntries B S sheet₀ sheet entries₀ entries starts
       unfolding entriesFor
-      no-entries f y = (strips-in, entered-no (sheetIndex B) S entries₀ starts₀ entries starts t (entered f) y)
+      no-entries f y = (strips-in few, entered-no (sheetIndex B) S entries₀ starts₀ entries starts t (entered f) y)

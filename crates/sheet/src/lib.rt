@@ -57,6 +57,9 @@ pub fn lay_sheet(
             return SheetLaid::NoStrips;
         }
     };
+    if n > index::STRIP_NUMBERS {
+        return SheetLaid::NoStrips;
+    }
     let bounds = set_strips::set_bounds(bytes, at, &mut points, &mut ends);
     let ix = Index::new(bounds.left, bounds.right);
     let end = 6 * n;

@@ -12,7 +12,7 @@ use lib.Ieee.{Float}
 use Rattle.numbers.proofs.Truth.{either}
 use Rattle.trapezoid.specs.Strip.{capacity}
 use Rattle.index.specs.declared.Index.{Index}
-use Rattle.index.specs.Buckets.{entriesOf}
+use Rattle.index.specs.Buckets.{entriesOf, standingCapacity}
 use Rattle.filling.specs.declared.Refusal.{Refusal}
 use Rattle.choose.specs.declared.Choice.{Choice}
 use Rattle.choose.specs.declared.Part.{Part}
@@ -45,25 +45,25 @@ module _ (ix : Index) (t : Totals) (placed : List Float) (e s : List ℕ) where
     abbrev stored : Left
     stored = storeOf ix apart (p .x) (p .y) (t .«placed_strips») placed e s
 
-    store-short : ltb (capacity placed) (capacity strips) ≡ true → stored ≡ left NoStrips placed e s
+    store-short : ltb (standingCapacity placed) (capacity strips) ≡ true → stored ≡ left NoStrips placed e s
     unfolding storeOf
     store-short h = rw (h, storeOf)
 
-    store-full : ltb (capacity placed) (capacity strips) ≡ false → ltb (length e) (length (entriesOf ix strips (capacity strips))) ≡ true → stored ≡ left NoEntries placed e s
+    store-full : ltb (standingCapacity placed) (capacity strips) ≡ false → ltb (length e) (length (entriesOf ix strips (capacity strips))) ≡ true → stored ≡ left NoEntries placed e s
     unfolding storeOf
     store-full h g = rw (h, g, storeOf)
 
-    store-done : ltb (capacity placed) (capacity strips) ≡ false → ltb (length e) (length (entriesOf ix strips (capacity strips))) ≡ false → stored .answer ≡ Done
+    store-done : ltb (standingCapacity placed) (capacity strips) ≡ false → ltb (length e) (length (entriesOf ix strips (capacity strips))) ≡ false → stored .answer ≡ Done
     unfolding storeOf
     store-done h g = rw (h, g, storeOf)
 
     stored-kept : (stored .answer ≡ Done) ⊎ ((stored .placed ≡ placed) × (stored .entries ≡ e))
-    stored-kept = go (either (ltb (capacity placed) (capacity strips))) (either (ltb (length e) (length (entriesOf ix strips (capacity strips)))))
+    stored-kept = go (either (ltb (standingCapacity placed) (capacity strips))) (either (ltb (length e) (length (entriesOf ix strips (capacity strips)))))
       where
         same : (a : Stored) → stored ≡ left a placed e s → (stored .placed ≡ placed) × (stored .entries ≡ e)
         same a q = (ap (λ (f : Left). f .placed) q, ap (λ (f : Left). f .entries) q)
 
-        go : (ltb (capacity placed) (capacity strips) ≡ true) ⊎ (ltb (capacity placed) (capacity strips) ≡ false) → (ltb (length e) (length (entriesOf ix strips (capacity strips))) ≡ true) ⊎ (ltb (length e) (length (entriesOf ix strips (capacity strips))) ≡ false)
+        go : (ltb (standingCapacity placed) (capacity strips) ≡ true) ⊎ (ltb (standingCapacity placed) (capacity strips) ≡ false) → (ltb (length e) (length (entriesOf ix strips (capacity strips))) ≡ true) ⊎ (ltb (length e) (length (entriesOf ix strips (capacity strips))) ≡ false)
             → (stored .answer ≡ Done) ⊎ ((stored .placed ≡ placed) × (stored .entries ≡ e))
         go (inl h) g = inr (same NoStrips (store-short h))
         go (inr h) (inl g) = inr (same NoEntries (store-full h g))

@@ -14,7 +14,7 @@ use Rattle.numbers.specs.Numbers.{_⊕_}
 use Rattle.trapezoid.specs.declared.Trapezoid.{Trapezoid}
 use Rattle.trapezoid.specs.Strip.{stripAt, setStrip, capacity, movedBy}
 use Rattle.index.specs.declared.Index.{Index}
-use Rattle.index.specs.Buckets.{buckets, bucketIn, entriesOf}
+use Rattle.index.specs.Buckets.{buckets, bucketIn, entriesOf, stripNumbers, standingCapacity}
 use Rattle.index.proofs.Steps.{bucket-top}
 use Rattle.index.specs.Listing.{Laid}
 use Rattle.index.proofs.NewIndex.{laid-after}
@@ -46,17 +46,21 @@ module _ (ix : Index) (apart : List Float) (x y : Float) (n : ℕ) (p : List Flo
   count : capacity strips ≡ n + k
   count = strips-count apart x y n p (L .room)
 
-  test-strips : (b : Bool) → ltb (capacity p) (n + k) ≡ b → ltb (capacity p) (capacity strips) ≡ b
-  test-strips b q = ap (ltb (capacity p)) count ∙ q
+  test-strips : (b : Bool) → ltb (standingCapacity p) (n + k) ≡ b → ltb (standingCapacity p) (capacity strips) ≡ b
+  test-strips b q = ap (ltb (standingCapacity p)) count ∙ q
 
-  pub store-short : capacity p < n + k → left NoStrips p e s ≡ storeOf ix apart x y n p e s
+  pub store-short : standingCapacity p < n + k → left NoStrips p e s ≡ storeOf ix apart x y n p e s
   unfolding storeOf
-  store-short h = rw (test-strips true (lt-ltb (capacity p) (n + k) h), storeOf)
+  store-short h = rw (test-strips true (lt-ltb (standingCapacity p) (n + k) h), storeOf)
 
-  module _ (fits : n + k ≤ capacity p) where
+  module _ (fits : n + k ≤ standingCapacity p) where
     pub six-in : 6 * (n + k) ≤ length p
-    unfolding capacity
-    six-in = let f : n + k ≤ length p / 6 = fits in omega arith
+    unfolding standingCapacity capacity
+    six-in = let f : n + k ≤ Prim.Native.Nat.min (length p / 6) stripNumbers = fits in omega arith
+
+    pub few-in : (k' : ℕ) → k' ≡ k → n + k' ≤ stripNumbers
+    unfolding standingCapacity
+    few-in k' d = let f : n + k ≤ Prim.Native.Nat.min (capacity p) stripNumbers = fits in omega arith
 
     abbrev p' : List Float
     p' = movedTo apart x y n p k
@@ -77,7 +81,7 @@ module _ (ix : Index) (apart : List Float) (x y : Float) (n : ℕ) (p : List Flo
     unfolding storeOf
     store-full h =
         rw (
-          test-strips false (le-ltb (capacity p) (n + k) fits),
+          test-strips false (le-ltb (standingCapacity p) (n + k) fits),
           lt-ltb (length e) (length (entriesOf ix strips (capacity strips))) (let t = total in let q = ap length entries-are in omega arith),
           storeOf,
         )
@@ -93,7 +97,7 @@ module _ (ix : Index) (apart : List Float) (x y : Float) (n : ℕ) (p : List Flo
       unfolding storeOf
       store-fits =
           rw (
-            test-strips false (le-ltb (capacity p) (n + k) fits),
+            test-strips false (le-ltb (standingCapacity p) (n + k) fits),
             le-ltb (length e) (length (entriesOf ix strips (capacity strips))) (let a = all-in in let q = ap length entries-are in omega arith),
             storeOf,
           )
@@ -131,10 +135,10 @@ module _ (ix : Index) (apart : List Float) (x y : Float) (n : ℕ) (p : List Flo
     pub room-is : (r : Bool) → r ≡ leb (widthsTo ix apart x k) (length e - getD s buckets 0) → r ≡ true → widthsTo ix apart x k ≤ length e - getD s buckets 0
     room-is r d h = leb-true (widthsTo ix apart x k) (length e - getD s buckets 0) (sym d ∙ h)
 
-  pub short-is : (cap k' : ℕ) → cap ≡ capacity p → k' ≡ k → cap < n + k' → left NoStrips p e s ≡ storeOf ix apart x y n p e s
+  pub short-is : (cap k' : ℕ) → cap ≡ standingCapacity p → k' ≡ k → cap < n + k' → left NoStrips p e s ≡ storeOf ix apart x y n p e s
   short-is cap k' a b h = store-short (omega arith)
 
-  pub fits-is : (cap k' : ℕ) → cap ≡ capacity p → k' ≡ k → n + k' ≤ cap → n + k ≤ capacity p
+  pub fits-is : (cap k' : ℕ) → cap ≡ standingCapacity p → k' ≡ k → n + k' ≤ cap → n + k ≤ standingCapacity p
   fits-is cap k' a b h = omega arith
 
 -- two slices hold so few strips

@@ -9,7 +9,7 @@ use Rattle.numbers.specs.Numbers.{_⊕_}
 use Rattle.trapezoid.specs.declared.Trapezoid.{Trapezoid}
 use Rattle.trapezoid.specs.Strip.{stripAt, setStrip, capacity, movedBy}
 use Rattle.index.specs.declared.Index.{Index}
-use Rattle.index.specs.Buckets.{bucketIn, entriesOf}
+use Rattle.index.specs.Buckets.{bucketIn, entriesOf, standingCapacity}
 use Rattle.index.specs.Listing.{Laid}
 use Rattle.enter.specs.EntryRoom.{startsOf}
 use Rattle.filling.specs.Shapes.{movedStrips}
@@ -48,7 +48,7 @@ together apart x y n placed = take (6 * n) placed ++ movedStrips apart x y
 unfoldable pub storeOf : Index → List Float → Float → Float → ℕ → List Float → List ℕ → List ℕ → Left
 storeOf ix apart x y n placed entries starts =
     let strips = together apart x y n placed in
-    elim (ltb (capacity placed) (capacity strips)) [
+    elim (ltb (standingCapacity placed) (capacity strips)) [
       | true ↦ left NoStrips placed entries starts
       | false ↦
           elim (ltb (length entries) (length (entriesOf ix strips (capacity strips)))) [

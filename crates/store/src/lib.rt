@@ -81,7 +81,7 @@ pub fn store_copy(
     ensures { λ r. ⌜ (left r (now (placed .exit)) (now (entries .exit)) (now (starts .exit)) ≡ storeOf ix (now (apart .entry)) x y n (now (placed .entry)) (now (entries .entry)) (now (starts .entry))) × Entered ix n (capacity (now (apart .entry))) (now (placed .exit)) (now (entries .exit)) (now (starts .exit)) r ⌝ }
 {
     let k = trapezoid::capacity(apart);
-    if trapezoid::capacity(placed) < n + k {
+    if index::standing_capacity(placed) < n + k {
         return Stored::NoStrips;
     }
     let rest = entries.len() - starts[Index::BUCKETS];

@@ -79,7 +79,7 @@ fn search(
         × (6 * «sheet_strips» ≤ length (now sheet)) × (6 * «apart_strips» ≤ length (now shapes)) ⌝ }
 {
     let mut placed = [0.0; 8190];
-    let mut placed_entries = [0usize; 16384];
+    let mut placed_entries = [0u16; 16384];
     let mut intervals = [0.0; 8192];
     let mut look_counts = [0usize; 1024];
     let mut orientation = [0usize; 4096];
@@ -130,7 +130,7 @@ fn prepare_job(
 {
     let mut shapes = [0.0; 8190];
     let mut sheet = [0.0; 8190];
-    let mut sheet_entries = [0usize; 16384];
+    let mut sheet_entries = [0u16; 16384];
     let mut sheet_starts = [0usize; 513];
     let mut gains = [0usize; 512];
     let mut inset_bounds = [0.0; 4096];

@@ -13,7 +13,7 @@ use Rattle.enter.proofs.enter_one.Reads as enter-one-reads
 use Rattle.enter.proofs.enter_many.Reads as enter-many-reads
 
 enter-one-requires : tie.Need-enter-one-requires
-enter-one-requires c κs = (omega (arith, c .before .before .before .before .before .before .before .pre .1, c .before .before .if1 .taken), c .before .before .before .before .before .before .before .pre .3)
+enter-one-requires c κs = (omega (arith, c .before .before .before .before .before .before .before .pre .1, c .before .before .if1 .taken), c .before .before .before .before .before .before .before .pre .3, omega (arith, c .before .before .before .before .before .before .before .pre .4, c .before .before .if1 .taken))
 
 returns : tie.Need-returns
 returns c = let g = c .before .before .before .before .before .before .before .before .before .before .before .before .args in

@@ -58,7 +58,7 @@ fill-requires c κs = let g = c .before .before .before .before .before .before 
     let m = copy-more (g .ix) (g .standing .now) (g .from) (g .to) (c .before .before .before .before .before .before .before .before .before .before .before .before .before .before .before .before .before .before .before .before .before .measure .result .more) (p .0) (n .0) in
     let O = c .before .before .before .before .before .before .before .before .open-all .ensures G K m in
     let A = all-entries (g .ix) (g .standing .now) (g .from) (g .to) (p .0) (g .entries .now) (g .starts .now) G (p .3) C in
-    (p .0, p .1, c .before .before .before .before .before .before .before .before .before .before .before .before .before .before .before .before .before .before .before .before .before .measure .kept .1 .1 .1 .1 .1 .0 ∙ length-replicate {A = ℕ} 64 0, c .before .before .before .before .before .before .before .before .before .before .before .before .before .before .before .before .before .before .before .before .before .measure .kept .1 .1 .1 .1 .1 .1 .0 ∙ length-replicate {A = ℕ} 64 0, n .4, omega (arith, y, A, O .size, m, n .1), copy-blocks (g .ix) (g .standing .now) (g .from) (g .to) (p .0) (g .entries .now) (g .starts .now) G (p .3) C _ _ O)
+    (p .0, p .1, c .before .before .before .before .before .before .before .before .before .before .before .before .before .before .before .before .before .before .before .before .before .measure .kept .1 .1 .1 .1 .1 .0 ∙ length-replicate {A = ℕ} 64 0, c .before .before .before .before .before .before .before .before .before .before .before .before .before .before .before .before .before .before .before .before .before .measure .kept .1 .1 .1 .1 .1 .1 .0 ∙ length-replicate {A = ℕ} 64 0, n .4, omega (arith, y, A, O .size, m, n .1), copy-blocks (g .ix) (g .standing .now) (g .from) (g .to) (p .0) (g .entries .now) (g .starts .now) G (p .3) C _ _ O, p .4)
 
 returns : tie.Need-returns
 returns c = let g = c .before .before .before .before .before .before .before .before .before .before .before .before .before .before .before .before .before .before .before .before .before .before .before .before .before .before .before .before .before .before .before .before .before .before .args in

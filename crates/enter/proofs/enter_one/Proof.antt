@@ -90,7 +90,7 @@ insert-requires c κs = let g = c .before .before .before .before .before .befor
     let e : c .before .before .before .before .before .before .before .before .before .before .span-of .result .lo + c .before .before .before .before .before .before .before .before .before .width-of .result ≤ buckets = omega (arith, t, u, W, E .0, E .1) in
     let z = p .1 .within buckets (omega arith) in
     let r = p .1 .rise (c .before .before .before .before .before .before .before .before .before .before .span-of .result .lo + c .before .before .before .before .before .before .before .before .before .width-of .result) buckets e (omega arith) in
-    (omega (arith, e, p .1 .table), λ b d h l. p .1 .rise b d h (omega (arith, p .1 .table)), omega (arith, r, z, c .before .before .before .before .before .before .before .if1 .left, c .before .before .before .before .move-block .kept .0))
+    (omega (arith, e, p .1 .table), λ b d h l. p .1 .rise b d h (omega (arith, p .1 .table)), omega (arith, r, z, c .before .before .before .before .before .before .before .if1 .left, c .before .before .before .before .move-block .kept .0), p .2)
 
 step-up-requires : tie.Need-step-up-requires
 step-up-requires c κs = let g = c .before .before .before .before .before .before .before .before .before .before .before .before .before .before .before .before .before .before .args in

@@ -36,7 +36,7 @@ fill-strip-requires c κs = let l = c .before .before .before .before .loop in
     let p = c .before .before .before .before .before .before .before .before .before .before .pre in
     let E = c .before .before .kept-span .ensures in
     let t = bucket-top (g .ix) (stripAt (g .standing .now) (l .i) .x1) in
-    (l .inv .4 .table, omega (arith, t, E .1), strip-room (g .ix) (g .standing .now) (l .i) (g .to) _ _ (c .before .before .before .loop-test .taken) (E .0) (E .1) (l .entries) (l .starts) (let z = l .inv .2 in let y = p .5 in omega arith) (l .inv .4))
+    (l .inv .4 .table, omega (arith, t, E .1), strip-room (g .ix) (g .standing .now) (l .i) (g .to) _ _ (c .before .before .before .loop-test .taken) (E .0) (E .1) (l .entries) (l .starts) (let z = l .inv .2 in let y = p .5 in omega arith) (l .inv .4), omega (arith, c .before .before .before .loop-test .taken, p .7))
 
 add-i : tie.Need-add-i Inv-loop μ-loop
 add-i c = omega (arith, c .before .before .before .before .before .before .before .before .loop-test .taken, c .before .before .before .before .before .before .before .before .before .before .before .before .before .before .before .pre .1)

@@ -38,7 +38,7 @@ set-entry-requires c κs = let l = c .before .before .before .loop in
     let p = c .before .before .before .before .before .before .pre in
     let z = p .2 (l .b) (l .inv .0) (c .before .before .loop-test .taken) in
     let y = l .inv .3 (l .b) (native.Mathlib.Nat.le-refl (l .b)) in
-    omega (arith, l .inv .2)
+    (omega (arith, l .inv .2), p .3)
 
 add-starts : tie.Need-add-starts Inv-loop μ-loop
 add-starts c = let l = c .before .before .before .before .before .before .loop in

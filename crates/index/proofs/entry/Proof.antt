@@ -31,9 +31,12 @@ mul-result c = search needs
 shared-slice-read-result : tie.Need-shared-slice-read-result
 shared-slice-read-result c = search needs
 
+cast-result : tie.Need-cast-result
+cast-result c = omega (arith, c .shared-slice-known .given (c .before .args .e))
+
 -- src/lib.rt:96:1
 returns : tie.Need-returns
 returns c = search needs
 
 pub entry-spec : {M : Type 1} → statement M
-entry-spec = tie.close (tie.spec mul-result shared-slice-read-result returns)
+entry-spec = tie.close (tie.spec mul-result shared-slice-read-result cast-result returns)

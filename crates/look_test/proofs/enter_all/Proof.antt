@@ -20,7 +20,7 @@ enter-copy-requires c κs =
     let cap = c .before .before .before .capacity in
     let z = c .before .before .before .before .before .before .clear in
     let room = capacity-room (g .standing .now) in
-    (omega arith, omega (arith, cap .ensures), p .2, none-laid (g .ix) (g .standing .now) (g .entries .now) _ (z .kept .0 ∙ p .1) (z .ensures))
+    (omega arith, omega (arith, cap .ensures), p .2, none-laid (g .ix) (g .standing .now) (g .entries .now) _ (z .kept .0 ∙ p .1) (z .ensures), omega (arith, cap .ensures, p .0))
 
 same-length : tie.Need-same-length
 same-length c = search needs

@@ -2,7 +2,7 @@ use lib.ListN.{length, getD}
 use mathlib.Core.Path.{_≡_, sym, ap, _∙_, refl, subst}
 use native.Mathlib.Omega.{arith}
 use Prim.Native.Nat.{ℕ, _/_, _+_, _-_, _*_, _≤_, _<_, _^_}
-use Rattle.store.proofs.Whole.{sum-fits, short-is, fits-is, full-is, room-is, six-in, six-after, laid-on, done-is}
+use Rattle.store.proofs.Whole.{sum-fits, short-is, fits-is, full-is, room-is, six-in, few-in, six-after, laid-on, done-is}
 use borrow.Author.Needs.{needs}
 use Rattle.store.proofs.store_copy.Statement.{statement}
 use Rattle.store.proofs.store_copy.Tie as tie
@@ -12,13 +12,14 @@ use Rattle.enter.proofs.enter_copy.Reads as enter-copy-reads
 use Rattle.store.proofs.entries_fit.Reads as entries-fit-reads
 use Rattle.store.proofs.store_moved.Reads as store-moved-reads
 use Rattle.trapezoid.proofs.capacity.Reads as capacity-reads
+use Rattle.index.proofs.standing_capacity.Reads as standing-capacity-reads
 
 -- src/lib.rt:79:9
 capacity-requires : tie.Need-capacity-requires
 capacity-requires c κs = search needs
 
-capacity-requires-2 : tie.Need-capacity-requires-2
-capacity-requires-2 c κs = search needs
+standing-capacity-requires : tie.Need-standing-capacity-requires
+standing-capacity-requires c κs = search needs
 
 add-if1 : tie.Need-add-if1
 add-if1 c = let a = c .before .before .before .before .before .before .before .before .args in
@@ -30,7 +31,7 @@ same-length c = search needs
 returns : tie.Need-returns
 returns c = let a = c .before .before .before .before .before .before .before .before .before .args in
     let p = c .before .before .before .before .before .before .before .before .before .pre in
-    (short-is (a .ix) (a .apart .now) (a .x) (a .y) (a .n) (a .placed .now) (a .entries .now) (a .starts .now) (p .0) _ _ (c .before .capacity2 .ensures) (c .before .before .before .capacity .ensures) (c .if1 .taken), p .0)
+    (short-is (a .ix) (a .apart .now) (a .x) (a .y) (a .n) (a .placed .now) (a .entries .now) (a .starts .now) (p .0) _ _ (c .before .standing-capacity .ensures) (c .before .before .before .capacity .ensures) (c .if1 .taken), p .0)
 
 slice-read-rest : tie.Need-slice-read-rest
 slice-read-rest c = search needs
@@ -44,7 +45,7 @@ entries-fit-requires c κs = search needs
 store-moved-requires : tie.Need-store-moved-requires
 store-moved-requires c κs = let a = c .before .before .before .before .before .before .before .before .before .before .before .before .before .args in
     let p = c .before .before .before .before .before .before .before .before .before .before .before .before .before .pre in
-    six-in (a .ix) (a .apart .now) (a .x) (a .y) (a .n) (a .placed .now) (a .entries .now) (a .starts .now) (p .0) (fits-is (a .ix) (a .apart .now) (a .x) (a .y) (a .n) (a .placed .now) (a .entries .now) (a .starts .now) (p .0) _ _ (c .before .before .before .before .before .capacity2 .ensures) (c .before .before .before .before .before .before .before .capacity .ensures) (c .before .before .before .before .if1 .left))
+    six-in (a .ix) (a .apart .now) (a .x) (a .y) (a .n) (a .placed .now) (a .entries .now) (a .starts .now) (p .0) (fits-is (a .ix) (a .apart .now) (a .x) (a .y) (a .n) (a .placed .now) (a .entries .now) (a .starts .now) (p .0) _ _ (c .before .before .before .before .before .standing-capacity .ensures) (c .before .before .before .before .before .before .before .capacity .ensures) (c .before .before .before .before .if1 .left))
 
 add-enter-copy : tie.Need-add-enter-copy
 add-enter-copy c = search needs
@@ -52,10 +53,10 @@ add-enter-copy c = search needs
 enter-copy-requires : tie.Need-enter-copy-requires
 enter-copy-requires c κs = let a = c .before .before .before .before .before .before .before .before .before .before .before .before .before .before .before .before .before .before .before .before .args in
     let p = c .before .before .before .before .before .before .before .before .before .before .before .before .before .before .before .before .before .before .before .before .pre in
-    let f = fits-is (a .ix) (a .apart .now) (a .x) (a .y) (a .n) (a .placed .now) (a .entries .now) (a .starts .now) (p .0) _ _ (c .before .before .before .before .before .before .before .before .before .before .before .before .capacity2 .ensures) (c .before .before .before .before .before .before .before .before .before .before .before .before .before .before .capacity .ensures) (c .before .before .before .before .before .before .before .before .before .before .before .if1 .left) in
+    let f = fits-is (a .ix) (a .apart .now) (a .x) (a .y) (a .n) (a .placed .now) (a .entries .now) (a .starts .now) (p .0) _ _ (c .before .before .before .before .before .before .before .before .before .before .before .before .standing-capacity .ensures) (c .before .before .before .before .before .before .before .before .before .before .before .before .before .before .capacity .ensures) (c .before .before .before .before .before .before .before .before .before .before .before .if1 .left) in
     let E = c .before .before .before .before .before .before .store-moved .ensures in
     let k = c .before .before .before .before .before .before .before .before .before .before .before .before .before .before .capacity .ensures in
-    (omega arith, six-after (a .ix) (a .apart .now) (a .x) (a .y) (a .n) (a .placed .now) (a .entries .now) (a .starts .now) (p .0) f _ _ k E, p .1, laid-on (a .ix) (a .apart .now) (a .x) (a .y) (a .n) (a .placed .now) (a .entries .now) (a .starts .now) (p .0) f _ E)
+    (omega arith, six-after (a .ix) (a .apart .now) (a .x) (a .y) (a .n) (a .placed .now) (a .entries .now) (a .starts .now) (p .0) f _ _ k E, p .1, laid-on (a .ix) (a .apart .now) (a .x) (a .y) (a .n) (a .placed .now) (a .entries .now) (a .starts .now) (p .0) f _ E, few-in (a .ix) (a .apart .now) (a .x) (a .y) (a .n) (a .placed .now) (a .entries .now) (a .starts .now) (p .0) f _ k)
 
 same-length-2 : tie.Need-same-length-2
 same-length-2 c = search needs
@@ -72,7 +73,7 @@ same-length-5 c = search needs
 returns-2 : tie.Need-returns-2
 returns-2 c = let a = c .before .before .before .before .before .before .before .before .before .before .before .before .before .before .before .before .before .before .before .before .before .before .before .before .before .before .before .args in
     let p = c .before .before .before .before .before .before .before .before .before .before .before .before .before .before .before .before .before .before .before .before .before .before .before .before .before .before .before .pre in
-    let f = fits-is (a .ix) (a .apart .now) (a .x) (a .y) (a .n) (a .placed .now) (a .entries .now) (a .starts .now) (p .0) _ _ (c .before .before .before .before .before .before .before .before .before .before .before .before .before .before .before .before .before .before .before .capacity2 .ensures) (c .before .before .before .before .before .before .before .before .before .before .before .before .before .before .before .before .before .before .before .before .before .capacity .ensures) (c .before .before .before .before .before .before .before .before .before .before .before .before .before .before .before .before .before .before .if1 .left) in
+    let f = fits-is (a .ix) (a .apart .now) (a .x) (a .y) (a .n) (a .placed .now) (a .entries .now) (a .starts .now) (p .0) _ _ (c .before .before .before .before .before .before .before .before .before .before .before .before .before .before .before .before .before .before .before .standing-capacity .ensures) (c .before .before .before .before .before .before .before .before .before .before .before .before .before .before .before .before .before .before .before .before .before .capacity .ensures) (c .before .before .before .before .before .before .before .before .before .before .before .before .before .before .before .before .before .before .if1 .left) in
     let g = room-is (a .ix) (a .apart .now) (a .x) (a .y) (a .n) (a .placed .now) (a .entries .now) (a .starts .now) (p .0) f _ (c .before .before .before .before .before .before .before .before .before .before .before .before .before .before .before .before .entries-fit .ensures) (c .before .before .before .before .before .before .before .before .before .before .before .before .before .before .before .if2 .taken) in
     done-is (a .ix) (a .apart .now) (a .x) (a .y) (a .n) (a .placed .now) (a .entries .now) (a .starts .now) (p .0) f g _ (c .before .before .before .before .before .before .enter-copy .result) _ _ _ (c .before .before .before .before .before .before .before .before .before .before .before .before .before .before .before .before .before .before .before .before .before .capacity .ensures) (c .before .before .before .before .before .before .before .before .before .before .before .before .before .store-moved .ensures) (c .before .before .before .before .before .before .enter-copy .ensures .0) (c .before .before .before .before .before .before .enter-copy .ensures .1)
 
@@ -82,7 +83,7 @@ same-length-6 c = search needs
 returns-3 : tie.Need-returns-3
 returns-3 c = let a = c .before .before .before .before .before .before .before .before .before .before .before .before .args in
     let p = c .before .before .before .before .before .before .before .before .before .before .before .before .pre in
-    let f = fits-is (a .ix) (a .apart .now) (a .x) (a .y) (a .n) (a .placed .now) (a .entries .now) (a .starts .now) (p .0) _ _ (c .before .before .before .before .capacity2 .ensures) (c .before .before .before .before .before .before .capacity .ensures) (c .before .before .before .if1 .left) in
+    let f = fits-is (a .ix) (a .apart .now) (a .x) (a .y) (a .n) (a .placed .now) (a .entries .now) (a .starts .now) (p .0) _ _ (c .before .before .before .before .standing-capacity .ensures) (c .before .before .before .before .before .before .capacity .ensures) (c .before .before .before .if1 .left) in
     (full-is (a .ix) (a .apart .now) (a .x) (a .y) (a .n) (a .placed .now) (a .entries .now) (a .starts .now) (p .0) f _ (c .before .entries-fit .ensures) (c .if2 .left), p .0)
 
 pub store-copy-spec : {M : Type 1} → statement M
@@ -90,7 +91,7 @@ store-copy-spec =
     tie.close
     (tie.spec
     capacity-requires
-    capacity-requires-2
+    standing-capacity-requires
     add-if1
     same-length
     returns

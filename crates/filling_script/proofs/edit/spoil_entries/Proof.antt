@@ -1,10 +1,10 @@
--- `filling_script::edit::spoil_numbers` meets its contract. Assumes nothing.
+-- `filling_script::edit::spoil_entries` meets its contract. Assumes nothing.
 use Prim.Native.Nat.{_-_}
 use borrow.Author.Needs.{needs}
 use lib.ListN.{length}
 use mathlib.Core.Path.{_≡_}
-use Rattle.filling_script.proofs.edit.spoil_numbers.Statement.{statement}
-use Rattle.filling_script.proofs.edit.spoil_numbers.Tie as tie
+use Rattle.filling_script.proofs.edit.spoil_entries.Statement.{statement}
+use Rattle.filling_script.proofs.edit.spoil_entries.Tie as tie
 
 abbrev Inv-loop : tie.InvT-loop
 Inv-loop room₀ from seed state₀ i₀ room state i = length room ≡ length room₀
@@ -17,6 +17,9 @@ loop-holds c = search needs
 
 next-random-requires : tie.Need-next-random-requires Inv-loop μ-loop
 next-random-requires c κs = search needs
+
+entry-of-requires : tie.Need-entry-of-requires Inv-loop μ-loop
+entry-of-requires c κs = search needs
 
 mul-room : tie.Need-mul-room Inv-loop μ-loop
 mul-room c = search needs
@@ -39,14 +42,15 @@ same-length c = search needs
 returns : tie.Need-returns Inv-loop μ-loop
 returns c = search needs
 
-pub spoil-numbers-spec : {M : Type 1} → statement M
-spoil-numbers-spec =
+pub spoil-entries-spec : {M : Type 1} → statement M
+spoil-entries-spec =
     tie.close
     (tie.spec
     Inv-loop
     μ-loop
     loop-holds
     next-random-requires
+    entry-of-requires
     mul-room
     slice-write-room
     add-i

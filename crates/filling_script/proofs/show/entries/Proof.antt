@@ -1,9 +1,9 @@
--- `filling_script::show::numbers` meets its contract. Assumes nothing.
+-- `filling_script::show::entries` meets its contract. Assumes nothing.
 use Prim.Native.Nat.{_-_, _≤_}
 use borrow.Author.Needs.{needs}
 use lib.ListN.{length}
-use Rattle.filling_script.proofs.show.numbers.Statement.{statement}
-use Rattle.filling_script.proofs.show.numbers.Tie as tie
+use Rattle.filling_script.proofs.show.entries.Statement.{statement}
+use Rattle.filling_script.proofs.show.entries.Tie as tie
 
 abbrev Inv-loop : tie.InvT-loop
 Inv-loop a room i₀ i = i ≤ length room
@@ -17,11 +17,8 @@ room-name-requires c κs = search needs
 loop-holds : tie.Need-loop-holds Inv-loop μ-loop
 loop-holds c = search needs
 
-mul-word : tie.Need-mul-word Inv-loop μ-loop
-mul-word c = search needs
-
-shared-slice-read-word : tie.Need-shared-slice-read-word Inv-loop μ-loop
-shared-slice-read-word c = search needs
+entry-requires : tie.Need-entry-requires Inv-loop μ-loop
+entry-requires c κs = search needs
 
 word-requires : tie.Need-word-requires Inv-loop μ-loop
 word-requires c κs = search needs
@@ -41,16 +38,15 @@ end-requires c κs = search needs
 returns : tie.Need-returns Inv-loop μ-loop
 returns c = search needs
 
-pub numbers-spec : {M : Type 1} → statement M
-numbers-spec =
+pub entries-spec : {M : Type 1} → statement M
+entries-spec =
     tie.close
     (tie.spec
     Inv-loop
     μ-loop
     room-name-requires
     loop-holds
-    mul-word
-    shared-slice-read-word
+    entry-requires
     word-requires
     add-i
     loop-less
