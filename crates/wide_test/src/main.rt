@@ -3,36 +3,8 @@
 // 2 placed), its slots and those of each entry room in four bytes each, and the job. For each a line
 // `job` with its label and then its plan is printed. The file stdout holds the oracle's answers
 // (oracle/sample-wide.py), never those of this code.
-ghost use mathlib.Core.Path.{_≡_};
 ghost use Prim.Native.Nat.{_≤_};
-ghost use lib.ListN.{length};
-use index::Entry;
 use records::Part;
-
-// A room for 66,666 strips, and one for 1,365. The `ensures` gives the length, which lending needs.
-fn long_room() -> [f64; 400000]
-    ensures { λ r. ⌜ 400000 ≡ length r ⌝ }
-{
-    [1.0; 400000]
-}
-
-fn short_room() -> [f64; 8190]
-    ensures { λ r. ⌜ 8190 ≡ length r ⌝ }
-{
-    [1.0; 8190]
-}
-
-fn entry_room() -> [Entry; 200000]
-    ensures { λ r. ⌜ 200000 ≡ length r ⌝ }
-{
-    [1; 200000]
-}
-
-fn text_room() -> [u8; 524288]
-    ensures { λ r. ⌜ 524288 ≡ length r ⌝ }
-{
-    [1; 524288]
-}
 
 // The smaller of two.
 fn at_most(n: usize, most: usize) -> usize
@@ -52,11 +24,11 @@ fn print_with(
     sheet: &mut [f64],
     placed: &mut [f64],
 ) {
-    let mut sheet_entries = entry_room();
-    let mut placed_entries = entry_room();
+    let mut sheet_entries = [1u16; 200000];
+    let mut placed_entries = [1u16; 200000];
     let mut intervals = [1.0; 8192];
     let mut positions = [1.0; 20480];
-    let mut out = text_room();
+    let mut out = [1u8; 524288];
     let m = at_most(entries, 200000);
     let n = panel::plan_text(
         bytes,
@@ -72,12 +44,11 @@ fn print_with(
     print_plan::write_from(&out, n);
 }
 
-// The same with the room `which` lent with so many slots.
-fn print_in(which: u8, slots: usize, entries: usize, bytes: &[u8]) {
-    let mut long = long_room();
-    let mut a = short_room();
-    let mut b = short_room();
-    let n = at_most(slots, 400000);
+// The same with the long room as the room `which`, lent with so many slots.
+fn print_in(which: u8, slots: usize, entries: usize, bytes: &[u8], long: &mut [f64]) {
+    let mut a = [1.0; 8190];
+    let mut b = [1.0; 8190];
+    let n = at_most(slots, long.len());
     if which == 0 {
         print_with(bytes, entries, &mut long[..n], &mut a, &mut b);
         return;
@@ -90,7 +61,7 @@ fn print_in(which: u8, slots: usize, entries: usize, bytes: &[u8]) {
 }
 
 // Prints the answer to the record that the first n bytes are.
-fn answer(room: &[u8], n: usize) -> bool {
+fn answer(room: &[u8], n: usize, long: &mut [f64]) -> bool {
     if room.len() < n {
         return false;
     }
@@ -99,12 +70,12 @@ fn answer(room: &[u8], n: usize) -> bool {
     }
     let slots = records::number(room[1], room[2], room[3], room[4]);
     let entries = records::number(room[5], room[6], room[7], room[8]);
-    print_in(room[0], slots, entries, &room[9..n]);
+    print_in(room[0], slots, entries, &room[9..n], long);
     true
 }
 
 // Whether there was one more record; its label and the job's plan are printed.
-fn replay(room: &mut [u8]) -> bool {
+fn replay(room: &mut [u8], long: &mut [f64]) -> bool {
     let Part::Bytes(n) = records::read_label(room) else {
         return false;
     };
@@ -112,17 +83,23 @@ fn replay(room: &mut [u8]) -> bool {
     let Part::Bytes(m) = records::read_job(room) else {
         return false;
     };
-    answer(room, m)
+    answer(room, m, long)
 }
 
-fn main() {
-    let mut room = [0u8; 16384];
+fn replay_all(room: &mut [u8], long: &mut [f64]) {
     let mut turns: usize = 0;
     while turns < 1000 {
-        if replay(&mut room) {
+        if replay(room, long) {
             turns += 1;
         } else {
             return;
         }
     }
+}
+
+// The long room has 66,666 strips.
+fn main() {
+    let mut room = [0u8; 16384];
+    let mut long = [1.0; 400000];
+    replay_all(&mut room, &mut long);
 }

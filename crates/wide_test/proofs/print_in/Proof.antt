@@ -5,20 +5,11 @@ use borrow.Author.Needs.{needs}
 use Rattle.wide_test.proofs.print_in.Statement.{statement}
 use Rattle.wide_test.proofs.print_in.Tie as tie
 
-long-room-requires : tie.Need-long-room-requires
-long-room-requires c κs = search needs
-
-short-room-requires : tie.Need-short-room-requires
-short-room-requires c κs = search needs
-
-short-room-requires-2 : tie.Need-short-room-requires-2
-short-room-requires-2 c κs = search needs
-
 at-most-requires : tie.Need-at-most-requires
 at-most-requires c κs = search needs
 
-array-borrow-prefix-long : tie.Need-array-borrow-prefix-long
-array-borrow-prefix-long c = search needs
+slice-relend-prefix-print-with : tie.Need-slice-relend-prefix-print-with
+slice-relend-prefix-print-with c = search needs
 
 slice-aggregate-print-with : tie.Need-slice-aggregate-print-with
 slice-aggregate-print-with c = simp length-take (omega arith)
@@ -32,14 +23,17 @@ slice-aggregate-print-with-3 c = search needs
 print-with-requires : tie.Need-print-with-requires
 print-with-requires c κs = search needs
 
+same-length : tie.Need-same-length
+same-length c = search needs
+
 returns : tie.Need-returns
 returns c = search needs
 
 slice-aggregate-print-with-4 : tie.Need-slice-aggregate-print-with-4
 slice-aggregate-print-with-4 c = search needs
 
-array-borrow-prefix-long-2 : tie.Need-array-borrow-prefix-long-2
-array-borrow-prefix-long-2 c = search needs
+slice-relend-prefix-print-with-2 : tie.Need-slice-relend-prefix-print-with-2
+slice-relend-prefix-print-with-2 c = search needs
 
 slice-aggregate-print-with-5 : tie.Need-slice-aggregate-print-with-5
 slice-aggregate-print-with-5 c = simp length-take (omega arith)
@@ -50,6 +44,9 @@ slice-aggregate-print-with-6 c = search needs
 print-with-requires-2 : tie.Need-print-with-requires-2
 print-with-requires-2 c κs = search needs
 
+same-length-2 : tie.Need-same-length-2
+same-length-2 c = search needs
+
 returns-2 : tie.Need-returns-2
 returns-2 c = search needs
 
@@ -59,14 +56,17 @@ slice-aggregate-print-with-7 c = search needs
 slice-aggregate-print-with-8 : tie.Need-slice-aggregate-print-with-8
 slice-aggregate-print-with-8 c = search needs
 
-array-borrow-prefix-long-3 : tie.Need-array-borrow-prefix-long-3
-array-borrow-prefix-long-3 c = search needs
+slice-relend-prefix-print-with-3 : tie.Need-slice-relend-prefix-print-with-3
+slice-relend-prefix-print-with-3 c = search needs
 
 slice-aggregate-print-with-9 : tie.Need-slice-aggregate-print-with-9
 slice-aggregate-print-with-9 c = simp length-take (omega arith)
 
 print-with-requires-3 : tie.Need-print-with-requires-3
 print-with-requires-3 c κs = search needs
+
+same-length-3 : tie.Need-same-length-3
+same-length-3 c = search needs
 
 returns-3 : tie.Need-returns-3
 returns-3 c = search needs
@@ -75,25 +75,25 @@ pub print-in-spec : {M : Type 1} → statement M
 print-in-spec =
     tie.close
     (tie.spec
-    long-room-requires
-    short-room-requires
-    short-room-requires-2
     at-most-requires
-    array-borrow-prefix-long
+    slice-relend-prefix-print-with
     slice-aggregate-print-with
     slice-aggregate-print-with-2
     slice-aggregate-print-with-3
     print-with-requires
+    same-length
     returns
     slice-aggregate-print-with-4
-    array-borrow-prefix-long-2
+    slice-relend-prefix-print-with-2
     slice-aggregate-print-with-5
     slice-aggregate-print-with-6
     print-with-requires-2
+    same-length-2
     returns-2
     slice-aggregate-print-with-7
     slice-aggregate-print-with-8
-    array-borrow-prefix-long-3
+    slice-relend-prefix-print-with-3
     slice-aggregate-print-with-9
     print-with-requires-3
+    same-length-3
     returns-3)

@@ -1,18 +1,9 @@
 -- `wide_test::print_with` meets its contract. Assumes nothing.
 use native.Mathlib.Omega.{arith}
-use lib.ListN.{length-take}
+use lib.ListN.{length-take, length-replicate}
 use borrow.Author.Needs.{needs}
 use Rattle.wide_test.proofs.print_with.Statement.{statement}
 use Rattle.wide_test.proofs.print_with.Tie as tie
-
-entry-room-requires : tie.Need-entry-room-requires
-entry-room-requires c κs = search needs
-
-entry-room-requires-2 : tie.Need-entry-room-requires-2
-entry-room-requires-2 c κs = search needs
-
-text-room-requires : tie.Need-text-room-requires
-text-room-requires c κs = search needs
 
 at-most-requires : tie.Need-at-most-requires
 at-most-requires c κs = search needs
@@ -21,13 +12,13 @@ array-borrow-prefix-sheet-entries : tie.Need-array-borrow-prefix-sheet-entries
 array-borrow-prefix-sheet-entries c = search needs
 
 slice-aggregate-plan-text : tie.Need-slice-aggregate-plan-text
-slice-aggregate-plan-text c = simp length-take (omega arith)
+slice-aggregate-plan-text c = simp (length-take, length-replicate) (omega arith)
 
 array-borrow-prefix-placed-entries : tie.Need-array-borrow-prefix-placed-entries
 array-borrow-prefix-placed-entries c = search needs
 
 slice-aggregate-plan-text-2 : tie.Need-slice-aggregate-plan-text-2
-slice-aggregate-plan-text-2 c = simp length-take (omega arith)
+slice-aggregate-plan-text-2 c = simp (length-take, length-replicate) (omega arith)
 
 slice-aggregate-plan-text-3 : tie.Need-slice-aggregate-plan-text-3
 slice-aggregate-plan-text-3 c = search needs
@@ -63,9 +54,6 @@ pub print-with-spec : {M : Type 1} → statement M
 print-with-spec =
     tie.close
     (tie.spec
-    entry-room-requires
-    entry-room-requires-2
-    text-room-requires
     at-most-requires
     array-borrow-prefix-sheet-entries
     slice-aggregate-plan-text
