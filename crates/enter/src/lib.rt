@@ -11,6 +11,9 @@ ghost use Rattle.enter.specs.Gaps.{Blocks, filled, rooms, entering};
 use index::Entry;
 use index::Index;
 
+// So many entries in all are 16 to a bucket.
+const LONG: usize = 8192;
+
 // The larger of two.
 fn later(a: usize, b: usize) -> usize
     ensures { λ r. ⌜ r ≡ max a b ⌝ }
@@ -174,7 +177,7 @@ fn enter_one(
     let end = lo + width;
     let after = starts[end];
     moves::move_block(entries, after, all, width);
-    gaps::insert(entries, starts, from, lo, width);
+    gaps::insert(entries, starts, from, lo, width, all >= LONG);
     gaps::step_up(starts, lo, width);
     moves::shift(starts, end + 1, width);
     true

@@ -64,8 +64,15 @@ pub fn open_all(
 }
 
 // Moves `width` buckets from lo on up by 0, 1, .., the last first; a strip's number goes to each one's end.
-// Only crates of ours call it.
-pub fn insert(entries: &mut [Entry], starts: &[usize], number: usize, lo: usize, width: usize)
+// `long` where buckets are likely to be long. Only crates of ours call it.
+pub fn insert(
+    entries: &mut [Entry],
+    starts: &[usize],
+    number: usize,
+    lo: usize,
+    width: usize,
+    long: bool,
+)
     requires { ⌜ (lo + width < length (now starts)) × ((b c : ℕ) → b ≤ c → c < length (now starts) → getD (now starts) b 0 ≤ getD (now starts) c 0) × (getD (now starts) (lo + width) 0 + width ≤ length (now entries)) × (number < stripNumbers) ⌝ }
     ensures { λ _. ⌜ Inserted lo width number (now (starts .entry)) (now (entries .entry)) 0 (now (entries .exit)) ⌝ }
 {
@@ -75,7 +82,7 @@ pub fn insert(entries: &mut [Entry], starts: &[usize], number: usize, lo: usize,
         let b = lo + by;
         let from = starts[b];
         let to = starts[b + 1];
-        moves::move_up(entries, from, to, by);
+        moves::move_bucket(entries, from, to, by, long);
         set_entry(entries, to + by, number);
     }
 }

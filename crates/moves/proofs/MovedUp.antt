@@ -37,17 +37,50 @@ moved-put j m to by v s r w h l x M = record { size = length-set r (j + by) v �
 pub moved-step : (j to by : ℕ) (s r : List ℕ) → j < to → to + by ≤ length s → Moved (j + 1) to by s r → Moved j to by s (set r (j + by) (getD r j 0))
 moved-step j to by s r h l M = moved-put j (j + 1) to by (getD r j 0) s r refl h l (M .front j (omega arith)) M
 
+-- the same at a place k that is j + by
+moved-at : (j m to by k v : ℕ) (s r : List ℕ) → m ≡ j + 1 → k ≡ j + by → j < to → to + by ≤ length s → v ≡ getD s j 0 → Moved m to by s r → Moved j to by s (set r k v)
+moved-at j m to by k v s r w e h l x M = subst (λ (q : ℕ). Moved j to by s (set r q v)) (sym e) (moved-put j m to by v s r w h l x M)
+
+-- four values at four places
+four-at : (j to by k3 k2 k1 k0 d c b a : ℕ) (s r : List ℕ) → k3 ≡ j + 3 + by → k2 ≡ j + 2 + by → k1 ≡ j + 1 + by → k0 ≡ j + by
+    → d ≡ getD s (j + 3) 0 → c ≡ getD s (j + 2) 0 → b ≡ getD s (j + 1) 0 → a ≡ getD s j 0
+    → j + 4 ≤ to → to + by ≤ length s → Moved (j + 4) to by s r
+    → Moved j to by s (set (set (set (set r k3 d) k2 c) k1 b) k0 a)
+four-at j to by k3 k2 k1 k0 d c b a s r e3 e2 e1 e0 x3 x2 x1 x0 h l M =
+    let M3 = moved-at (j + 3) (j + 4) to by k3 d s r (omega arith) e3 (omega arith) l x3 M in
+    let M2 = moved-at (j + 2) (j + 3) to by k2 c s (set r k3 d) (omega arith) e2 (omega arith) l x2 M3 in
+    let M1 = moved-at (j + 1) (j + 2) to by k1 b s (set (set r k3 d) k2 c) (omega arith) e1 (omega arith) l x1 M2 in
+    moved-at j (j + 1) to by k0 a s (set (set (set r k3 d) k2 c) k1 b) refl e0 (omega arith) l x0 M1
+
 -- four at once
 pub moved-four : (j to by : ℕ) (s r : List ℕ) → j + 4 ≤ to → to + by ≤ length s → Moved (j + 4) to by s r
     → Moved j to by s (set (set (set (set r (j + by + 3) (getD r (j + 3) 0)) (j + by + 2) (getD r (j + 2) 0)) (j + by + 1) (getD r (j + 1) 0)) (j + by) (getD r j 0))
 moved-four j to by s r h l M =
-    let e3 : j + 3 + by ≡ j + by + 3 = omega arith in
-    let e2 : j + 2 + by ≡ j + by + 2 = omega arith in
-    let e1 : j + 1 + by ≡ j + by + 1 = omega arith in
-    let M3 = subst (λ (k : ℕ). Moved (j + 3) to by s (set r k (getD r (j + 3) 0))) e3 (moved-put (j + 3) (j + 4) to by (getD r (j + 3) 0) s r (omega arith) (omega arith) l (M .front (j + 3) (omega arith)) M) in
-    let M2 = subst (λ (k : ℕ). Moved (j + 2) to by s (set (set r (j + by + 3) (getD r (j + 3) 0)) k (getD r (j + 2) 0))) e2 (moved-put (j + 2) (j + 3) to by (getD r (j + 2) 0) s (set r (j + by + 3) (getD r (j + 3) 0)) (omega arith) (omega arith) l (M .front (j + 2) (omega arith)) M3) in
-    let M1 = subst (λ (k : ℕ). Moved (j + 1) to by s (set (set (set r (j + by + 3) (getD r (j + 3) 0)) (j + by + 2) (getD r (j + 2) 0)) k (getD r (j + 1) 0))) e1 (moved-put (j + 1) (j + 2) to by (getD r (j + 1) 0) s (set (set r (j + by + 3) (getD r (j + 3) 0)) (j + by + 2) (getD r (j + 2) 0)) (omega arith) (omega arith) l (M .front (j + 1) (omega arith)) M2) in
-    moved-put j (j + 1) to by (getD r j 0) s (set (set (set r (j + by + 3) (getD r (j + 3) 0)) (j + by + 2) (getD r (j + 2) 0)) (j + by + 1) (getD r (j + 1) 0)) refl (omega arith) l (M .front j (omega arith)) M1
+    let x : (i : ℕ) → i < j + 4 + by → getD r i 0 ≡ getD s i 0 = M .front in
+    four-at j to by (j + by + 3) (j + by + 2) (j + by + 1) (j + by) (getD r (j + 3) 0) (getD r (j + 2) 0) (getD r (j + 1) 0) (getD r j 0) s r
+    (omega arith) (omega arith) (omega arith) refl
+    (x (j + 3) (omega arith)) (x (j + 2) (omega arith)) (x (j + 1) (omega arith)) (x j (omega arith)) h l M
+
+-- eight at once
+abbrev four-set : ℕ → ℕ → ℕ → ℕ → ℕ → ℕ → ℕ → ℕ → List ℕ → List ℕ
+four-set k3 k2 k1 k0 d c b a r = set (set (set (set r k3 d) k2 c) k1 b) k0 a
+
+pub moved-eight : (j to by : ℕ) (s r : List ℕ) → j + 8 ≤ to → to + by ≤ length s → Moved (j + 8) to by s r
+    → Moved j to by s
+    (four-set (j + by + 3) (j + by + 2) (j + by + 1) (j + by) (getD r (j + 3) 0) (getD r (j + 2) 0) (getD r (j + 1) 0) (getD r j 0)
+    (four-set (j + by + 7) (j + by + 6) (j + by + 5) (j + by + 4) (getD r (j + 7) 0) (getD r (j + 6) 0) (getD r (j + 5) 0) (getD r (j + 4) 0) r))
+moved-eight j to by s r h l M =
+    let x : (i : ℕ) → i < j + 8 + by → getD r i 0 ≡ getD s i 0 = M .front in
+    let e : j + 8 ≡ j + 4 + 4 = omega arith in
+    let y : (i : ℕ) → j + 4 + i < j + 8 → getD r (j + (i + 4)) 0 ≡ getD s (j + 4 + i) 0 = λ i q. (let f : j + (i + 4) ≡ j + 4 + i = omega arith in subst (λ (k : ℕ). getD r k 0 ≡ getD s (j + 4 + i) 0) (sym f) (x (j + 4 + i) (omega arith))) in
+    four-at j to by (j + by + 3) (j + by + 2) (j + by + 1) (j + by) (getD r (j + 3) 0) (getD r (j + 2) 0) (getD r (j + 1) 0) (getD r j 0) s
+    (four-set (j + by + 7) (j + by + 6) (j + by + 5) (j + by + 4) (getD r (j + 7) 0) (getD r (j + 6) 0) (getD r (j + 5) 0) (getD r (j + 4) 0) r)
+    (omega arith) (omega arith) (omega arith) refl
+    (x (j + 3) (omega arith)) (x (j + 2) (omega arith)) (x (j + 1) (omega arith)) (x j (omega arith)) (omega arith) l
+    (four-at (j + 4) to by (j + by + 7) (j + by + 6) (j + by + 5) (j + by + 4) (getD r (j + 7) 0) (getD r (j + 6) 0) (getD r (j + 5) 0) (getD r (j + 4) 0) s r
+    (omega arith) (omega arith) (omega arith) (omega arith)
+    (y 3 (omega arith)) (y 2 (omega arith)) (y 1 (omega arith)) (x (j + 4) (omega arith)) (omega arith) l
+    (subst (λ (k : ℕ). Moved k to by s r) e M))
 
 -- a part and the part before it
 pub moved-join : (from mid to by : ℕ) (s r q : List ℕ) → from ≤ mid → mid ≤ to → Moved mid to by s r → Moved from mid by r q → Moved from to by s q

@@ -66,6 +66,36 @@ fn move_long(s: &mut [Entry], from: usize, to: usize, by: usize)
     s[at] = a;
 }
 
+// Moves the entries from `from` to below `to`, four or more, up by `by`, eight at once, the last
+// first; answers where those begin that are left, at least four.
+fn move_eights(s: &mut [Entry], from: usize, to: usize, by: usize) -> usize
+    requires { ⌜ (from + 4 ≤ to) × (to + by ≤ length (now s)) ⌝ }
+    ensures { λ r. ⌜ (from + 4 ≤ r) × (r ≤ to) × Moved r to by (now (s .entry)) (now (s .exit)) ⌝ }
+{
+    let mut j = to;
+    while j - from > 11 {
+        j -= 8;
+        let a = s[j];
+        let b = s[j + 1];
+        let c = s[j + 2];
+        let d = s[j + 3];
+        let e = s[j + 4];
+        let f = s[j + 5];
+        let g = s[j + 6];
+        let h = s[j + 7];
+        let at = j + by;
+        s[at + 7] = h;
+        s[at + 6] = g;
+        s[at + 5] = f;
+        s[at + 4] = e;
+        s[at + 3] = d;
+        s[at + 2] = c;
+        s[at + 1] = b;
+        s[at] = a;
+    }
+    j
+}
+
 // Moves the entries from `from` to below `to` up by `by`: those of one bucket. Only crates
 // of ours call it.
 pub fn move_up(s: &mut [Entry], from: usize, to: usize, by: usize)
@@ -77,6 +107,31 @@ pub fn move_up(s: &mut [Entry], from: usize, to: usize, by: usize)
         return;
     }
     move_long(s, from, to, by);
+}
+
+// The same, by eights where there are twelve or more.
+fn move_far(s: &mut [Entry], from: usize, to: usize, by: usize)
+    requires { ⌜ (from ≤ to) × (to + by ≤ length (now s)) ⌝ }
+    ensures { λ _. ⌜ Moved from to by (now (s .entry)) (now (s .exit)) ⌝ }
+{
+    if to - from < 12 {
+        move_up(s, from, to, by);
+        return;
+    }
+    let j = move_eights(s, from, to, by);
+    move_long(s, from, j, by);
+}
+
+// The same; `long` says whether buckets are likely to be long. Only crates of ours call it.
+pub fn move_bucket(s: &mut [Entry], from: usize, to: usize, by: usize, long: bool)
+    requires { ⌜ (from ≤ to) × (to + by ≤ length (now s)) ⌝ }
+    ensures { λ _. ⌜ Moved from to by (now (s .entry)) (now (s .exit)) ⌝ }
+{
+    if long {
+        move_far(s, from, to, by);
+        return;
+    }
+    move_up(s, from, to, by);
 }
 
 // Adds `by` to the starts from number `from` on. Only crates of ours call it.

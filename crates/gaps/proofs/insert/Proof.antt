@@ -8,14 +8,14 @@ use Rattle.gaps.proofs.insert.Statement.{statement}
 use Rattle.gaps.proofs.insert.Tie as tie
 use Rattle.gaps.proofs.insert.Reads as reads
 use Rattle.gaps.proofs.insert.Lts as lts
-use Rattle.moves.proofs.move_up.Reads as move-up-reads
+use Rattle.moves.proofs.move_bucket.Reads as move-bucket-reads
 use Rattle.gaps.proofs.set_entry.Reads as set-entry-reads
 
 abbrev Inv-loop : tie.InvT-loop
-Inv-loop entries₀ starts number lo width by₀ entries by = (by ≤ width) × Inserted lo width number starts entries₀ by entries
+Inv-loop entries₀ starts number lo width long by₀ entries by = (by ≤ width) × Inserted lo width number starts entries₀ by entries
 
 abbrev μ-loop : tie.MeasureT-loop
-μ-loop entries₀ starts number lo width by₀ entries by = by
+μ-loop entries₀ starts number lo width long by₀ entries by = by
 
 loop-holds : tie.Need-loop-holds Inv-loop μ-loop
 loop-holds c = (omega arith, inserted-start _ _ _ _ _)
@@ -62,8 +62,8 @@ shared-slice-read-to c = let l = c .before .before .before .loop in
     let h = c .before .before .loop-test .taken in
     omega (arith, h, l .inv .0, p .0)
 
-move-up-requires : tie.Need-move-up-requires Inv-loop μ-loop
-move-up-requires c κs = let l = c .before .before .before .before .loop in
+move-bucket-requires : tie.Need-move-bucket-requires Inv-loop μ-loop
+move-bucket-requires c κs = let l = c .before .before .before .before .loop in
     let g = c .before .before .before .before .before .before .before .args in
     let p = c .before .before .before .before .before .before .before .pre in
     let h = c .before .before .before .loop-test .taken in
@@ -85,7 +85,7 @@ set-entry-requires c κs = let l = c .before .before .before .before .before .be
     let p = c .before .before .before .before .before .before .before .before .before .before .before .pre in
     let h = c .before .before .before .before .before .before .before .loop-test .taken in
     let t = p .1 (g .lo + (l .by - 1) + 1) (g .lo + g .width) (omega (arith, h, l .inv .0)) (p .0) in
-    (omega (arith, h, t, l .inv .0, l .inv .1 .size, p .2, c .before .before .before .move-up .kept .0), p .3)
+    (omega (arith, h, t, l .inv .0, l .inv .1 .size, p .2, c .before .before .before .move-bucket .kept .0), p .3)
 
 loop-less : tie.Need-loop-less Inv-loop μ-loop
 loop-less c = omega (arith, c .before .before .before .before .before .before .before .before .before .before .loop-test .taken)
@@ -97,7 +97,7 @@ loop-again c = let l = c .before .before .before .before .before .before .before
     let h = c .before .before .before .before .before .before .before .before .before .before .loop-test .taken in
     let e : l .by ≡ l .by - 1 + 1 = omega (arith, h) in
     let J = subst (λ (k : ℕ). Inserted (g .lo) (g .width) (g .number) (g .starts .now) (g .entries .now) k (l .entries)) e (l .inv .1) in
-    let N = inserted-step (g .lo) (g .width) (g .number) (g .starts .now) (g .entries .now) (p .0) (p .1) (p .2) (l .by - 1) (l .entries) (c .before .before .before .before .before .before .move-up .last .0) (omega (arith, h, l .inv .0)) J (c .before .before .before .before .before .before .move-up .ensures) in
+    let N = inserted-step (g .lo) (g .width) (g .number) (g .starts .now) (g .entries .now) (p .0) (p .1) (p .2) (l .by - 1) (l .entries) (c .before .before .before .before .before .before .move-bucket .last .0) (omega (arith, h, l .inv .0)) J (c .before .before .before .before .before .before .move-bucket .ensures) in
     (omega (arith, l .inv .0), subst (λ (k : List ℕ). Inserted (g .lo) (g .width) (g .number) (g .starts .now) (g .entries .now) (l .by - 1) k) (sym (c .before .before .set-entry .ensures)) N)
 
 same-length : tie.Need-same-length Inv-loop μ-loop
@@ -126,7 +126,7 @@ insert-spec =
     add-to
     mul-to
     shared-slice-read-to
-    move-up-requires
+    move-bucket-requires
     add-set-entry
     set-entry-requires
     loop-less
