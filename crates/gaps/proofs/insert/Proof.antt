@@ -85,7 +85,7 @@ set-entry-requires c κs = let l = c .before .before .before .before .before .be
     let p = c .before .before .before .before .before .before .before .before .before .before .before .pre in
     let h = c .before .before .before .before .before .before .before .loop-test .taken in
     let t = p .1 (g .lo + (l .by - 1) + 1) (g .lo + g .width) (omega (arith, h, l .inv .0)) (p .0) in
-    (omega (arith, h, t, l .inv .0, l .inv .1 .size, p .2, c .before .before .before .move-bucket .kept .0), p .3)
+    (omega (arith, h, t, l .inv .0, l .inv .1 .size, p .2, c .before .before .before .move-bucket .kept .0), omega (arith, p .3))
 
 loop-less : tie.Need-loop-less Inv-loop μ-loop
 loop-less c = omega (arith, c .before .before .before .before .before .before .before .before .before .before .loop-test .taken)
