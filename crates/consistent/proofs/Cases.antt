@@ -1,5 +1,5 @@
 -- The groups of 31's tests by cases, in the code's order. Assumes nothing.
-use Prim.Native.Nat.{ℕ, _/_, _-_, _*_, _≤_, _<_}
+use Prim.Native.Nat.{ℕ, _-_, _*_, _≤_, _<_}
 use native.Mathlib.Nat.{le-of-eq}
 use native.Mathlib.Omega.{arith}
 use mathlib.Core.Path.{_≡_, sym, ap, subst, _∙_}
@@ -13,7 +13,7 @@ use borrow.Author.Tests.{lt-leb, le-leb}
 use Rattle.trapezoid.specs.Strip.{capacity}
 use Rattle.strips.specs.declared.Rect.{Rect}
 use Rattle.index.specs.declared.Index.{Index}
-use Rattle.index.specs.Buckets.{indexOf, entriesOf, stripNumbers, standingCapacity}
+use Rattle.index.specs.Buckets.{indexOf, entriesOf, standingCapacity}
 use Rattle.index.specs.Listing.{Laid}
 use Rattle.entries.specs.declared.Walked.{Walked}
 use Rattle.entries.specs.declared.Walked.the-variants.{At, Wrong}
@@ -28,10 +28,6 @@ use Rattle.consistent.specs.Tests.{stateTest, countsTest, standingTest, 
 pub room-for : (n : ℕ) (room : List Float) → n ≤ capacity room → 6 * n ≤ length room
 unfolding capacity
 room-for n room h = omega arith
-
-pub room-in : (n : ℕ) (room : List Float) → n ≤ standingCapacity room → 6 * n ≤ length room
-unfolding standingCapacity capacity
-room-in n room h = let g : n ≤ Prim.Native.Nat.min (length room / 6) stripNumbers = h in omega arith
 
 module _ (n a m : ℕ) (sheet shapes placed : List Float) where
   pub counts-sheet : standingCapacity sheet < n → countsTest n a m sheet shapes placed ≡ false

@@ -8,7 +8,7 @@ use lib.ListN.{length, getD, take, length-map}
 use lib.Dec.{leb}
 use lib.Ieee.{Float}
 use Rattle.trapezoid.specs.Strip.{capacity}
-use Rattle.index.specs.Buckets.{stripNumbers, standingCapacity}
+use Rattle.index.specs.Buckets.{standingCapacity}
 use Rattle.job.specs.Jobs.{Job}
 use Rattle.filling.specs.declared.Tables.{Tables}
 use Rattle.filling.specs.declared.State.{State}

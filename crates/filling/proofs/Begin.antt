@@ -13,6 +13,7 @@ use Rattle.numbers.proofs.Truth.{either}
 use Rattle.numbers.specs.Numbers.{posZero}
 use Rattle.trapezoid.specs.Strip.{flat, capacity, partOf}
 use Rattle.index.specs.Buckets.{stripNumbers, standingCapacity}
+use Rattle.index.proofs.Standing.{standing-few}
 use Rattle.strips.specs.declared.Rect.{Rect}
 use Rattle.kinds.specs.Kinds.{Orientation, Kind}
 use Rattle.job.specs.Jobs.{Job, Answer, accepted, refused, readJob}
@@ -304,11 +305,10 @@ begun j order l e =
 
 -- an accepted start's sheet has at most as many strips as its room is used for
 pub prepared-few : (p : Planner) (w : Rooms) → prepareVerdict p w ≡ Accepted → capacity (p .sheet) ≤ stripNumbers
-unfolding prepareVerdict standingCapacity
+unfolding prepareVerdict
 prepared-few p w e =
-    let a = later-accepted (ltb (min (capacity (w .sheet)) stripNumbers) (capacity (p .sheet))) Why.StripRoom _ e .0 in
-    let b : capacity (p .sheet) ≤ min (capacity (w .sheet)) stripNumbers = nltb→le (min (capacity (w .sheet)) stripNumbers) (capacity (p .sheet)) (rw a tt) in
-    omega arith
+    let a = later-accepted (ltb (standingCapacity (w .sheet)) (capacity (p .sheet))) Why.StripRoom _ e .0 in
+    standing-few (capacity (p .sheet)) (w .sheet) (nltb→le (standingCapacity (w .sheet)) (capacity (p .sheet)) (rw a tt))
 
 pub record Started (j : Job) (order : List ℕ) (l : Lent) (r : Start) : Type 0 where
   pub verdict-is : startVerdict j order l ≡ Accepted

@@ -15,7 +15,8 @@ use Rattle.numbers.proofs.Truth.{either}
 use Rattle.numbers.proofs.Doubles.{k, o, u}
 use Rattle.numbers.proofs.Literals.{milli}
 use Rattle.trapezoid.specs.Strip.{stripAt, capacity}
-use Rattle.index.specs.Buckets.{stripNumbers, standingCapacity}
+use Rattle.index.specs.Buckets.{standingCapacity}
+use Rattle.index.proofs.Standing.{standing-within}
 use Rattle.strips.specs.declared.Rect.{Rect}
 use Rattle.index.specs.Listing.{Laid, Bounded, Fair}
 use Rattle.index.specs.declared.Index.{Index}
@@ -142,8 +143,7 @@ unfolding capacity
 within-room n room e = let h : n ≤ length room / 6 = leb-true n (length room / 6) e in omega arith
 
 within-standing : (n : ℕ) (room : List Float) → leb n (standingCapacity room) ≡ true → 6 * n ≤ length room
-unfolding standingCapacity capacity
-within-standing n room e = let h : n ≤ Prim.Native.Nat.min (length room / 6) stripNumbers = leb-true n (Prim.Native.Nat.min (length room / 6) stripNumbers) e in omega arith
+within-standing n room e = standing-within n room (leb-true n (standingCapacity room) e)
 
 pub strips-within : (j : Job) (s : State) (w : Rooms) → consistent j s w ≡ true → StripsWithin s w
 unfolding stripCountsFit

@@ -5,3 +5,4 @@ pub mod BucketOrder
 pub mod NewIndex
 pub mod Listed
 pub mod EntryLists
+pub mod Standing

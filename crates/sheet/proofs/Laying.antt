@@ -13,6 +13,7 @@ use Rattle.trapezoid.specs.declared.Trapezoid.{Trapezoid}
 use Rattle.trapezoid.specs.Strip.{flat, capacity}
 use Rattle.index.specs.declared.Index.{Index}
 use Rattle.index.specs.Buckets.{entriesOf, indexOf, stripNumbers, standingCapacity}
+use Rattle.index.proofs.Standing.{standing-in}
 use Rattle.index.specs.Listing.{Laid}
 use Rattle.enter.specs.EntryRoom.{Entering, enterOf, entriesIn}
 use Rattle.enter.specs.Gaps.{rooms, entering}
@@ -103,8 +104,7 @@ module _ (bytes : List ℕ) (at : ℕ) (sheet₀ sheet : List Float) (r : Stored
     too-many h entries₀ entries starts = let m = n-is in omega arith
 
     strips-in : n ≤ stripNumbers → capacity S ≤ standingCapacity sheet₀
-    unfolding standingCapacity capacity
-    strips-in few = let h = fits in let m : n ≡ length S / 6 = n-is in omega arith
+    strips-in few = subst (λ (k : ℕ). k ≤ standingCapacity sheet₀) n-is (standing-in n sheet₀ fits few)
 
     module _ (few : n ≤ stripNumbers) (b : Rect) (bb : b ≡ B) (ix : Index) (x : ix ≡ indexOf (b .left) (b .right)) (entries₀ starts₀ entries starts : List ℕ) (t : Bool) where
       index-is : ix ≡ sheetIndex B

@@ -15,6 +15,7 @@ use Rattle.trapezoid.specs.declared.Trapezoid.{Trapezoid}
 use Rattle.trapezoid.specs.Strip.{stripAt, setStrip, capacity, movedBy}
 use Rattle.index.specs.declared.Index.{Index}
 use Rattle.index.specs.Buckets.{buckets, bucketIn, entriesOf, stripNumbers, standingCapacity}
+use Rattle.index.proofs.Standing.{standing-within, standing-few}
 use Rattle.index.proofs.Steps.{bucket-top}
 use Rattle.index.specs.Listing.{Laid}
 use Rattle.index.proofs.NewIndex.{laid-after}
@@ -55,12 +56,10 @@ module _ (ix : Index) (apart : List Float) (x y : Float) (n : ℕ) (p : List Flo
 
   module _ (fits : n + k ≤ standingCapacity p) where
     pub six-in : 6 * (n + k) ≤ length p
-    unfolding standingCapacity capacity
-    six-in = let f : n + k ≤ Prim.Native.Nat.min (length p / 6) stripNumbers = fits in omega arith
+    six-in = standing-within (n + k) p fits
 
     pub few-in : (k' : ℕ) → k' ≡ k → n + k' ≤ stripNumbers
-    unfolding standingCapacity
-    few-in k' d = let f : n + k ≤ Prim.Native.Nat.min (capacity p) stripNumbers = fits in omega arith
+    few-in k' d = let f = standing-few (n + k) p fits in omega arith
 
     abbrev p' : List Float
     p' = movedTo apart x y n p k

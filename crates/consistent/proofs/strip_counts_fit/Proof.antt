@@ -7,7 +7,8 @@ use borrow.Author.Tests.{leb-true}
 use Rattle.trapezoid.specs.Strip.{capacity}
 use Rattle.index.specs.Buckets.{standingCapacity}
 use Rattle.strip_tests.proofs.Bounding.{never}
-use Rattle.consistent.proofs.Cases.{counts-sheet, counts-apart, counts-placed, room-for, room-in}
+use Rattle.index.proofs.Standing.{standing-within}
+use Rattle.consistent.proofs.Cases.{counts-sheet, counts-apart, counts-placed, room-for}
 use borrow.Author.Needs.{needs}
 use Rattle.consistent.proofs.strip_counts_fit.Statement.{statement}
 use Rattle.consistent.proofs.strip_counts_fit.Tie as tie
@@ -32,7 +33,7 @@ returns-3 c = let s : c .before .before .before .before .before .before .before 
     let a : c .before .before .before .before .before .before .before .before .args .apart-strips ≤ capacity (c .before .before .before .before .before .before .before .before .args .shapes .now) = (let a = c .before .before .capacity .ensures in let b = c .before .if2 .left in omega arith) in
     let e = ap (leb (c .before .before .before .before .before .before .before .before .args .placed-strips)) (c .standing-capacity2 .ensures) in (
       e ∙ counts-placed (c .before .before .before .before .before .before .before .before .args .sheet-strips) (c .before .before .before .before .before .before .before .before .args .apart-strips) (c .before .before .before .before .before .before .before .before .args .placed-strips) (c .before .before .before .before .before .before .before .before .args .sheet .now) (c .before .before .before .before .before .before .before .before .args .shapes .now) (c .before .before .before .before .before .before .before .before .args .placed .now) s a,
-      λ q. (room-in (c .before .before .before .before .before .before .before .before .args .sheet-strips) (c .before .before .before .before .before .before .before .before .args .sheet .now) s, room-for (c .before .before .before .before .before .before .before .before .args .apart-strips) (c .before .before .before .before .before .before .before .before .args .shapes .now) a, room-in (c .before .before .before .before .before .before .before .before .args .placed-strips) (c .before .before .before .before .before .before .before .before .args .placed .now) (leb-true (c .before .before .before .before .before .before .before .before .args .placed-strips) (standingCapacity (c .before .before .before .before .before .before .before .before .args .placed .now)) (sym e ∙ q))),
+      λ q. (standing-within (c .before .before .before .before .before .before .before .before .args .sheet-strips) (c .before .before .before .before .before .before .before .before .args .sheet .now) s, room-for (c .before .before .before .before .before .before .before .before .args .apart-strips) (c .before .before .before .before .before .before .before .before .args .shapes .now) a, standing-within (c .before .before .before .before .before .before .before .before .args .placed-strips) (c .before .before .before .before .before .before .before .before .args .placed .now) (leb-true (c .before .before .before .before .before .before .before .before .args .placed-strips) (standingCapacity (c .before .before .before .before .before .before .before .before .args .placed .now)) (sym e ∙ q))),
     )
 
 pub strip-counts-fit-spec : {M : Type 1} → statement M
