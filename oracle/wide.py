@@ -2,7 +2,7 @@
 lends for them. All fixed."""
 import subprocess
 
-from bits import pack
+from bits import pack, pack_fields, set_fields
 from cases import grid, job, part, rect
 from script import ORACLE
 
@@ -19,6 +19,13 @@ def zigzag(n):
     return [[(float(i) if i % 2 == 0 else 1023.0 - i, float(i)) for i in range(n)]]
 
 
+def strip_count(loops):
+    """How many strips the lifted Rust makes of a sheet."""
+    data = pack_fields(set_fields(loops, "sheet"))
+    done = subprocess.run([ORACLE, "--strips", "sheet"], input=data, capture_output=True, check=True)
+    return done.stdout.count(b"strip ")
+
+
 def wide_sheet(strips):
     """A zigzag of 509 points, and a triangle above it over so many slabs that the strips come out."""
     loops = zigzag(509)
@@ -26,6 +33,8 @@ def wide_sheet(strips):
     ends = sorted(x for x, _ in loops[0])
     if slabs:
         loops.append([(0.0, 600.0), (ends[slabs], 600.0), (0.0, 601.0)])
+    if strip_count(loops) != strips:
+        raise SystemExit(f"a sheet of {strip_count(loops)} strips for {strips}")
     return loops
 
 
@@ -56,6 +65,7 @@ def cases():
         ("sheet of 65278 strips, room one short", "sheet", 6 * 65_278 - 1, ENTRIES, on_sheet(wide_sheet(65_278))),
         ("sheet of 65536 strips", "sheet", WIDE, ENTRIES, on_sheet(exact)),
         ("sheet of 65536 strips, room exact", "sheet", 6 * STRIPS, ENTRIES, on_sheet(exact)),
+        ("sheet of 65536 strips, room one short", "sheet", 6 * STRIPS - 1, ENTRIES, on_sheet(exact)),
         ("sheet of 65536 strips, few entries", "sheet", WIDE, 1000, on_sheet(exact)),
         ("sheet of 65537 strips", "sheet", WIDE, ENTRIES, on_sheet(over)),
         ("sheet of 65537 strips, few entries", "sheet", WIDE, 1000, on_sheet(over)),
