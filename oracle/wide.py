@@ -9,7 +9,7 @@ from script import ORACLE
 STRIPS = 65_536   # that entries can number
 WIDE = 400_000    # slots: 66,666 strips
 NARROW = 8190
-ENTRIES = 200_000
+ENTRIES = 132_000
 ROOMS = ["shapes", "sheet", "placed"]
 
 

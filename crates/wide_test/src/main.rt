@@ -3,8 +3,18 @@
 // 2 placed), its slots and those of each entry room in four bytes each, and the job. For each a line
 // `job` with its label and then its plan is printed. The file stdout holds the oracle's answers
 // (oracle/sample-wide.py), never those of this code.
+ghost use mathlib.Core.Path.{_≡_};
 ghost use Prim.Native.Nat.{_≤_};
+ghost use lib.ListN.{length};
+use index::Entry;
 use records::Part;
+
+// A room of entries. The `ensures` gives the length, which lending a part of it needs.
+fn entry_room() -> [Entry; 132000]
+    ensures { λ r. ⌜ 132000 ≡ length r ⌝ }
+{
+    [1; 132000]
+}
 
 // The smaller of two.
 fn at_most(n: usize, most: usize) -> usize
@@ -24,24 +34,17 @@ fn print_with(
     sheet: &mut [f64],
     placed: &mut [f64],
 ) {
-    let mut sheet_entries = [1u16; 200000];
-    let mut placed_entries = [1u16; 200000];
-    let mut intervals = [1.0; 8192];
-    let mut positions = [1.0; 20480];
-    let mut out = [1u8; 524288];
-    let m = at_most(entries, 200000);
-    let n = panel::plan_text(
+    let mut sheet_entries = entry_room();
+    let mut placed_entries = entry_room();
+    let m = at_most(entries, 132000);
+    print_plan::print_in(
         bytes,
         shapes,
         sheet,
         placed,
         &mut sheet_entries[..m],
         &mut placed_entries[..m],
-        &mut intervals,
-        &mut positions,
-        &mut out,
     );
-    print_plan::write_from(&out, n);
 }
 
 // The same with the long room as the room `which`, lent with so many slots.

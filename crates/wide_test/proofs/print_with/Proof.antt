@@ -1,42 +1,33 @@
 -- `wide_test::print_with` meets its contract. Assumes nothing.
 use native.Mathlib.Omega.{arith}
-use lib.ListN.{length-take, length-replicate}
+use lib.ListN.{length-take}
 use borrow.Author.Needs.{needs}
 use Rattle.wide_test.proofs.print_with.Statement.{statement}
 use Rattle.wide_test.proofs.print_with.Tie as tie
 
+entry-room-requires : tie.Need-entry-room-requires
+entry-room-requires c κs = tt
+
+entry-room-requires-2 : tie.Need-entry-room-requires-2
+entry-room-requires-2 c κs = tt
+
 at-most-requires : tie.Need-at-most-requires
-at-most-requires c κs = search needs
+at-most-requires c κs = tt
 
 array-borrow-prefix-sheet-entries : tie.Need-array-borrow-prefix-sheet-entries
 array-borrow-prefix-sheet-entries c = search needs
 
-slice-aggregate-plan-text : tie.Need-slice-aggregate-plan-text
-slice-aggregate-plan-text c = simp (length-take, length-replicate) (omega arith)
+slice-aggregate-print-in : tie.Need-slice-aggregate-print-in
+slice-aggregate-print-in c = simp length-take (omega arith)
 
 array-borrow-prefix-placed-entries : tie.Need-array-borrow-prefix-placed-entries
 array-borrow-prefix-placed-entries c = search needs
 
-slice-aggregate-plan-text-2 : tie.Need-slice-aggregate-plan-text-2
-slice-aggregate-plan-text-2 c = simp (length-take, length-replicate) (omega arith)
+slice-aggregate-print-in-2 : tie.Need-slice-aggregate-print-in-2
+slice-aggregate-print-in-2 c = simp length-take (omega arith)
 
-slice-aggregate-plan-text-3 : tie.Need-slice-aggregate-plan-text-3
-slice-aggregate-plan-text-3 c = search needs
-
-slice-aggregate-plan-text-4 : tie.Need-slice-aggregate-plan-text-4
-slice-aggregate-plan-text-4 c = search needs
-
-slice-aggregate-plan-text-5 : tie.Need-slice-aggregate-plan-text-5
-slice-aggregate-plan-text-5 c = search needs
-
-plan-text-requires : tie.Need-plan-text-requires
-plan-text-requires c κs = search needs
-
-slice-aggregate-write-from : tie.Need-slice-aggregate-write-from
-slice-aggregate-write-from c = search needs
-
-write-from-requires : tie.Need-write-from-requires
-write-from-requires c κs = search needs
+print-in-requires : tie.Need-print-in-requires
+print-in-requires c κs = tt
 
 same-length : tie.Need-same-length
 same-length c = search needs
@@ -48,23 +39,20 @@ same-length-3 : tie.Need-same-length-3
 same-length-3 c = search needs
 
 returns : tie.Need-returns
-returns c = search needs
+returns c = tt
 
 pub print-with-spec : {M : Type 1} → statement M
 print-with-spec =
     tie.close
     (tie.spec
+    entry-room-requires
+    entry-room-requires-2
     at-most-requires
     array-borrow-prefix-sheet-entries
-    slice-aggregate-plan-text
+    slice-aggregate-print-in
     array-borrow-prefix-placed-entries
-    slice-aggregate-plan-text-2
-    slice-aggregate-plan-text-3
-    slice-aggregate-plan-text-4
-    slice-aggregate-plan-text-5
-    plan-text-requires
-    slice-aggregate-write-from
-    write-from-requires
+    slice-aggregate-print-in-2
+    print-in-requires
     same-length
     same-length-2
     same-length-3
