@@ -4,7 +4,6 @@ use mathlib.Core.Path.{_≡_, refl, sym, ap, ap₂, _∙_}
 use mathlib.Core.List.{List, [], _∷_, _++_, map, flatMap}
 use lib.ListN.{length, getD}
 use lib.Ieee.{Float, nan}
-use Rattle.numbers.specs.Numbers.{_⊖_}
 use Rattle.index.specs.Buckets.{upFrom}
 use Rattle.job.specs.Jobs.{Job}
 use Rattle.filling.specs.declared.State.{State}
@@ -72,11 +71,11 @@ module _ (j : Job) (rows : List ℕ) (areas : List Float) (s : State) (order ori
   pub looks-are : bySlot (lookIn rows kinds looks) ≡ looksBySlot (lookCountsOf j s)
   looks-are = ap (λ (m : ℕ). bySlot (lookIn rows m looks)) (sym k) ∙ (ap (λ (l : List ℕ). bySlot (lookIn rows (length (j .kinds)) l)) (sym (t .looks-are)) ∙ looks-same j s rows areas h)
 
-  pub plan-is : (right area sheet-right : Float) (improvements placed : ℕ) (placed-of unplaced-of counts : List ℕ) → Totalled s right area sheet-right
+  pub plan-is : (right area offcut : Float) (improvements placed : ℕ) (placed-of unplaced-of counts : List ℕ) → Totalled j s right area offcut
       → placed ≡ sumTo (standsIn orientation) taken → placed-of ≡ byKind (λ q. kindTo (standsIn orientation) order q taken) → unplaced-of ≡ byKind (λ q. kindTo (missesIn orientation) order q taken) → counts ≡ bySlot (lookIn rows kinds looks)
-      → _≡_ {A = Plan} (record { placed = placed; unplaced = taken - placed; improvements = improvements; «placed_of» = placed-of; «unplaced_of» = unplaced-of; «look_counts» = counts; right = right; «unplaced_area» = area; offcut = sheet-right ⊖ right })
+      → _≡_ {A = Plan} (record { placed = placed; unplaced = taken - placed; improvements = improvements; «placed_of» = placed-of; «unplaced_of» = unplaced-of; «look_counts» = counts; right = right; «unplaced_area» = area; offcut = offcut })
       (planOf j s improvements)
   unfolding planOf
-  plan-is right area sheet-right improvements placed placed-of unplaced-of counts u a b d e =
+  plan-is right area offcut improvements placed placed-of unplaced-of counts u a b d e =
       let v : taken - placed ≡ length (withoutOf s) = ap (λ (n : ℕ). taken - n) a ∙ unplaced-is in
-      rw (v, a ∙ placed-is, b ∙ placed-of-is, d ∙ unplaced-of-is, e ∙ looks-are, u .right-is, u .area-is, u .sheet-is)
+      rw (u .offcut-is, v, a ∙ placed-is, b ∙ placed-of-is, d ∙ unplaced-of-is, e ∙ looks-are, u .right-is, u .area-is)

@@ -3,7 +3,10 @@ use Prim.Native.Nat.{ℕ}
 use mathlib.Core.Path.{_≡_}
 use mathlib.Core.List.{List}
 use lib.Ieee.{Float}
+use Rattle.job.specs.Jobs.{Job}
 use Rattle.filling.specs.declared.State.{State}
+use Rattle.filling.specs.Shapes.{plannerOf}
+use Rattle.filling.specs.Accounts.{offcutOf}
 
 -- the order, the copies' places, the look counts, and how many copies are taken
 pub record Told (s : State) (order orientation : List ℕ) (x y : List Float) (looks : List ℕ) (taken : ℕ) : Type 0 where
@@ -14,8 +17,8 @@ pub record Told (s : State) (order orientation : List ℕ) (x y : List Float) (l
   pub looks-are : s .«look_counts» ≡ looks
   pub taken-is : s .taken ≡ taken
 
--- its totals, and the sheet's right side
-pub record Totalled (s : State) (right area sheet-right : Float) : Type 0 where
+-- its totals, and its offcut
+pub record Totalled (j : Job) (s : State) (right area offcut : Float) : Type 0 where
   pub right-is : s .layout .right ≡ right
   pub area-is : s .layout .«unplaced_area» ≡ area
-  pub sheet-is : s .tables .«sheet_bounds» .right ≡ sheet-right
+  pub offcut-is : offcutOf (plannerOf j) s ≡ offcut

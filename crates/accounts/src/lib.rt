@@ -174,14 +174,15 @@ pub fn plan_of(
     look_counts: &[usize],
     right: f64,
     unplaced_area: f64,
-    sheet_right: f64,
+    offcut: f64,
     improvements: usize,
     room: &mut [f64],
 ) -> Plan
     requires { ⌜ (kinds ≤ 64) × (256 ≤ length (now rows)) × (taken ≤ length (now order)) × (taken ≤ length (now orientation)) × (taken ≤ length (now x)) × (taken ≤ length (now y)) × (1024 ≤ length (now «look_counts»))
         × ((i : ℕ) → i < taken → getD (now order) i 0 < kinds) × (taken ≤ 4096) × (5 * taken ≤ length (now room)) ⌝ }
     ensures { λ r. ⌜ ((j : Job) (areas : List Float) (s : State) → Tabled j (now (rows .entry)) areas → length (j .kinds) ≡ kinds
-        → Told s (now (order .entry)) (now (orientation .entry)) (now (x .entry)) (now (y .entry)) (now («look_counts» .entry)) taken → Totalled s right «unplaced_area» «sheet_right»
+        → Told s (now (order .entry)) (now (orientation .entry)) (now (x .entry)) (now (y .entry)) (now («look_counts» .entry)) taken
+        → Totalled j s right «unplaced_area» offcut
         → (r ≡ planOf j s improvements) × (now (room .exit) ≡ laid (flatPositions (positions j (standingOf s))) (now (room .entry)))) ⌝ }
 {
     let mut placed_of = [0; 64];
@@ -203,6 +204,6 @@ pub fn plan_of(
         look_counts: table,
         right: right,
         unplaced_area: unplaced_area,
-        offcut: sheet_right - right,
+        offcut: offcut,
     }
 }

@@ -64,7 +64,7 @@ bounds-long p =
     let c = length-bySlot (slotShape p) in
     omega arith
 
-parts-long : (p : Planner) → length (tablesOf p .parts) ≡ 4096
+pub parts-long : (p : Planner) → length (tablesOf p .parts) ≡ 4096
 unfolding tablesOf
 parts-long p =
     let a = length-parts (partsFrom 0 0 (bySlot (slotShape p))) in

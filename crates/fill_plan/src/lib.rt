@@ -91,6 +91,8 @@ pub fn fill_plan(
         &x,
         &y,
         &look_counts,
+        parts,
+        shapes,
         bounds.right,
         0,
         positions,

@@ -5,11 +5,13 @@ use mathlib.Core.Bool.{Bool, true, false, not, _&&_}
 use mathlib.Core.List.{List, [], _∷_, _++_, map, flatMap, append-nil, append-assoc}
 use Prim.Native.Nat.{ℕ, zero, suc, _+_, _-_, _*_, _/_, _%_, _≤_, _<_, min}
 use native.Mathlib.Omega.{arith}
-use lib.ListN.{length, getD, set, take, drop, replicate, length-append, length-map, length-replicate, getD-replicate, List·getD-map}
+use lib.ListN.{length, getD, set, take, drop, replicate, length-append, length-map, length-replicate, getD-replicate, List·getD-map, List·getD-eq-default}
 use lib.Seq.{take-at, drop-at}
 use lib.Dec.{T, ltb, eqb, eqb→eq, nltb→le}
 use lib.Ieee.{Float, nan}
+use borrow.Author.Tests.{lt-ltb}
 use Rattle.numbers.proofs.Truth.{either}
+use Rattle.numbers.proofs.Rounding.{order}
 use Rattle.numbers.specs.Numbers.{posZero}
 use Rattle.trapezoid.specs.Strip.{flat, capacity, partOf}
 use Rattle.index.specs.Buckets.{stripNumbers, standingCapacity}
@@ -31,7 +33,7 @@ use Rattle.filling.specs.Order.{rearranged, inFull}
 use Rattle.filling.specs.State.{bySlot, slotShape, orientationCounts, slotRows, Part, partAt, boundsAt, apartRoom, insetRoom, shapeAt, plannerAt, orderOf, toCome, standingTo, standingOf, withoutTo, withoutOf, rememberedOf, trackAt, tracksOf, emptyLayout}
 use Rattle.filling.specs.Consistent.{every, partFits, partsFit, stripCountsFit, placedStrips}
 use Rattle.filling.specs.Start.{apartStrips, insetStrips, tablesOf, firstState, firstRooms, prepareVerdict, startVerdict, Start, noStart, goodStart, startJob, startGiven, startOf}
-use Rattle.filling.proofs.Lists.{both-first}
+use Rattle.filling.proofs.Lists.{both-first, clash}
 use Rattle.filling.proofs.Reading.{Sixfold, sixfold-nil, sixfold-flat, sixfold-all, AllSixfold, take-laid, getD-bySlot, length-bySlot, bounds-slot, starts, starts-within, at-most, laid-long, rows-every, part-read, part-slot, rows-read, slot-kind, slot-turn, sixteen-get}
 use Rattle.filling.proofs.Sizes.{Sized}
 use Rattle.filling.proofs.Steps.{Linked, refused≢accepted, later-accepted}
@@ -108,7 +110,7 @@ module _ (j : Job) (w : Rooms) where
   unfolding firstRooms laid Rest
   room-is = append-assoc (apartStrips (plannerOf j)) (insetStrips (plannerOf j)) _
 
-  apart-room : apartRoom (tablesOf (plannerOf j)) Room ≡ apartStrips (plannerOf j)
+  pub apart-room : apartRoom (tablesOf (plannerOf j)) Room ≡ apartStrips (plannerOf j)
   unfolding apartRoom tablesOf
   apart-room = ap (take (6 * capacity (apartStrips (plannerOf j)))) room-is ∙ take-at (apartStrips (plannerOf j)) (insetStrips (plannerOf j) ++ Rest) (6 * capacity (apartStrips (plannerOf j))) apart-sixfold
 
@@ -122,14 +124,17 @@ module _ (j : Job) (w : Rooms) where
   unfolding tablesOf
   part-is i h = let l = length-bySlot (slotShape (plannerOf j)) in part-slot Slots i (omega arith)
 
-  apart-read : (i : ℕ) → i < 1024 → partOf (apartRoom (tablesOf (plannerOf j)) Room) (partAt (tablesOf (plannerOf j) .parts) i .apart-start) (partAt (tablesOf (plannerOf j) .parts) i .apart-count) ≡ slotShape (plannerOf j) i .apart
-  apart-read i h =
-      let l = length-bySlot (slotShape (plannerOf j)) in
-      rw (part-is i h, apart-room ∙ sym (append-nil (apartStrips (plannerOf j))))
-      (read l)
+  -- the apart strips of slot i lie in the room where its part says, whatever follows them
+  pub apart-lies : (i : ℕ) → i < 1024 → (rest : List Float)
+      → let q = partAt (tablesOf (plannerOf j) .parts) i in partOf (apartStrips (plannerOf j) ++ rest) (q .apart-start) (q .apart-count) ≡ slotShape (plannerOf j) i .apart
+  apart-lies i h rest = let l = length-bySlot (slotShape (plannerOf j)) in rw (part-is i h) (read l)
     where
-      read : length Slots ≡ 1024 → partOf (apartStrips (plannerOf j) ++ []) (starts (λ s. s .apart) 0 Slots i) (capacity (getD Slots i noShape .apart)) ≡ slotShape (plannerOf j) i .apart
-      read l = unfold apartStrips in (part-read (λ s. s .apart) Slots 0 [] [] i refl apart-all (omega arith) ∙ ap (λ s. s .apart) (slot-at i h))
+      read : length Slots ≡ 1024
+          → partOf (apartStrips (plannerOf j) ++ rest) (starts (λ s. s .apart) 0 Slots i) (capacity (getD Slots i noShape .apart)) ≡ slotShape (plannerOf j) i .apart
+      read l = unfold apartStrips in (part-read (λ s. s .apart) Slots 0 [] rest i refl apart-all (omega arith) ∙ ap (λ s. s .apart) (slot-at i h))
+
+  apart-read : (i : ℕ) → i < 1024 → partOf (apartRoom (tablesOf (plannerOf j)) Room) (partAt (tablesOf (plannerOf j) .parts) i .apart-start) (partAt (tablesOf (plannerOf j) .parts) i .apart-count) ≡ slotShape (plannerOf j) i .apart
+  apart-read i h = rw (apart-room ∙ sym (append-nil (apartStrips (plannerOf j)))) (apart-lies i h [])
 
   inset-read : (i : ℕ) → i < 1024 → partOf (insetRoom (tablesOf (plannerOf j)) Room) (partAt (tablesOf (plannerOf j) .parts) i .inset-start) (partAt (tablesOf (plannerOf j) .parts) i .inset-count) ≡ slotShape (plannerOf j) i .inset
   inset-read i h =
@@ -190,6 +195,23 @@ module _ (j : Job) (z : Sized j) where
       let m : length (orientationCounts j) ≡ length (j .kinds) = length-map (j .kinds) (λ k. length (k .orientations)) in
       let k = z .kinds in
       (omega arith, omega arith)
+
+  -- an orientation that no slot is for has no strips
+  pub lacking : (i o : ℕ) → ltb i 64 && ltb o 16 ≡ false → shapeOf (plannerOf j) i o ≡ noShape
+  unfolding shapeOf
+  lacking i o e = kind (order i (length (plannerOf j .shapes)))
+    where
+      turn : i < length (plannerOf j .shapes)
+          → (o < length (getD (plannerOf j .shapes) i [])) ⊎ (length (getD (plannerOf j .shapes) i []) ≤ o) → shapeOf (plannerOf j) i o ≡ noShape
+      turn h (inr l) = List·getD-eq-default (getD (plannerOf j .shapes) i []) noShape l
+      turn h (inl l) =
+          let f = within i o h l in
+          let g : i < 64 = (let a = f .1 in omega arith) in
+          absurd (clash (ap₂ _&&_ (lt-ltb i 64 g) (lt-ltb o 16 (f .0))) e)
+
+      kind : (i < length (plannerOf j .shapes)) ⊎ (length (plannerOf j .shapes) ≤ i) → shapeOf (plannerOf j) i o ≡ noShape
+      kind (inr l) = ap (λ (row : List Shape). getD row o noShape) (List·getD-eq-default (plannerOf j .shapes) [] l)
+      kind (inl l) = turn l (order o (length (getD (plannerOf j .shapes) i [])))
 
   shapes-read : (w : Rooms) → slotRows (shapeAt (tablesOf (plannerOf j)) (firstRooms (plannerOf j) w .shapes)) 0 (orientationCounts j) ≡ plannerOf j .shapes
   unfolding slotShape shapeOf

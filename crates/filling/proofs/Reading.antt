@@ -72,6 +72,11 @@ unfolding flat
 length-flat [] = refl
 length-flat (a ∷ l) = let e = length-flat l in omega arith
 
+pub flat-append : (ss ts : List Trapezoid) → flat (ss ++ ts) ≡ flat ss ++ flat ts
+unfolding flat
+flat-append [] ts = refl
+flat-append (s ∷ ss) ts = ap (λ (l : List Float). s .x0 ∷ s .x1 ∷ s .low0 ∷ s .low1 ∷ s .high0 ∷ s .high1 ∷ l) (flat-append ss ts)
+
 pub sixfold-flat : (l : List Trapezoid) → Sixfold (flat l)
 sixfold-flat l = sixfold-of (length l) (flat l) (length-flat l)
 

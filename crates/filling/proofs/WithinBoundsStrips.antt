@@ -49,7 +49,7 @@ unfolding upFrom
 all-upFrom P f zero c h = tt
 all-upFrom P f (suc n) c h = (h c (omega arith), all-upFrom P f n (suc c) (λ i b. h i (omega arith)))
 
-strip-at : (l : List Trapezoid) (i : ℕ) (d : Trapezoid) → i < length l → stripAt (flat l) i ≡ getD l i d
+pub strip-at : (l : List Trapezoid) (i : ℕ) (d : Trapezoid) → i < length l → stripAt (flat l) i ≡ getD l i d
 unfolding stripAt flat
 strip-at [] i d h = absurd (omega arith)
 strip-at (s ∷ l) zero d h = refl

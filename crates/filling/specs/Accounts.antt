@@ -1,18 +1,19 @@
--- Document 01, "Order and swaps" and "The printed plan": what a filling answers: copy numbers, positions, counts, right, unplaced area, offcut.
--- Definitions only. Assumes nothing.
+-- Document 01, "Order and swaps" and "The printed plan", and document 02, W2: what a filling answers: copy numbers, positions, counts, right,
+-- unplaced area, offcut. Definitions only. Assumes nothing.
 use Prim.Native.Nat.{ℕ, zero, suc, _/_, _%_}
-use mathlib.Core.Bool.{Bool, true, false}
-use mathlib.Core.List.{List, [], _∷_, map, flatMap}
+use mathlib.Core.Bool.{Bool, true, false, cond}
+use mathlib.Core.List.{List, [], _∷_, map, flatMap, foldl}
 use lib.ListN.{length, getD, replicate}
 use lib.Dec.{eqb}
-use lib.Ieee.{Float}
-use Rattle.numbers.specs.Numbers.{_⊖_, posZero, fromInt}
+use lib.Ieee.{Float, lt}
+use Rattle.numbers.specs.Numbers.{_⊖_, larger, posZero, fromInt}
+use Rattle.trapezoid.specs.Strip.{stripAt, capacity}
 use Rattle.index.specs.Buckets.{upFrom}
 use Rattle.kinds.specs.Kinds.{Kind}
 use Rattle.job.specs.Jobs.{Job}
 use Rattle.filling.specs.declared.State.{State}
 use Rattle.filling.specs.declared.Plan.{Plan}
-use Rattle.filling.specs.Shapes.{Copy, Standing}
+use Rattle.filling.specs.Shapes.{Planner, plannerOf, Copy, Standing, standingStrips}
 use Rattle.filling.specs.Search.{Track}
 use Rattle.filling.specs.Order.{countIn}
 use Rattle.filling.specs.State.{bySlot, standingOf, withoutOf, tracksOf}
@@ -59,7 +60,23 @@ looksBySlot t = bySlot (λ i. getD (getD t (i / 16) []) (i % 16) 0)
 unfoldable pub lookCountsOf : Job → State → List (List ℕ)
 lookCountsOf j s = map (map (λ t. t .look-count)) (tracksOf j s)
 
--- "Offcut = s2 − right."
+-- ---- the offcut: document 02, W2
+
+-- "the larger of right and the largest x1 of a placed apart strip": of a and of strips as they lie in a room
+unfoldable pub reachOf : Float → List Float → Float
+reachOf a strips = foldl (λ r i. larger r (stripAt strips i .x1)) a (upFrom (capacity strips) 0)
+
+-- "zero if that is below zero"
+unfoldable pub notBelowZero : Float → Float
+notBelowZero x = cond (lt x posZero) posZero x
+
+-- "Document 01's offcut becomes sheet right edge minus the larger of .., zero if that is below zero."
+unfoldable pub offcutOf : Planner → State → Float
+offcutOf p s = notBelowZero (s .tables .«sheet_bounds» .right ⊖ reachOf (s .layout .right) (standingStrips p (standingOf s)))
+
+-- ---- the answer
+
+-- "Right itself remains the Rust's."
 unfoldable pub planOf : Job → State → ℕ → Plan
 planOf j s improvements =
     record {
@@ -71,7 +88,7 @@ planOf j s improvements =
       «look_counts» = looksBySlot (lookCountsOf j s);
       right = s .layout .right;
       «unplaced_area» = s .layout .«unplaced_area»;
-      offcut = s .tables .«sheet_bounds» .right ⊖ s .layout .right;
+      offcut = offcutOf (plannerOf j) s;
     }
 
 -- "A refused whole plan returns only the number"
@@ -91,5 +108,5 @@ noPlan =
 
 -- what a computed claim opens
 unfoldable pub accounts-compute : Unit {0}
-unfolding positionsOfKind positions flatPositions placedOf unplacedOf looksBySlot lookCountsOf planOf noPlan
+unfolding positionsOfKind positions flatPositions placedOf unplacedOf looksBySlot lookCountsOf reachOf notBelowZero offcutOf planOf noPlan
 accounts-compute = tt

@@ -87,6 +87,8 @@ pub fn nest_plan(
         &x,
         &y,
         &look_counts,
+        parts,
+        shapes,
         bounds.right,
         best.improvements,
         positions,

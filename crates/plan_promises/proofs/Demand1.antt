@@ -2,7 +2,7 @@
 use Prim.{⊥}
 use Prim.Native.Nat.{ℕ, _≤_}
 use native.Mathlib.Omega.{arith}
-use mathlib.Core.Path.{_≡_, refl, sym, ap, _∙_}
+use mathlib.Core.Path.{_≡_, refl, sym, ap, subst, _∙_}
 use mathlib.Core.Bool.{true, false, not}
 use mathlib.Core.List.{List}
 use lib.Dec.{ltb, lit≤}
@@ -20,10 +20,10 @@ use Rattle.filling.specs.Start.{prepareVerdict, startVerdict}
 use Rattle.filling.specs.Fill.{filled, stopped, fillOrder, Planned, notPlanned, plannedWith}
 use Rattle.filling.specs.Order.{rearranged}
 use Rattle.filling.proofs.Steps.{later-accepted}
-use Rattle.nesting.specs.Rounds.{Swaps, kept, ended, swapSearch}
+use Rattle.nesting.specs.Rounds.{Kept, Swaps, kept, ended, swapSearch}
 use Rattle.nesting.specs.Nest.{nestVerdict, nested, nestJob, nestGiven, nestOf}
 use Rattle.promises.proofs.Numbers.{LentNumbers}
-use Rattle.promises.proofs.Left.{PlanNumbers, not-planned, planned-numbers}
+use Rattle.promises.proofs.Left.{PlanNumbers, OffcutBounds, not-planned, offcut-bounds, planned-numbers}
 use Rattle.promises.proofs.Suffice.{Ample, AmpleIntervals, AmpleStart, start-fits, fill-ends}
 use Rattle.copy_order.proofs.Rearranged.{accepted-rearranged}
 use Rattle.nesting.specs.CopyOrder.{copyOrder}
@@ -94,6 +94,17 @@ module _ (bytes : List ℕ) (j : Job) (e : readJob bytes ≡ accepted j) (l : Le
   unfolding nested
   found-numbers pos prep (kept q) (keeps h) = planned-numbers bytes j e (q .order) (q .state) (h .rooms) (h .plain) (h .held) l (q .improvements)
   found-numbers pos prep (ended r) s = not-planned r l
+
+  -- the offcut of the filling that is kept
+  found-offcut : (pos : ltb (positionCapacity (l .positions)) (j .copies) ≡ false) (prep : prepareVerdict (plannerOf j) (l .rooms) ≡ Accepted)
+      → (q : Kept) → Sound bytes j e l pos prep RoomRefusal (kept q) → OffcutBounds j (q .state)
+  found-offcut pos prep q (keeps h) = offcut-bounds bytes j e (q .order) (q .state) (h .rooms) (h .plain) (h .held)
+
+  pub nest-offcut : nestVerdict j l ≡ Accepted → (q : Kept) → swapSearch j l ≡ kept q → OffcutBounds j (q .state)
+  nest-offcut d q f =
+      let t = tested j l d in
+      let s = search-sound bytes j e l (t .0) (t .1) RoomRefusal (stopped-is bytes j e l (t .0) (t .1)) in
+      found-offcut (t .0) (t .1) q (subst (λ (w : Swaps). Sound bytes j e l (t .0) (t .1) RoomRefusal w) f s)
 
   job-numbers : (v : Verdict) → nestVerdict j l ≡ v → PlanNumbers (nestJob j l .plan) × LentNumbers (nestJob j l .lent)
   job-numbers (Refused r) d = rw (nest-stops j l r d) (not-planned r l)

@@ -2,15 +2,16 @@
 use mathlib.Core.Path.{_≡_, refl, sym, ap, subst}
 use mathlib.Core.Bool.{Bool, true, false}
 use mathlib.Core.List.{List, [], _∷_, flatMap}
-use Prim.Native.Nat.{ℕ, zero, suc, _+_, _≤_, _<_}
+use Prim.Native.Nat.{ℕ, zero, suc, _+_, _*_, _≤_, _<_}
 use native.Mathlib.Nat.{le-trans}
 use native.Mathlib.Omega.{arith}
-use lib.ListN.{length, getD}
+use lib.ListN.{length, getD, replicate}
 use lib.Dec.{lit≤, eqb}
-use lib.Ieee.{Float, nan, binary64}
-use Rattle.numbers.specs.Numbers.{_⊖_, fromInt}
+use lib.Ieee.{Float, nan, binary64, le}
+use Rattle.numbers.specs.Numbers.{_⊖_, posZero, fromInt}
 use Rattle.numbers.proofs.Ranges.{int-num}
-use Rattle.numbers.proofs.Doubles.{Number, finite, sub-upto, sub-number}
+use Rattle.numbers.proofs.Doubles.{Number, Small}
+use Rattle.trapezoid.specs.Strip.{stripAt, capacity}
 use Rattle.slab.proofs.Sizes.{All, all-append}
 use Rattle.strips.specs.declared.Rect.{Rect}
 use Rattle.index.specs.Buckets.{upFrom}
@@ -22,15 +23,15 @@ use Rattle.filling.specs.declared.Refusal.{Refusal}
 use Rattle.filling.specs.declared.Refusal.the-variants as Why
 use Rattle.filling.specs.declared.Verdict.{Verdict}
 use Rattle.filling.specs.declared.Verdict.the-variants.{Accepted, Refused}
-use Rattle.filling.specs.Shapes.{plannerOf, Standing}
+use Rattle.filling.specs.Shapes.{plannerOf, Standing, standingStrips}
 use Rattle.filling.specs.Rooms.{Rooms, Lent, zeros}
 use Rattle.filling.specs.State.{plannerAt, standsAt, standingTo, standingOf}
 use Rattle.filling.specs.Start.{firstState, firstRooms, startVerdict, noStart, goodStart, startJob, startGiven, startOf}
 use Rattle.filling.specs.NextCopy.{nextCopyOf}
-use Rattle.filling.specs.Accounts.{Position, positionsOfKind, positions, flatPositions, planOf, noPlan}
+use Rattle.filling.specs.Accounts.{Position, positionsOfKind, positions, flatPositions, reachOf, notBelowZero, offcutOf, planOf, noPlan}
 use Rattle.filling.specs.Fill.{Filling, filled, stopped, fillOrder, Planned, notPlanned, plannedWith, plannedBy, fillJob, fillGiven, fillOf}
 use Rattle.filling.specs.Calls.{Call, afterCalls}
-use Rattle.filling.specs.Plain.{Plain, plainStart}
+use Rattle.filling.specs.Plain.{Plain, plainStart, plainCalls}
 use Rattle.filling.proofs.Sizes.{sized}
 use Rattle.filling.proofs.Begin.{start-good, start-refused, start-accepted}
 use Rattle.filling.proofs.Runs.{calls-keep, fill-keeps}
@@ -38,7 +39,8 @@ use Rattle.filling.proofs.Refused.{Leaves, unchanged, taken, next-copy-leaves}
 use Rattle.filling.proofs.WithinBounds.{framed}
 use Rattle.promises.proofs.Few.{stands-few}
 use Rattle.promises.proofs.Numbers.{Numbers, StateNumbers, RoomNumbers, LentNumbers, zero-is, all-zeros, zero-state, only-positions}
-use Rattle.promises.proofs.Stays.{Held, held-took, held-start, first-numbers, first-rooms}
+use Rattle.promises.proofs.Stays.{Held, standing-all, held-took, held-start, first-numbers, first-rooms}
+use Rattle.promises.proofs.Offcut.{Reaches, reaches, left-number, left-from, left-upto}
 
 -- ---- a start
 
@@ -144,24 +146,54 @@ pub record PlanNumbers (p : Plan) : Type 0 where
   pub right : Number (p .right)
   pub unplaced-area : Number (p .«unplaced_area»)
   pub offcut : Number (p .offcut)
+  pub offcut-not-below : le posZero (p .offcut) ≡ true
 
 no-plan : PlanNumbers noPlan
-unfolding noPlan
-no-plan = record { right = zero-is; unplaced-area = zero-is; offcut = zero-is }
+unfolding noPlan le
+no-plan = record { right = zero-is; unplaced-area = zero-is; offcut = zero-is; offcut-not-below = refl }
 
 pub not-planned : (r : Refusal) (l : Lent) → PlanNumbers (notPlanned r l .plan) × LentNumbers (notPlanned r l .lent)
 unfolding notPlanned
 not-planned r l = (no-plan, only-positions l [] tt)
 
+-- a job's standing strips in a state
+abbrev pub strips : Job → State → List Float
+strips j s = standingStrips (plannerOf j) (standingOf s)
+
+-- the offcut is a number, never minus zero and never below zero; it is at most what right leaves of the sheet; the x1 of every standing strip is at
+-- most what is taken from the sheet's right edge
+pub record OffcutBounds (j : Job) (s : State) : Type 0 where
+  pub number : Number (offcutOf (plannerOf j) s)
+  pub not-below : le posZero (offcutOf (plannerOf j) s) ≡ true
+  pub not-above : le (offcutOf (plannerOf j) s) (notBelowZero (s .tables .«sheet_bounds» .right ⊖ s .layout .right)) ≡ true
+  pub covers : (i : ℕ) → i < capacity (strips j s) → le (stripAt (strips j s) i .x1) (reachOf (s .layout .right) (strips j s)) ≡ true
+
 module _ (bytes : List ℕ) (j : Job) (e : readJob bytes ≡ accepted j) (order : List ℕ) (s : State) (w : Rooms) (q : Plain) (h : Held bytes j e order s w q) where
-  offcut-number : Number (s .tables .«sheet_bounds» .right ⊖ s .layout .right)
+  ends-number : (i : ℕ) → i < capacity (strips j s) → Number (stripAt (strips j s) i .x1)
+  unfolding stripAt capacity
+  ends-number i b = number-at (strips j s) (6 * i + 1) nan (standing-all bytes j e order s w q h) (omega arith)
+
+  reached : Reaches (s .layout .right) (strips j s)
+  reached = reaches (s .layout .right) (strips j s) (h .sound .right .num) ends-number
+
+  edge-is : s .tables .«sheet_bounds» ≡ plannerOf j .bounds
   unfolding plannerAt
-  offcut-number =
-      let f : s .tables .«sheet_bounds» ≡ plannerOf j .bounds = ap (λ p. p .bounds) (h .own .kept .linked .plan) in
-      let S = framed j (job-good bytes j e .good) .right in
+  edge-is = ap (λ p. p .bounds) (h .own .kept .linked .plan)
+
+  edge : Small 100000 (s .tables .«sheet_bounds» .right)
+  edge = subst (λ (b : Rect). Small 100000 (b .right)) (sym edge-is) (framed j (job-good bytes j e .good) .right)
+
+  -- the offcut (document 02, W2)
+  pub offcut-bounds : OffcutBounds j s
+  unfolding offcutOf
+  offcut-bounds =
       let R = h .sound .right in
-      let r = sub-upto (finite (S .num)) (finite (R .num)) (S .bound) (R .bound) (lit≤ tt) in
-      subst (λ (b : Rect). Number (b .right ⊖ s .layout .right)) (sym f) (sub-number (S .num) (finite (R .num)) (r .0))
+      record {
+        number = left-number edge R (reached .num) (reached .first);
+        not-below = left-from edge R (reached .num) (reached .first);
+        not-above = left-upto edge R (reached .num) (reached .first);
+        covers = reached .covers;
+      }
 
   pub planned-numbers : (l : Lent) (improvements : ℕ) → PlanNumbers (plannedWith j l s improvements .plan) × LentNumbers (plannedWith j l s improvements .lent)
   unfolding plannedWith planOf
@@ -171,16 +203,27 @@ module _ (bytes : List ℕ) (j : Job) (e : readJob bytes ≡ accepted j) (order 
       let t : s .taken ≤ 4096 = (let a = h .own .few in let b = z .few in omega arith) in
       let c : length (standingOf s) ≤ 5000 = unfold standingOf in (let a = stands-few s (s .taken) in omega arith) in
       let d : All StandNumbers (standingOf s) = unfold standingOf in standing-numbers s N (h .own .kept .linked .xs) (h .own .kept .linked .ys) (h .sound .orientations) (s .taken) t in (
-        record { right = N .right; unplaced-area = N .unplaced-area; offcut = offcut-number },
+        record { right = N .right; unplaced-area = N .unplaced-area; offcut = offcut-bounds .number; offcut-not-below = offcut-bounds .not-below },
         only-positions l (flatPositions (positions j (standingOf s))) (flat-numbers (positions j (standingOf s)) (positions-numbers j (standingOf s) (z .kinds) c d)),
       )
+
+-- the state at the end of a filling, with its rooms
+fill-held : (bytes order : List ℕ) (l : Lent) (j : Job) (e : readJob bytes ≡ accepted j) → startVerdict j order l ≡ Accepted
+    → (s : State) → fillOrder j l order ≡ filled s → (w : Rooms) × Held bytes j e order s w (plainCalls (plannerOf j) (replicate (length order) false) (plainStart (plannerOf j) order))
+unfolding fillOrder
+fill-held bytes order l j e v s d =
+    fill-keeps j (Held bytes j e order) (λ s w q h. h .own .kept .linked) (held-took bytes j e order) (l .intervals) (length order)
+    (firstState (plannerOf j) order) s (firstRooms (plannerOf j) (l .rooms)) (plainStart (plannerOf j) order) (held-start bytes j e order l v) d
+
+-- the offcut of a filling that is not refused
+pub fill-offcut : (bytes order : List ℕ) (l : Lent) (j : Job) → readJob bytes ≡ accepted j → startVerdict j order l ≡ Accepted
+    → (s : State) → fillOrder j l order ≡ filled s → OffcutBounds j s
+fill-offcut bytes order l j e v s d = let k = fill-held bytes order l j e v s d in offcut-bounds bytes j e order s (k .0) _ (k .1)
 
 filling-left : (bytes order : List ℕ) (l : Lent) (j : Job) → readJob bytes ≡ accepted j → startVerdict j order l ≡ Accepted → (f : Filling) → fillOrder j l order ≡ f → PlanNumbers (plannedBy j l f .plan) × LentNumbers (plannedBy j l f .lent)
 unfolding plannedBy
 filling-left bytes order l j e v (stopped r) d = not-planned r l
-filling-left bytes order l j e v (filled s) d =
-    let k = fill-keeps j (Held bytes j e order) (λ s w q h. h .own .kept .linked) (held-took bytes j e order) (l .intervals) (length order) (firstState (plannerOf j) order) s (firstRooms (plannerOf j) (l .rooms)) (plainStart (plannerOf j) order) (held-start bytes j e order l v) (unfold fillOrder in d) in
-    planned-numbers bytes j e order s (k .0) _ (k .1) l 0
+filling-left bytes order l j e v (filled s) d = let k = fill-held bytes order l j e v s d in planned-numbers bytes j e order s (k .0) _ (k .1) l 0
 
 -- whatever the bytes, the order and the rooms
 pub fill-numbers : (bytes order : List ℕ) (l : Lent) → PlanNumbers (fillOf bytes order l .plan) × LentNumbers (fillOf bytes order l .lent)

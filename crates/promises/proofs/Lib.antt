@@ -2,4 +2,5 @@ pub mod Few
 pub mod Suffice
 pub mod Numbers
 pub mod Stays
+pub mod Offcut
 pub mod Left

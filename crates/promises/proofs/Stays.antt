@@ -222,7 +222,7 @@ module _ (bytes : List ℕ) (j : Job) (e : readJob bytes ≡ accepted j) (order 
     pub sound : Sound s w
 
   module _ (s : State) (w : Rooms) (q : Plain) (h : Held s w q) where
-    standing-all : Numbers (standingStrips (plannerOf j) (standingOf s))
+    pub standing-all : Numbers (standingStrips (plannerOf j) (standingOf s))
     unfolding placedStrips
     standing-all = subst Numbers (h .own .kept .linked .stand) (all-take (6 * s .«placed_strips») (w .placed) (h .sound .rooms .placed))
 

@@ -1,22 +1,24 @@
 -- A plan depends on the first `taken` places of order and layout alone. Assumes nothing.
 use Prim.Native.Nat.{ℕ, zero, suc, _+_, _≤_, _<_}
 use native.Mathlib.Omega.{arith}
-use mathlib.Core.Path.{_≡_, refl, ap, ap₂, _∙_}
+use mathlib.Core.Path.{_≡_, refl, sym, ap, ap₂, _∙_}
 use mathlib.Core.List.{List, [], _∷_, _++_}
 use lib.ListN.{length, getD, take, drop, replicate}
 use lib.Seq.{getD-take, length-take-le}
 use lib.Ieee.{Float, nan}
-use Rattle.numbers.specs.Numbers.{posZero}
+use Rattle.numbers.specs.Numbers.{_⊖_, posZero}
 use Rattle.job.specs.Jobs.{Job}
 use Rattle.filling.specs.declared.State.{State}
-use Rattle.filling.specs.Shapes.{Planner}
+use Rattle.filling.specs.Shapes.{Planner, plannerOf}
 use Rattle.filling.specs.Rooms.{laid}
 use Rattle.filling.specs.State.{copyAt, standsAt, missesAt, standingTo, withoutTo, standingOf, withoutOf, tracksOf}
 use Rattle.filling.specs.Start.{tablesOf}
-use Rattle.filling.specs.Accounts.{planOf, lookCountsOf}
+use Rattle.filling.specs.Accounts.{lookCountsOf, notBelowZero, offcutOf, planOf}
 use Rattle.place.specs.declared.Totals.{Totals}
 use Rattle.fill_laws.specs.Prepared.{stateBy}
 use Rattle.accounts.specs.Told.{Told, Totalled}
+use Rattle.offcut.specs.Reaching.{reachTo, Parted}
+use Rattle.offcut.proofs.Reached.{offcut-is}
 
 -- ---- lists
 
@@ -94,13 +96,25 @@ module _ (p : Planner) (order next looks : List ℕ) (t : Totals) (orientation :
       (λ i h. written-at y (replicate 4096 posZero) (length order) i nan h iy)
       (length order) (omega arith)
 
+  offcut-same : (q : Planner) → offcutOf q s ≡ offcutOf q Lent′
+  unfolding offcutOf
+  offcut-same q = rw standing-is
+
   pub plan-is : (j : Job) (n : ℕ) → planOf j s n ≡ planOf j Lent′ n
   unfolding planOf lookCountsOf tracksOf
-  plan-is j n = rw (standing-is, without-is)
+  plan-is j n = rw (standing-is, without-is, offcut-same (plannerOf j))
 
   pub told : Told Lent′ order orientation x y looks (length order)
   told = record { order-is = refl; orientation-is = refl; x-is = refl; y-is = refl; looks-are = refl; taken-is = refl }
 
-  pub totalled : Totalled Lent′ (t .right) (t .«unplaced_area») (p .bounds .right)
+  pub totalled : (j : Job) (offcut : Float) → offcutOf (plannerOf j) s ≡ offcut → Totalled j Lent′ (t .right) (t .«unplaced_area») offcut
+  totalled j offcut e = record { right-is = refl; area-is = refl; offcut-is = sym (offcut-same (plannerOf j)) ∙ e }
+
+  -- what the code of the offcut answers is the offcut of that state
+  pub offcut-told : (q : Planner) (parts : List ℕ) (shapes : List Float) (right r : Float) → Parted q parts shapes → p .bounds .right ≡ right
+      → r ≡ notBelowZero (right ⊖ reachTo parts shapes order orientation x (t .right) (length order)) → offcutOf q s ≡ r
   unfolding tablesOf
-  totalled = record { right-is = refl; area-is = refl; sheet-is = refl }
+  offcut-told q parts shapes right r h e f =
+      offcut-same q
+      ∙ (sym (offcut-is q parts shapes h Lent′)
+      ∙ (ap (λ (z : Float). notBelowZero (z ⊖ reachTo parts shapes order orientation x (t .right) (length order))) e ∙ sym f))

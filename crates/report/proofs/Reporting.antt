@@ -1,6 +1,6 @@
 -- The plan of a filling that ended, or of one that was refused. Assumes nothing.
 use Prim.Native.Nat.{ℕ, _≤_}
-use mathlib.Core.Path.{_≡_, refl, sym, ap, ap₂, subst, _∙_}
+use mathlib.Core.Path.{_≡_, refl, sym, ap, ap₂, _∙_}
 use mathlib.Core.List.{List}
 use lib.ListN.{length}
 use lib.Ieee.{Float}
@@ -11,10 +11,10 @@ use Rattle.filling.specs.declared.Plan.{Plan}
 use Rattle.filling.specs.declared.Refusal.{Refusal}
 use Rattle.filling.specs.declared.Verdict.{Verdict}
 use Rattle.filling.specs.declared.Verdict.the-variants.{Accepted, Refused}
-use Rattle.filling.specs.Shapes.{Planner, Standing}
+use Rattle.filling.specs.Shapes.{Planner, plannerOf, Standing}
 use Rattle.filling.specs.Rooms.{Lent, laid, zeros, onlyPositions}
 use Rattle.filling.specs.State.{standingOf}
-use Rattle.filling.specs.Accounts.{positions, flatPositions, planOf}
+use Rattle.filling.specs.Accounts.{positions, flatPositions, offcutOf, planOf}
 use Rattle.filling.specs.Fill.{notPlanned, plannedWith, plannedBy}
 use Rattle.tables.specs.Tabled.{Tabled}
 use Rattle.place.specs.declared.Totals.{Totals}
@@ -37,15 +37,15 @@ pub stopped-reply : (j : Job) (l : Lent) (v : Verdict) (k : Refusal) → v ≡ R
 stopped-reply j l v k d p order next looks t orientation x y n room e r f = refused-reply l k room e r f ∙ ap (λ (u : Verdict). replyOf (reported u j l p order next looks t orientation x y n)) (sym d)
 
 -- accepted: what plan_of answers
-pub told-reply : (j : Job) (areas : List Float) (p : Planner) (next : List ℕ) (l : Lent) (rows : List ℕ) (kinds : ℕ) (v : Verdict) → v ≡ Accepted → (order looks : List ℕ) (t : Totals) (orientation : List ℕ) (x y : List Float) (right : Float) (n : ℕ) (room₀ room : List Float) (plan : Plan)
-    → length order ≤ length orientation → length order ≤ length x → length order ≤ length y → Tabled j rows areas → length (j .kinds) ≡ kinds → p .bounds .right ≡ right → room₀ ≡ zeros posZero (l .positions)
-    → ((j : Job) (areas : List Float) (s : State) → Tabled j rows areas → length (j .kinds) ≡ kinds → Told s order orientation x y looks (length order) → Totalled s (t .right) (t .«unplaced_area») right
+pub told-reply : (j : Job) (areas : List Float) (p : Planner) (next : List ℕ) (l : Lent) (rows : List ℕ) (kinds : ℕ) (v : Verdict) → v ≡ Accepted → (order looks : List ℕ) (t : Totals) (orientation : List ℕ) (x y : List Float) (offcut : Float) (n : ℕ) (room₀ room : List Float) (plan : Plan)
+    → length order ≤ length orientation → length order ≤ length x → length order ≤ length y → Tabled j rows areas → length (j .kinds) ≡ kinds → offcutOf (plannerOf j) (stateBy p order (length order) next looks t orientation x y) ≡ offcut → room₀ ≡ zeros posZero (l .positions)
+    → ((j : Job) (areas : List Float) (s : State) → Tabled j rows areas → length (j .kinds) ≡ kinds → Told s order orientation x y looks (length order) → Totalled j s (t .right) (t .«unplaced_area») offcut
     → (plan ≡ planOf j s n) × (room ≡ laid (flatPositions (positions j (standingOf s))) room₀))
     → reply (record { verdict = Accepted; plan = plan }) room ≡ replyOf (reported v j l p order next looks t orientation x y n)
 unfolding plannedWith onlyPositions
-told-reply j areas p next l rows kinds v d order looks t orientation x y right n room₀ room plan io ix iy T m e f E =
+told-reply j areas p next l rows kinds v d order looks t orientation x y offcut n room₀ room plan io ix iy T m e f E =
     let s = Lent′ p order next looks t orientation x y io ix iy in
-    let a = E j areas s T m (told p order next looks t orientation x y io ix iy) (subst (λ (z : Float). Totalled s (t .right) (t .«unplaced_area») z) e (totalled p order next looks t orientation x y io ix iy)) in
+    let a = E j areas s T m (told p order next looks t orientation x y io ix iy) (totalled p order next looks t orientation x y io ix iy j offcut e) in
     let q : plan ≡ planOf j (stateBy p order (length order) next looks t orientation x y) n = a .0 ∙ sym (plan-is p order next looks t orientation x y io ix iy j n) in
     let w : room ≡ laid (flatPositions (positions j (standingOf (stateBy p order (length order) next looks t orientation x y)))) (zeros posZero (l .positions)) =
     a .1 ∙ ap₂ (λ (c : List Standing) (z : List Float). laid (flatPositions (positions j c)) z) (sym (standing-is p order next looks t orientation x y io ix iy)) f in

@@ -8,10 +8,11 @@ ghost use lib.Ieee.{Float};
 ghost use Rattle.numbers.specs.Numbers.{posZero};
 ghost use Rattle.job.specs.Jobs.{Job};
 ghost use Rattle.filling.specs.declared.Verdict.the-variants.{Accepted};
-ghost use Rattle.filling.specs.Shapes.{Planner};
+ghost use Rattle.filling.specs.Shapes.{Planner, plannerOf};
 ghost use Rattle.filling.specs.Rooms.{Lent, zeros};
 ghost use Rattle.filling.specs.Accounts.{noPlan};
 ghost use Rattle.tables.specs.Tabled.{Tabled};
+ghost use Rattle.offcut.specs.Reaching.{Parted};
 ghost use Rattle.report.specs.Replies.{reply, replyOf, refusedBy, reported};
 use filling::Plan;
 use filling::Refusal;
@@ -72,7 +73,8 @@ pub fn clear(
 }
 
 // The plan of a filling that ended so, its positions in their room. Only crates of ours call it:
-// every kind in the order must be one of the job's, and the room must hold a position for each copy.
+// every kind in the order must be one of the job's, the parts must be those of its slots, and the
+// room must hold a position for each copy.
 pub fn report(
     verdict: Verdict,
     t: Totals,
@@ -83,17 +85,25 @@ pub fn report(
     x: &[f64],
     y: &[f64],
     look_counts: &[usize],
+    parts: &[usize],
+    shapes: &[f64],
     sheet_right: f64,
     improvements: usize,
     positions: &mut [f64],
 ) -> NestResult
-    requires { ⌜ (kinds ≤ 64) × (256 ≤ length (now rows)) × (length (now order) ≤ length (now orientation)) × (length (now order) ≤ length (now x)) × (length (now order) ≤ length (now y)) × (1024 ≤ length (now «look_counts»))
-        × (verdict ≡ Accepted → (i : ℕ) → i < length (now order) → getD (now order) i 0 < kinds) × (length (now order) ≤ 4096) × (5 * length (now order) ≤ length (now positions)) ⌝ }
-    ensures { λ r. ⌜ ((j : Job) (areas : List Float) (p : Planner) (next : List ℕ) (l : Lent) → Tabled j (now (rows .entry)) areas → length (j .kinds) ≡ kinds → p .bounds .right ≡ «sheet_right» → now (positions .entry) ≡ zeros posZero (l .positions)
-        → reply r (now (positions .exit)) ≡ replyOf (reported verdict j l p (now (order .entry)) next (now («look_counts» .entry)) t (now (orientation .entry)) (now (x .entry)) (now (y .entry)) improvements)) ⌝ }
+    requires { ⌜ (kinds ≤ 64) × (256 ≤ length (now rows)) × (length (now order) ≤ length (now orientation)) × (length (now order) ≤ length (now x))
+        × (length (now order) ≤ length (now y)) × (1024 ≤ length (now «look_counts»)) × (4096 ≤ length (now parts))
+        × (verdict ≡ Accepted → (i : ℕ) → i < length (now order) → getD (now order) i 0 < kinds)
+        × (length (now order) ≤ 4096) × (5 * length (now order) ≤ length (now positions)) ⌝ }
+    ensures { λ r. ⌜ ((j : Job) (areas : List Float) (p : Planner) (next : List ℕ) (l : Lent)
+        → Tabled j (now (rows .entry)) areas → length (j .kinds) ≡ kinds → p .bounds .right ≡ «sheet_right»
+        → Parted (plannerOf j) (now (parts .entry)) (now (shapes .entry)) → now (positions .entry) ≡ zeros posZero (l .positions)
+        → reply r (now (positions .exit)) ≡ replyOf (reported verdict j l p (now (order .entry)) next (now («look_counts» .entry)) t
+        (now (orientation .entry)) (now (x .entry)) (now (y .entry)) improvements)) ⌝ }
 {
     match verdict {
         Verdict::Accepted => {
+            let offcut = offcut::offcut(order, orientation, x, parts, shapes, t.right, sheet_right);
             let plan = accounts::plan_of(
                 rows,
                 kinds,
@@ -105,7 +115,7 @@ pub fn report(
                 look_counts,
                 t.right,
                 t.unplaced_area,
-                sheet_right,
+                offcut,
                 improvements,
                 positions,
             );

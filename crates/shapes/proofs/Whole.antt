@@ -17,13 +17,13 @@ use Rattle.filling.specs.Shapes.{Shape, noShape}
 use Rattle.filling.specs.Rooms.{laid}
 use Rattle.filling.specs.State.{bySlot, Part, flatParts, partAt, flatBounds, boundsAt}
 use Rattle.filling.specs.Start.{partsFrom}
-use Rattle.filling.proofs.Reading.{getD-bySlot, length-bySlot, bounds-slot}
+use Rattle.filling.proofs.Reading.{flat-append, getD-bySlot, length-bySlot, bounds-slot}
 use Rattle.filling.proofs.WithinBoundsStrips.{capacity-flat}
 use Rattle.set_strips.proofs.ReadSets.{laid-first}
 use Rattle.shapes.specs.declared.ShapesLaid.the-variants as Laid
 use Rattle.slots.specs.Slots.{slotStrips, slotBounds, slotOf, stripsTo, Column, SlotsLaid, BoundsTo}
 use Rattle.shapes.specs.ShapeRooms.{ShapesAre}
-use Rattle.slots.proofs.SlotWalk.{flat-append, length-laid, laid-on}
+use Rattle.slots.proofs.SlotWalk.{length-laid, laid-on}
 
 -- ---- lists of four numbers to a slot
 

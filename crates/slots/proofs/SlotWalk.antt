@@ -21,7 +21,7 @@ use Rattle.strips.specs.Strips.{laid, Stowed, stored}
 use Rattle.sets.specs.Sets.{setAt}
 use Rattle.filling.specs.Shapes.{setBounds, noBounds}
 use Rattle.filling.specs.State.{boundsAt}
-use Rattle.filling.proofs.Reading.{length-flat, getD-sets-other, getD-sets-here}
+use Rattle.filling.proofs.Reading.{length-flat, flat-append, getD-sets-other, getD-sets-here}
 use Rattle.set_strips.specs.SetStrips.{stripsAt}
 use Rattle.set_strips.proofs.ReadSets.{laid-nothing, nothing-stored, stored-number, stored-room, not-stored}
 use Rattle.slots.specs.Slots.{inUse, slotStrips, slotBounds, stripsTo, Column, SlotsLaid, BoundsTo}
@@ -67,11 +67,6 @@ length-laid ss room from h =
     let d = length-append (take (6 * from) room) (flat ss ++ drop (6 * (from + length ss)) room) in
     let e = length-append (flat ss) (drop (6 * (from + length ss)) room) in
     omega arith
-
-pub flat-append : (ss ts : List Trapezoid) → flat (ss ++ ts) ≡ flat ss ++ flat ts
-unfolding flat
-flat-append [] ts = refl
-flat-append (s ∷ ss) ts = ap (λ (l : List Float). s .x0 ∷ s .x1 ∷ s .low0 ∷ s .low1 ∷ s .high0 ∷ s .high1 ∷ l) (flat-append ss ts)
 
 -- strips laid after laid strips
 pub laid-on : (ss ts : List Trapezoid) (room : List Float) (from : ℕ) → 6 * (from + length ss) ≤ length room → laid ts (laid ss room from) (from + length ss) ≡ laid (ss ++ ts) room from

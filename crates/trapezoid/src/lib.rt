@@ -100,7 +100,7 @@ impl Trapezoid {
 }
 
 // Of a room, `count` strips from strip `from` on; an empty part where the room ends before.
-fn part_of<'a>(room: &'a [f64], from: usize, count: usize) -> &'a [f64]
+pub fn part_of<'a>(room: &'a [f64], from: usize, count: usize) -> &'a [f64]
     ensures { λ r. ⌜ now r ≡ partOf (now (room .entry)) from count ⌝ }
 {
     let held = room.len() / 6;

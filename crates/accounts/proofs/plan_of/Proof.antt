@@ -55,7 +55,7 @@ same-length c = search needs
 returns : tie.Need-returns
 returns c = let a = c .before .before .before .before .before .before .before .before .before .before .before .before .before .before .before .before .before .before .before .before .before .before .before .before .before .before .args in let n = c .before .before .before .before .before .before .before .before .before .before .before .before .before .before .before .before .count in let p = c .before .before .before .before .before .before .before .before .before .before .before .before .before .before .before .before .before .before .before .before .before .before .before .before .before .before .pre in
     λ j areas s h k t u. (
-      plan-is j (a .rows .now) areas s (a .order .now) (a .orientation .now) (a .x .now) (a .y .now) (a .look-counts .now) (a .kinds) (a .taken) h k t (a .right) (a .unplaced-area) (a .sheet-right) (a .improvements) (n .result) (n .last .1 .1 .1 .0) (n .last .1 .1 .1 .1 .0) (c .before .look-table .last .1 .1 .1 .0) u (n .ensures .0) (n .ensures .1) (n .ensures .2) (c .before .look-table .ensures),
+      plan-is j (a .rows .now) areas s (a .order .now) (a .orientation .now) (a .x .now) (a .y .now) (a .look-counts .now) (a .kinds) (a .taken) h k t (a .right) (a .unplaced-area) (a .offcut) (a .improvements) (n .result) (n .last .1 .1 .1 .0) (n .last .1 .1 .1 .1 .0) (c .before .look-table .last .1 .1 .1 .0) u (n .ensures .0) (n .ensures .1) (n .ensures .2) (c .before .look-table .ensures),
       positions-are j (a .rows .now) areas s (a .order .now) (a .orientation .now) (a .x .now) (a .y .now) (a .look-counts .now) (a .kinds) (a .taken) h k t (c .before .before .before .before .before .before .lay .last .1 .1 .1 .1 .1 .1 .1 .0) (a .room .now) (c .before .before .before .before .before .before .lay .ensures (a .kinds) (p .0) (p .7)),
     )
 

@@ -6,7 +6,7 @@ use native.Mathlib.Omega.{arith}
 use Rattle.strips.specs.declared.Rect.{Rect}
 use Rattle.filling.specs.Shapes.{plannerOf}
 use Rattle.report.specs.Lent.{lentOf}
-use Rattle.report.proofs.Cutting.{order-few, report-ready}
+use Rattle.report.proofs.Cutting.{parted, order-few, report-ready}
 use Rattle.search_plan.proofs.Ordered.{order-arranged}
 use Rattle.nest_plan.proofs.Nested.{nested-reply, kept-order}
 use Rattle.nest_plan.proofs.nest_plan.Statement.{statement}
@@ -68,13 +68,13 @@ same-length-4 : tie.Need-same-length-4
 same-length-4 c = c .before .before .before .before .before .before .before .before .before .before .before .before .before .before .before .before .before .before .before .before .before .before .before .search-plan .kept .1 .1 .1 .1 .1 .1 .1 .1 .1 .1 .1 .1 .1 .1 .1 .1 .1 .0
 
 same-length-5 : tie.Need-same-length-5
-same-length-5 c = c .before .before .report .kept .1 .1 .1 .1 .1 .1 .1 .1 .1 .1 .1 .0
+same-length-5 c = c .before .before .report .kept .1 .1 .1 .1 .1 .1 .1 .1 .1 .1 .1 .1 .1 .0
 
 returns : tie.Need-returns
 returns c = let a = c .before .before .before .before .before .before .before .before .before .before .before .before .before .before .before .before .before .before .before .before .before .before .before .before .before .before .before .before .before .before .before .before .before .before .before .before .before .before .before .before .before .before .before .before .before .args in let s = c .before .before .before .before .before .before .before .before .before .before .before .before .before .before .before .before .before .before .before .before .before .before .before .search-plan in
     λ j l h eo es en n d e f z. let q = s .ensures j l h eo es en d e f in
     nested-reply _ (s .result .verdict) (s .result .best) j l (plannerOf j) (s .last .1 .1 .1 .1 .1 .1 .0) (q .0) (s .last .1 .1 .1 .1 .1 .1 .1 .1 .1 .1 .1 .1 .1 .1 .1 .1 .1 .1 .0) (s .last .1 .1 .1 .1 .1 .1 .1 .1 .1 .1 .1 .1 .1 .1 .1 .1 .1 .1 .1 .0) (s .last .1 .1 .1 .1 .1 .1 .1 .1 .1 .1 .1 .1 .1 .1 .1 .1 .1 .1 .1 .1 .0) (s .last .1 .1 .1 .1 .1 .1 .1 .1 .1 .1 .1 .1 .1 .1 .1 .1 .1 .1 .1 .1 .1 .0)
-    (c .before .before .report .ensures j (a .areas .now) (plannerOf j) (q .0) l (h .tabled) n (sym (ap (λ (b : Rect). b .right) (h .bounds))) z) (q .1)
+    (c .before .before .report .ensures j (a .areas .now) (plannerOf j) (q .0) l (h .tabled) n (sym (ap (λ (b : Rect). b .right) (h .bounds))) (parted j _ h (a .shapes .now) (6 * a .apart-strips) refl) z) (q .1)
 
 pub nest-plan-spec : {M : Type 1} → statement M
 nest-plan-spec =
