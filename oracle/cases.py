@@ -79,6 +79,31 @@ def run_cases():
     ]
 
 
+def grown(w, h, by, x=0.0, y=0.0):
+    """A rectangle's apart set, so much larger on each side, and its inset set."""
+    return rect(w + 2 * by, h + 2 * by, x - by, y - by), rect(w, h, x, y)
+
+
+def offcut_cases():
+    """Document 02, W2: which strip ends farthest right, and past what. "offcut below zero" and
+    "case9", where nothing is placed, stand above."""
+    long = (rect(7, 1), rect(2, 1))
+    swapped = [part([rect(3, 1)], 2, 3), part([(rect(4, 2), rect(2, 2))], 1, 4)]
+    return [
+        ("spacing wider than the margin", job([part([grown(4, 3, 0.5)], 1, 12)])),
+        ("spacing narrower than the margin", job([part([grown(4, 3, 0.5)[::-1]], 1, 12)])),
+        ("spacing as wide as the margin", job([part([grown(4, 3, 0)], 1, 12)])),
+        ("an earlier copy ends farthest", job([part([long], 1, 3), part([rect(3, 1)], 2, 2)])),
+        ("the last copy ends farthest", job([part([rect(3, 1)], 2, 3), part([long], 1, 2)])),
+        ("an orientation ends farthest", job([part([rect(11, 1), long], 1)])),
+        ("spacing to the sheet's edge", job([part([grown(4, 3, 0.5)], 1, 12)], rect(4.5, 6))),
+        ("spacing past the sheet's edge", job([part([grown(4, 3, 0.5)], 1, 12)], rect(4.25, 6))),
+        ("spacing left of zero", job([part([grown(4, 3, 0.5)], 1, 12)], rect(10, 6, -20, -3))),
+        ("only the kept filling of the swaps reaches past right", job(swapped, rect(8, 3), rounds=4, seed=24)),
+        ("copies without strips", job([part([(flat(3), rect(4, 3))], 2, 12)])),
+    ]
+
+
 def grid(rows, slabs, width, height, x=0.0, y=0.0, clockwise=False):
     """rows rectangles one above the other, each cut into slabs by points on
     the lowest one's lower edge: rows times slabs strips."""
@@ -229,5 +254,5 @@ def sized(size):
 
 def fixed():
     """All fixed jobs but the one-bit changes."""
-    out = [(label, pack(j)) for label, j in starred() + run_cases() + rooms_cases()]
+    out = [(label, pack(j)) for label, j in starred() + run_cases() + rooms_cases() + offcut_cases()]
     return out + length_cases() + cut_jobs()

@@ -56,6 +56,16 @@ SHEET21 = """    if sheet_index.needed(&strips) > capacity(rooms.sheet_entries.l
         return Err(Stop::Refused(21));
     }
 """
+LEFT = "let left = bounds(&job.sheet)[2] - reach;"
+PLACED = """    let mut reach = plan.layout.right;
+    for (&kind, place) in plan.order.iter().zip(&plan.layout.placed) {"""
+MOVED = "            for s in trapezoids("
+PLACE = "    keep(&mut rooms.placed, most, &mut state.placed_strips, &strips)?;\n"
+FILLED = "    watch.filled(state, rooms).map_err(Stop::Differ)"
+# How far the strips of the last filling reach.
+LAST = [("filling", FILLED, "    LAST.set((0..state.placed_strips).fold(state.right, |a, i| a.max(load(&rooms.placed, i)[1])));\n" + FILLED),
+        ("filling", "/// A filling from an accepted start",
+         "thread_local!(pub static LAST: std::cell::Cell<f64> = std::cell::Cell::new(0.0));\n\n/// A filling from an accepted start")]
 STARTED = "    Ok(State {\n        order: order.to_vec(),"
 LEFTS = """    for (kind, p) in job.parts.iter().enumerate() {
         if !p.fill && copies[kind] < p.quantity {
@@ -121,10 +131,7 @@ MUTANTS = [
     ("swaps", "area before priority", [("nesting", KINDS, "p.fill.cmp(&q.fill).then(area).then(q.priority.cmp(&p.priority)).then(a.cmp(&b))")]),
     ("swaps", "larger kind number first", [("nesting", KINDS, KINDS.replace("a.cmp(&b)", "b.cmp(&a)"))]),
     ("swaps", "rejected filling's look counts", [("nesting", SWAPPED_BACK, SWAPPED_BACK.replace("order.swap(i, j);", "order.swap(i, j);\n            best.looks = layout.looks;"))]),
-    ("swaps", "offcut from the rejected layout",
-     [("filling", "    watch.filled(state, rooms).map_err(Stop::Differ)", "    LAST.set(state.right);\n    watch.filled(state, rooms).map_err(Stop::Differ)"),
-      ("filling", "/// A filling from an accepted start", "thread_local!(pub static LAST: std::cell::Cell<f64> = std::cell::Cell::new(0.0));\n\n/// A filling from an accepted start"),
-      ("print", "let offcut = bounds(&job.sheet)[2] - right;", "let offcut = bounds(&job.sheet)[2] - crate::filling::LAST.get();")]),
+    ("swaps", "offcut from the rejected layout", [*LAST, ("print", LEFT, "let left = bounds(&job.sheet)[2] - crate::filling::LAST.get();")]),
     ("swaps", "refusal of a round passed over",
      [("nesting", "        again(&mut state, &order);\n        fill(job, &mut state, rooms, watch)?;\n",
        "        again(&mut state, &order);\n        if fill(job, &mut state, rooms, watch).is_err() {\n            order.swap(i, j);\n            continue;\n        }\n")]),
@@ -182,8 +189,24 @@ MUTANTS = [
     ("printing", "missing of ordinary kinds alone", [("print", "let without = plan.order.len() - list.len();", "let without = plan.order.iter().zip(&plan.layout.placed).filter(|(&k, p)| !job.parts[k].fill && p.is_none()).count();")]),
     ("printing", "positions in the order's order", [("print", "    list.sort_by_key(|p| (p.0, p.1));\n", "")]),
     ("printing", "copies numbered from 1", [("print", 'put {kind} {copy} {o}', 'put {kind} {} {o}'), ("print", '{} {}\\n", hex(x), hex(y));\n    }\n    for (kind, p) in job.parts.iter().enumerate() {\n        if !p.fill', '{} {}\\n", copy + 1, hex(x), hex(y));\n    }\n    for (kind, p) in job.parts.iter().enumerate() {\n        if !p.fill')]),
-    ("printing", "offcut by the sheet's width", [("print", "let offcut = bounds(&job.sheet)[2] - right;", "let offcut = bounds(&job.sheet)[2] - bounds(&job.sheet)[0] - right;")]),
-    ("printing", "offcut held at zero", [("print", "let offcut = bounds(&job.sheet)[2] - right;", "let offcut = (bounds(&job.sheet)[2] - right).max(0.0);")]),
+    ("printing", "offcut by the sheet's width", [("print", LEFT, "let left = bounds(&job.sheet)[2] - bounds(&job.sheet)[0] - reach;")]),
+    # document 02, W2
+    ("W2", "offcut by right alone", [("print", LEFT, "let left = bounds(&job.sheet)[2] - plan.layout.right;")]),
+    ("W2", "offcut below zero printed", [("print", "if left < 0.0 { 0.0 } else { left }", "left")]),
+    ("W2", "offcut by the strips alone", [("print", "let mut reach = plan.layout.right;", "let mut reach = bounds(&job.sheet)[0];")]),
+    ("W2", "reach of the first copy alone", [("print", PLACED, PLACED.replace("&plan.layout.placed)", "&plan.layout.placed).take(1)"))]),
+    ("W2", "reach of the last copy alone", [("print", MOVED, "            reach = plan.layout.right;\n" + MOVED)]),
+    ("W2", "reach of the first strip alone", [("print", "orientations[o].apart, false)", "orientations[o].apart, false).into_iter().take(1)")]),
+    ("W2", "reach of the first orientation", [("print", "orientations[o].apart, false)", "orientations[0].apart, false)")]),
+    ("W2", "reach of the inset strips", [("print", "orientations[o].apart, false)", "orientations[o].inset, false)")]),
+    ("W2", "reach of strips not moved", [("print", "s[1] + x", "s[1]")]),
+    ("W2", "reach of x0", [("print", "s[1] + x", "s[0] + x")]),
+    ("W2", "right by the apart strips", [("filling", PLACE, PLACE + "    state.right = strips.iter().fold(state.right, |a, s| a.max(s[1]));\n")]),
+    ("W2", "better by the reach",
+     [*LAST, ("nesting", BETTER, BETTER.replace("self.right < other.right", "self.reach < other.reach")),
+      ("nesting", "    pub right: f64,\n", "    pub right: f64,\n    pub reach: f64,\n"),
+      ("nesting", "            right: state.right,\n", "            right: state.right,\n            reach: crate::filling::LAST.get(),\n"),
+      ("modes", "right, looks };", "right, reach: 0.0, looks };")]),
 ]
 
 NUMBER = ("index", 'Entry::try_from(first + i).expect("a strip number")', "(first + i) as Entry")

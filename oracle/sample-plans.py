@@ -10,7 +10,7 @@ import os
 import subprocess
 
 from bits import fields, pack, pack_fields, read_container, write_container
-from cases import CLOCKWISE, case4, grid, job, length_cases, part, rect, rooms_cases, run_cases, starred
+from cases import CLOCKWISE, case4, grid, job, length_cases, offcut_cases, part, rect, rooms_cases, run_cases, starred
 from damage import damaged
 from draws import Draws
 from examples import nan_corner
@@ -156,7 +156,7 @@ def sample(folder):
         count[number(text)] += 1
         if count[number(text)] <= OF_EACH and len(text) <= LONGEST_TEXT:
             out.append((one, text))
-    return out
+    return out + told([(label, pack(j)) for label, j in offcut_cases()], folder)
 
 
 if __name__ == "__main__":

@@ -1,5 +1,5 @@
 #!/usr/bin/env python3
-"""Tests of the oracle itself: the starred cases of document 01, the order of
+"""Tests of the oracle itself: the starred cases of document 01, the offcuts of document 02, the order of
 refusals where two hold, and every room exact and one short by --rooms."""
 import os
 import re
@@ -7,7 +7,7 @@ import subprocess
 import sys
 
 from bits import bits, double, fields, pack, pack_fields, set_fields
-from cases import CLOCKWISE, TRIANGLE, case4, grid, job, part, rect, starred
+from cases import CLOCKWISE, TRIANGLE, case4, grid, job, offcut_cases, part, rect, run_cases, starred
 
 ORACLE = os.path.join(os.path.dirname(os.path.abspath(__file__)), "build", "oracle")
 CASE4 = """plan 4 1 0
@@ -80,6 +80,27 @@ def test_starred():
     text = oracle(case["case11"], "--draws")
     state = (7 + 6 * 0x9E3779B97F4A7C15) % 2**64
     expect("case 11", text.split("\n", 7)[7], f"order 0 0\nimprovements 0\nstate {state:016x}\n")
+
+
+# Right and offcut of the jobs of document 02, W2, worked out on paper.
+OFFCUTS = {
+    "spacing wider than the margin": (4, 5.5), "spacing narrower than the margin": (5, 5),
+    "spacing as wide as the margin": (4, 6), "an earlier copy ends farthest": (3, 3),
+    "the last copy ends farthest": (3, 3), "an orientation ends farthest": (2, 3),
+    "spacing to the sheet's edge": (4, 0), "spacing past the sheet's edge": (4, 0), "spacing left of zero": (-16, 5.5),
+    "only the kept filling of the swaps reaches past right": (5, 1), "copies without strips": (4, 6),
+}
+
+
+def test_offcut():
+    def last(text):
+        lines = [line.split() for line in text.splitlines()]
+        return tuple(double(int(p[1], 16)) for p in lines if p[0] in ("right", "offcut"))
+    for label, j in offcut_cases():
+        expect(label, last(oracle(j)), OFFCUTS[label])
+        expect(label + ", lifted", last(oracle(j, "--lifted-only")), OFFCUTS[label])
+    expect("nothing placed", last(oracle(dict(starred())["case9"])), (0, 10))
+    expect("below zero by rounding", last(oracle(dict(run_cases())["offcut below zero"]))[1], 0)
 
 
 def changed(name, value, j=None, nth=0):
@@ -209,7 +230,7 @@ def test_trace():
 
 
 def main():
-    for test in (test_starred, test_reader_order, test_refusal_order, test_rooms_exact, test_trace):
+    for test in (test_starred, test_offcut, test_reader_order, test_refusal_order, test_rooms_exact, test_trace):
         test()
     print(f"{tried} tests, {len(failed)} failed")
     sys.exit(len(failed) > 0)

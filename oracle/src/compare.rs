@@ -4,7 +4,7 @@ use crate::filling::Stop;
 use crate::job::Job;
 use crate::nesting::{fill_order, nest, Plan};
 use crate::plain::plain;
-use crate::print::positions;
+use crate::print::{offcut, positions};
 use crate::probed::lifted::reach::{set_bounds, strips, Filled, Lifted, Nested};
 use crate::probed::{Search, Signal};
 use crate::rooms::{Rooms, Sizes};
@@ -134,6 +134,18 @@ fn same_looks(
     Ok(())
 }
 
+/// The offcut (document 02, W2) once more, from the lifted strips that stood after the kept filling.
+fn same_offcut(job: &Job, plan: &Plan, ends: &[Option<f64>]) -> Result<(), String> {
+    let right = plan.layout.right;
+    let reach = ends[plan.kept].map_or(right, |end| end.max(right));
+    let left = (set_bounds(&job.sheet)[2] - reach).max(0.0);
+    let printed = offcut(job, plan);
+    if !same_bits(&[left], &[printed]) {
+        return Err(format!("offcut: from the places {printed:?}, from the strips {left:?}"));
+    }
+    Ok(())
+}
+
 /// The plain planner in the final order; false where it takes too long.
 fn same_plain(job: &Job, plan: &Plan, work: u64) -> Result<bool, String> {
     let Some(p) = plain(job, &plan.order, work) else {
@@ -154,12 +166,12 @@ pub fn run(job: &Job, ask: &Ask) -> Result<Answer, String> {
     let mut lifted = Lifted::new(job, &signal);
     let mut rooms = Rooms::new(&ask.sizes);
     let looks = ask.looks.then(Vec::new);
-    let mut watch = Watch { lifted: Some(&mut lifted), looks, fillings: vec![] };
+    let mut watch = Watch { lifted: Some(&mut lifted), looks, ..Default::default() };
     let result = match &ask.order {
         None => nest(job, &mut rooms, &mut watch),
         Some(order) => fill_order(job, order, &mut rooms, &mut watch),
     };
-    let (looks, ours) = (watch.looks.take().unwrap_or_default(), watch.fillings);
+    let (looks, ours, ends) = (watch.looks.take().unwrap_or_default(), watch.fillings, watch.ends);
     let compared = ours.iter().flatten().map(|s| s.2 as u64).sum();
     let plan = match result {
         Err(Stop::Differ(message)) => return Err(message),
@@ -174,6 +186,7 @@ pub fn run(job: &Job, ask: &Ask) -> Result<Answer, String> {
         same_plan(job, &plan, &nested)?;
     }
     same_looks(job, &plan, &ours, &signal.take())?;
+    same_offcut(job, &plan, &ends)?;
     let plain = ask.plain_work > 0 && same_plain(job, &plan, ask.plain_work)?;
     Ok(Answer { plan: Ok(plan), plain, looks, compared })
 }

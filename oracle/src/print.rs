@@ -1,8 +1,8 @@
-//! The printed plan (document 01).
+//! The printed plan (document 01), its offcut that of document 02, W2.
 use crate::job::Job;
 use crate::nesting::Plan;
 use crate::rooms::POSITION;
-use crate::strips::bounds;
+use crate::strips::{bounds, larger, trapezoids};
 
 pub fn hex(x: f64) -> String {
     format!("{:016x}", x.to_bits())
@@ -34,6 +34,21 @@ pub fn positions(job: &Job, plan: &Plan) -> (Vec<Position>, Vec<u32>) {
     (list, copies)
 }
 
+/// Document 02, W2: the sheet's right edge minus the larger of right and the largest x1 of a placed
+/// apart strip, zero if that is below zero. `same_offcut` in compare.rs works it out another way.
+pub fn offcut(job: &Job, plan: &Plan) -> f64 {
+    let mut reach = plan.layout.right;
+    for (&kind, place) in plan.order.iter().zip(&plan.layout.placed) {
+        if let Some((o, x, _)) = *place {
+            for s in trapezoids(&job.parts[kind].orientations[o].apart, false) {
+                reach = larger(reach, s[1] + x);
+            }
+        }
+    }
+    let left = bounds(&job.sheet)[2] - reach;
+    if left < 0.0 { 0.0 } else { left }
+}
+
 pub fn plan(job: &Job, plan: &Plan) -> String {
     let (list, copies) = positions(job, plan);
     let without = plan.order.len() - list.len();
@@ -58,7 +73,7 @@ pub fn plan(job: &Job, plan: &Plan) -> String {
         }
     }
     let right = plan.layout.right;
-    let offcut = bounds(&job.sheet)[2] - right;
+    let offcut = offcut(job, plan);
     let area = plan.layout.unplaced_area;
     out + &format!("right {}\narea {}\noffcut {}\n", hex(right), hex(area), hex(offcut))
 }

@@ -5,10 +5,9 @@ use crate::filling::{next_copy, start, Stop};
 use crate::flat::{Flat, COPIES};
 use crate::job::{self, Job};
 use crate::nesting::{next_random, Plan};
-use crate::print::{hex, position_room, positions};
+use crate::print::{hex, offcut, position_room, positions};
 use crate::probed::{lifted::reach::Lifted, Signal};
 use crate::rooms::{numbers, Entry, Rooms, Sizes};
-use crate::strips::bounds;
 use crate::watch::Watch;
 
 /// The longest rooms that a script can ask for, in slots: shapes, sheet, placed, sheet entries,
@@ -382,7 +381,7 @@ fn plan_line(job: &Job, plan: &Plan) -> String {
         }
     }
     let (right, area) = (plan.layout.right, plan.layout.unplaced_area);
-    let offcut = bounds(&job.sheet)[2] - right;
+    let offcut = offcut(job, plan);
     let without = plan.order.len() - list.len();
     let (right, area, offcut) = (hex(right), hex(area), hex(offcut));
     let counts = hash(&words);

@@ -33,6 +33,8 @@ pub struct Watch<'a, 'b> {
     pub looks: Option<Vec<Look>>,
     /// Searches of each filling.
     pub fillings: Vec<Vec<Search>>,
+    /// Of each filling the largest x1 of the lifted strips that stand; none where none stands.
+    pub ends: Vec<Option<f64>>,
 }
 
 impl Watch<'_, '_> {
@@ -79,7 +81,7 @@ impl Watch<'_, '_> {
     }
 
     /// After a filling: the standing strips and entries against the lifted
-    /// index.
+    /// index, and where the lifted strips end.
     pub fn filled(&mut self, state: &State, rooms: &Rooms) -> Result<(), String> {
         let Some(lifted) = &self.lifted else {
             return Ok(());
@@ -97,6 +99,7 @@ impl Watch<'_, '_> {
         if lifted.sheet_entries() != numbers(&rooms.sheet_entries[..state.sheet_index.count()]) {
             return Err("sheet entries differ".into());
         }
+        self.ends.push(strips.iter().map(|s| s[1]).reduce(f64::max));
         Ok(())
     }
 }
