@@ -20,7 +20,7 @@ map-same : {A : Type 0} (f g : ℕ → A) (xs : List ℕ) → ((x : ℕ) → Lis
 map-same f g [] h = refl
 map-same f g (x ∷ xs) h = rw (h x (List·Memᴰ·head refl), map-same f g xs (λ y m. h y (List·Memᴰ·tail m)))
 
-map-snoc : {A : Type 0} (f : ℕ → A) (n c : ℕ) → map f (upFrom (suc n) c) ≡ map f (upFrom n c) ++ (f (c + n) ∷ [])
+pub map-snoc : {A : Type 0} (f : ℕ → A) (n c : ℕ) → map f (upFrom (suc n) c) ≡ map f (upFrom n c) ++ (f (c + n) ∷ [])
 unfolding upFrom
 map-snoc f zero c = let e : c + 0 ≡ c = omega arith in rw e
 map-snoc f (suc n) c = let e : suc c + n ≡ c + suc n = omega arith in ap (λ (l : List _). f c ∷ l) (map-snoc f n (suc c) ∙ rw e)

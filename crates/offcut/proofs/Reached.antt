@@ -4,7 +4,7 @@ use Prim.Native.Nat.{ℕ, zero, suc, _+_, _-_, _*_, _≤_, _<_}
 use native.Mathlib.Omega.{arith}
 use native.Mathlib.Numerals.{add-one}
 use mathlib.Core.Path.{_≡_, refl, sym, ap, ap₂, _∙_}
-use mathlib.Core.Bool.{Bool, true, false, _&&_}
+use mathlib.Core.Bool.{Bool, false, _&&_, and-false}
 use mathlib.Core.List.{List, [], _∷_, _++_, map, flatMap, foldl, foldl-append, foldl-map, append-nil}
 use lib.ListN.{length, getD}
 use lib.Dec.{ltb}
@@ -14,6 +14,7 @@ use Rattle.numbers.specs.Numbers.{_⊖_, _⊕_, larger}
 use Rattle.trapezoid.specs.declared.Trapezoid.{Trapezoid}
 use Rattle.trapezoid.specs.Strip.{stripAt, flat, capacity, movedBy, partOf}
 use Rattle.index.specs.Buckets.{upFrom}
+use Rattle.index.proofs.Collecting.{map-snoc}
 use Rattle.filling.specs.declared.State.{State}
 use Rattle.filling.specs.Shapes.{Planner, shapeOf, Standing, movedStrips, copyStrips, standingStrips}
 use Rattle.filling.specs.State.{partAt, copyAt, standsAt, standingTo, standingOf}
@@ -25,13 +26,6 @@ use Rattle.offcut.specs.Reaching.{reachUpTo, reachMoved, apartAt, reachC
 
 -- ---- a part's strips, one after the other
 
-up-snoc : (n c : ℕ) → upFrom (suc n) c ≡ upFrom n c ++ ((c + n) ∷ [])
-unfolding upFrom
-up-snoc zero c = let e : c ≡ c + 0 = omega arith in ap (λ (k : ℕ). k ∷ []) e
-up-snoc (suc n) c =
-    let e : suc c + n ≡ c + suc n = omega arith in
-    ap (λ (l : List ℕ). c ∷ l) (up-snoc n (suc c) ∙ ap (λ (k : ℕ). upFrom n (suc c) ++ (k ∷ [])) e)
-
 pub reach-none : (part : List Float) (x a : Float) → reachUpTo part x a 0 ≡ a
 unfolding reachUpTo upFrom
 reach-none part x a = refl
@@ -39,11 +33,12 @@ reach-none part x a = refl
 pub reach-next : (part : List Float) (x a : Float) (n : ℕ) → reachUpTo part x a (n + 1) ≡ larger (reachUpTo part x a n) (stripAt part n .x1 ⊕ x)
 unfolding reachUpTo
 reach-next part x a n =
-    let f : Float → ℕ → Float = λ r i. larger r (stripAt part i .x1 ⊕ x) in
-    ap (λ (k : ℕ). foldl f a (upFrom k 0)) (add-one n)
-    ∙ (ap (foldl f a) (up-snoc n 0)
-    ∙ (foldl-append f a (upFrom n 0) ((0 + n) ∷ [])
-    ∙ ap (λ (k : ℕ). larger (foldl f a (upFrom n 0)) (stripAt part k .x1 ⊕ x)) (native.Mathlib.Nat.zero-add n)))
+    let f : ℕ → Float = λ i. stripAt part i .x1 ⊕ x in
+    ap (reachUpTo part x a) (add-one n)
+    ∙ (sym (foldl-map f larger (upFrom (suc n) 0) a)
+    ∙ (ap (foldl larger a) (map-snoc f n 0)
+    ∙ (foldl-append larger a (map f (upFrom n 0)) (f (0 + n) ∷ [])
+    ∙ ap₂ (λ (r : Float) (k : ℕ). larger r (f k)) (foldl-map f larger (upFrom n 0) a) (native.Mathlib.Nat.zero-add n))))
 
 pub reach-step : (part : List Float) (x a b r : Float) (n : ℕ) (q : Trapezoid) → b ≡ reachUpTo part x a n → q ≡ stripAt part n → r ≡ larger b (q .x1 ⊕ x)
     → r ≡ reachUpTo part x a (n + 1)
@@ -75,10 +70,6 @@ module _ (parts : List ℕ) (shapes : List Float) (k : ℕ) (x a : Float) where
   unfolding reachCopy
   copy-turn zero h = refl
   copy-turn (suc o) h = sym (apart-none o (ap (λ (b : Bool). ltb k 64 && b) (le-ltb o 16 (omega arith)) ∙ and-false (ltb k 64)))
-    where
-      and-false : (b : Bool) → b && false ≡ false
-      and-false true = refl
-      and-false false = refl
 
   pub copy-there : (number at : ℕ) (part : List Float) (r : Float) → (number ≡ 0 → ⊥) → k < 64 → number ≤ 16 → at ≡ 4 * (16 * k + (number - 1))
       → part ≡ partOf shapes (getD parts at 0) (getD parts (at + 1) 0) → r ≡ reachMoved part x a → r ≡ reachCopy parts shapes k number x a

@@ -29,8 +29,8 @@ use Rattle.filling.specs.Fill.{Filling, filled, stopped, fillFrom, fillOrder}
 use Rattle.filling.specs.Plain.{Plain, plainStart, plainTake}
 use Rattle.filling.proofs.Begin.{rearranged-length}
 use Rattle.filling.proofs.Steps.{Took, Outcome, took, unchanged, core-outcome, place-taken, place-refused, refused≢accepted, after-taken, TracksNow, ChoicesNow}
-use Rattle.filling.proofs.Runs.{fill-keeps}
 use Rattle.promises.proofs.Stays.{Held, held-took, held-start}
+use Rattle.promises.proofs.Left.{fill-held}
 use Rattle.copy_order.proofs.Rearranged.{swapped-rearranged, accepted-rearranged}
 use Rattle.nesting.specs.CopyOrder.{copyOrder}
 use Rattle.nesting.specs.Rounds.{Kept, Swaps, kept, ended, betterThan, swappable, swapped, judged, oneRound, rounds, firstKept, swapSearch}
@@ -92,9 +92,8 @@ module _ (bytes : List ℕ) (j : Job) (e : readJob bytes ≡ accepted j) (l : Le
     pub held : Held bytes j e order s rooms plain
 
   pub filled-is : (order : List ℕ) → rearranged j order ≡ true → (s : State) → fillOrder j l order ≡ filled s → Filled order s
-  unfolding fillOrder
   filled-is order r s f =
-      let k = fill-keeps j (Held bytes j e order) (λ s w q h. h .own .kept .linked) (held-took bytes j e order) (l .intervals) (length order) (firstState (plannerOf j) order) s (firstRooms (plannerOf j) (l .rooms)) (plainStart (plannerOf j) order) (held-start bytes j e order l (begins order r)) f in
+      let k = fill-held bytes order l j e (begins order r) s f in
       record { rearranges = r; rooms = k .0; plain = _; held = k .1 }
 
   fill-stop : (order : List ℕ) (n : ℕ) (s : State) (w : Rooms) (q : Plain) → Held bytes j e order s w q → s .taken + n ≤ length order → (r : Refusal) → fillFrom j (l .intervals) n s w ≡ stopped r → RoomRefusal r

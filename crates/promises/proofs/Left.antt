@@ -208,7 +208,7 @@ module _ (bytes : List ℕ) (j : Job) (e : readJob bytes ≡ accepted j) (order 
       )
 
 -- the state at the end of a filling, with its rooms
-fill-held : (bytes order : List ℕ) (l : Lent) (j : Job) (e : readJob bytes ≡ accepted j) → startVerdict j order l ≡ Accepted
+pub fill-held : (bytes order : List ℕ) (l : Lent) (j : Job) (e : readJob bytes ≡ accepted j) → startVerdict j order l ≡ Accepted
     → (s : State) → fillOrder j l order ≡ filled s → (w : Rooms) × Held bytes j e order s w (plainCalls (plannerOf j) (replicate (length order) false) (plainStart (plannerOf j) order))
 unfolding fillOrder
 fill-held bytes order l j e v s d =
