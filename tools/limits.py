@@ -1,8 +1,11 @@
 #!/usr/bin/env python3
-"""limits.py: prints functions over 40 lines, files over 400 lines, definitions in specs/ over 25
-lines, and `pub fn` with a `requires`. A line is a place to look, not a verdict."""
+"""limits.py: prints functions over 40 lines or with more than 16 lent slices (9 of them `&mut`), files
+over 400 lines, definitions in specs/ over 25 lines, proof lines over 500 characters, paths of more
+than 20 steps in proofs, and `pub fn` with a `requires`. A line is a place to look, not a verdict.
+limits.py --widest N: the N functions with the most lent slices."""
 import pathlib
 import re
+import sys
 
 ROOT = pathlib.Path(__file__).resolve().parent.parent
 
@@ -30,6 +33,27 @@ def definitions(lines):
         yield lines[a].split(" : ")[0], a, last
 
 
+def slices(head):
+    """How many lent slices a function has, and how many of them are `&mut`."""
+    lent = re.findall(r"\w+: &(?:'\w+ )?(mut )?\[", head.split(" requires ")[0].split(" ensures ")[0])
+    return len(lent), len([x for x in lent if x])
+
+
+def widest(count):
+    """The functions with the most lent slices, as rows of a table."""
+    rows = []
+    for path in (ROOT / "crates").glob("*/src/*.rt"):
+        for fn, _, _, _, head in functions(path.read_text().split("\n")):
+            rows.append((*slices(head), path.parts[-3], fn))
+    rows.sort(key=lambda r: (-r[0], -r[1], r[2:]))
+    for total, mutable, crate, fn in rows[:count]:
+        print(f"| `{crate}::{fn}` | {total} ({mutable}) |")
+
+
+if len(sys.argv) == 3 and sys.argv[1] == "--widest":
+    widest(int(sys.argv[2]))
+    sys.exit()
+
 for path in sorted((ROOT / "crates").rglob("*")):
     if path.suffix not in (".rt", ".antt"):
         continue
@@ -41,8 +65,17 @@ for path in sorted((ROOT / "crates").rglob("*")):
         for fn, public, a, b, head in functions(lines):
             if b - a + 1 > 40:
                 print(f"{name}:{a + 1}: {fn} has {b - a + 1} lines")
+            total, mutable = slices(head)
+            if total > 16 or mutable > 9:
+                print(f"{name}:{a + 1}: {fn} has {total} lent slices, {mutable} of them &mut")
             if public and "requires" in head:
                 print(f"{name}:{a + 1}: pub fn {fn} has a requires")
+    elif "proofs" in path.parts:
+        for i, line in enumerate(lines):
+            if len(line) > 500:
+                print(f"{name}:{i + 1}: {len(line)} characters")
+            if ".before" * 21 in line.replace(" ", ""):
+                print(f"{name}:{i + 1}: a path of more than 20 steps")
     elif path.parent.name == "specs":
         for what, a, b in definitions(lines):
             if b - a + 1 > 25:

@@ -14,7 +14,9 @@ abbrev μ-loop : tie.MeasureT-loop
 μ-loop bytes at n acc₀ p₀ left₀ acc p left = left
 
 loop-holds : tie.Need-loop-holds Inv-loop μ-loop
-loop-holds c = going-start (c .before .args .bytes .now) (c .before .args .at) (c .before .args .n) (omega arith)
+loop-holds c =
+    let c1 = c .before in
+    going-start (c1 .args .bytes .now) (c1 .args .at) (c1 .args .n) (omega arith)
 
 sub-least : tie.Need-sub-least Inv-loop μ-loop
 sub-least c = omega arith
@@ -36,7 +38,8 @@ sub-joined-2 c = omega arith
 
 joined-requires : tie.Need-joined-requires Inv-loop μ-loop
 joined-requires c κs =
-    (omega arith, omega arith, room-now (c .before .before .before .before .loop .acc) (c .before .before .before .before .loop .left) (c .before .before .least .result) (2 ^ 64) (c .before .before .before .before .loop .inv .room) (omega arith))
+    let c4 = c .before .before .before .before in
+    (omega arith, omega arith, room-now (c4 .loop .acc) (c4 .loop .left) (c .before .before .least .result) (2 ^ 64) (c4 .loop .inv .room) (omega arith))
 
 add-p : tie.Need-add-p Inv-loop μ-loop
 add-p c = omega arith
@@ -49,12 +52,19 @@ loop-less c = omega arith
 
 loop-again : tie.Need-loop-again Inv-loop μ-loop
 loop-again c =
-    going-on (c .before .before .before .least .result) (8 - c .before .before .before .before .before .loop .p % 8 - c .before .before .before .least .result) (c .joined .result) (c .before .before .before .before .before .loop .inv) (omega arith) (omega arith) (c .joined .ensures ∙ ap (λ (b : ℕ). c .before .before .before .before .before .loop .acc * 2 ^ c .before .before .before .least .result + b / 2 ^ (8 - c .before .before .before .before .before .loop .p % 8 - c .before .before .before .least .result) % 2 ^ c .before .before .before .least .result) (c .before .wide .ensures))
+    let c3 = c .before .before .before in
+    let c5 = c3 .before .before in
+    going-on (c3 .least .result) (8 - c5 .loop .p % 8 - c3 .least .result) (c .joined .result) (c5 .loop .inv) (omega arith) (omega arith)
+    (c .joined .ensures ∙ ap (λ (b : ℕ). c5 .loop .acc * 2 ^ c3 .least .result + b / 2 ^ (8 - c5 .loop .p % 8 - c3 .least .result) % 2 ^ c3 .least .result)
+    (c .before .wide .ensures))
 
 returns : tie.Need-returns Inv-loop μ-loop
 returns c =
-    let z : c .before .loop .left ≡ 0 = omega arith in
-    sym (field-zero (c .before .before .before .args .bytes .now) (c .before .loop .p) (c .before .loop .acc)) ∙ ap (λ (w : ℕ). fieldAt (c .before .before .before .args .bytes .now) (c .before .loop .p) w (c .before .loop .acc)) (sym z) ∙ c .before .loop .inv .same
+    let c1 = c .before in
+    let c3 = c1 .before .before in
+    let z : c1 .loop .left ≡ 0 = omega arith in
+    sym (field-zero (c3 .args .bytes .now) (c1 .loop .p) (c1 .loop .acc)) ∙ ap (λ (w : ℕ). fieldAt (c3 .args .bytes .now) (c1 .loop .p) w (c1 .loop .acc))
+    (sym z) ∙ c1 .loop .inv .same
 
 pub bits-at-spec : {M : Type 1} → statement M
 bits-at-spec =

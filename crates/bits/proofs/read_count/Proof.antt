@@ -24,10 +24,23 @@ enum-told : tie.Need-enum-told
 enum-told c = search needs
 
 returns : tie.Need-returns
-returns c = (count-is (c .before .before .before .before .before .before .args .bytes .now) (c .before .before .before .before .before .before .args .at) (c .before .before .before .before .before .before .args .width) (c .before .before .before .before .before .before .args .least) (c .before .before .before .before .before .before .args .most) (c .before .before .before .before .read-field .ensures ∙ ap (λ (t : Taken). taken t (c .before .before .before .before .before .before .args .at + c .before .before .before .before .before .before .args .width)) (c .before .before .n .given .1)) (c .judge-count .ensures), subst (λ (t : Counted). countOf t ≤ c .before .before .before .before .before .before .args .most) (sym (c .judge-count .ensures)) (count-most (c .before .before .before .before .before .before .args .least) (c .before .before .before .before .before .before .args .most) (c .before .before .n .given .0 .0)))
+returns c =
+    let c2 = c .before .before in
+    let c6 = c2 .before .before .before .before in (
+      count-is (c6 .args .bytes .now) (c6 .args .at) (c6 .args .width) (c6 .args .least) (c6 .args .most)
+          (c .before .before .before .before .read-field .ensures ∙ ap (λ (t : Taken). taken t (c6 .args .at + c6 .args .width)) (c2 .n .given .1))
+          (c .judge-count .ensures),
+      subst (λ (t : Counted). countOf t ≤ c6 .args .most) (sym (c .judge-count .ensures))
+          (count-most (c6 .args .least) (c6 .args .most) (c2 .n .given .0 .0)),
+    )
 
 returns-2 : tie.Need-returns-2
-returns-2 c = (count-end (c .before .before .before .before .args .bytes .now) (c .before .before .before .before .args .at) (c .before .before .before .before .args .width) (c .before .before .before .before .args .least) (c .before .before .before .before .args .most) (c .before .before .read-field .ensures ∙ ap (λ (t : Taken). taken t (c .before .before .before .before .args .at + c .before .before .before .before .args .width)) (c .enum-told .given .1)), omega arith)
+returns-2 c =
+    let c4 = c .before .before .before .before in (
+      count-end (c4 .args .bytes .now) (c4 .args .at) (c4 .args .width) (c4 .args .least) (c4 .args .most)
+          (c .before .before .read-field .ensures ∙ ap (λ (t : Taken). taken t (c4 .args .at + c4 .args .width)) (c .enum-told .given .1)),
+      omega arith,
+    )
 
 pub read-count-spec : {M : Type 1} → statement M
 read-count-spec =

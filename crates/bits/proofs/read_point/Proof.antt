@@ -30,13 +30,26 @@ enum-known-k-2 : tie.Need-enum-known-k-2
 enum-known-k-2 c = search needs
 
 returns : tie.Need-returns
-returns c = point-in (c .before .before .before .before .before .before .before .before .before .args .bytes .now) (c .before .before .before .before .before .before .before .before .before .args .at) (c .before .before .before .before .before .before .before .read-coordinate .ensures ∙ ap (λ (t : Measured). measured t (c .before .before .before .before .before .before .before .before .before .args .at + 64)) (c .before .before .before .before .before .x .given .1)) (c .before .before .before .read-coordinate2 .ensures ∙ ap (λ (t : Measured). measured t (c .before .before .before .before .before .before .before .before .before .args .at + 64 + 64)) (c .before .y .given .1))
+returns c =
+    let c7 = c .before .before .before .before .before .before .before in
+    let c9 = c7 .before .before in
+    point-in (c9 .args .bytes .now) (c9 .args .at) (c7 .read-coordinate .ensures ∙ ap (λ (t : Measured). measured t (c9 .args .at + 64))
+    (c .before .before .before .before .before .x .given .1)) (c .before .before .before .read-coordinate2 .ensures ∙ ap
+    (λ (t : Measured). measured t (c9 .args .at + 64 + 64)) (c .before .y .given .1))
 
 returns-2 : tie.Need-returns-2
-returns-2 c = point-y (c .before .before .before .before .before .before .before .before .before .args .bytes .now) (c .before .before .before .before .before .before .before .before .before .args .at) (c .before .before .before .before .before .before .before .read-coordinate .ensures ∙ ap (λ (t : Measured). measured t (c .before .before .before .before .before .before .before .before .before .args .at + 64)) (c .before .before .before .before .before .x .given .1)) (c .before .before .before .read-coordinate2 .ensures ∙ ap (λ (t : Measured). measured t (c .before .before .before .before .before .before .before .before .before .args .at + 64 + 64)) (c .before .k .given .1))
+returns-2 c =
+    let c7 = c .before .before .before .before .before .before .before in
+    let c9 = c7 .before .before in
+    point-y (c9 .args .bytes .now) (c9 .args .at) (c7 .read-coordinate .ensures ∙ ap (λ (t : Measured). measured t (c9 .args .at + 64))
+    (c .before .before .before .before .before .x .given .1)) (c .before .before .before .read-coordinate2 .ensures ∙ ap
+    (λ (t : Measured). measured t (c9 .args .at + 64 + 64)) (c .before .k .given .1))
 
 returns-3 : tie.Need-returns-3
-returns-3 c = point-x (c .before .before .before .before .before .args .bytes .now) (c .before .before .before .before .before .args .at) (c .before .before .before .read-coordinate .ensures ∙ ap (λ (t : Measured). measured t (c .before .before .before .before .before .args .at + 64)) (c .before .k2 .given .1))
+returns-3 c =
+    let c5 = c .before .before .before .before .before in
+    point-x (c5 .args .bytes .now) (c5 .args .at) (c .before .before .before .read-coordinate .ensures ∙ ap (λ (t : Measured). measured t (c5 .args .at + 64))
+    (c .before .k2 .given .1))
 
 pub read-point-spec : {M : Type 1} → statement M
 read-point-spec =

@@ -24,10 +24,22 @@ enum-told : tie.Need-enum-told
 enum-told c = search needs
 
 returns : tie.Need-returns
-returns c = (point-count-is (c .before .before .before .before .before .before .args .bytes .now) (c .before .before .before .before .before .before .args .at) (c .before .before .before .before .before .before .args .before) (c .before .before .before .before .read-field .ensures ∙ ap (λ (t : Taken). taken t (c .before .before .before .before .before .before .args .at + 10)) (c .before .before .n .given .1)) (c .judge-points .ensures), subst (λ (t : Counted). c .before .before .before .before .before .before .args .before + countOf t ≤ 512) (sym (c .judge-points .ensures)) (points-most (c .before .before .before .before .before .before .args .before) (c .before .before .n .given .0 .0) (c .before .before .before .before .before .before .pre .1)))
+returns c =
+    let c2 = c .before .before in
+    let c6 = c2 .before .before .before .before in (
+      point-count-is (c6 .args .bytes .now) (c6 .args .at) (c6 .args .before) (c .before .before .before .before .read-field .ensures ∙ ap
+          (λ (t : Taken). taken t (c6 .args .at + 10)) (c2 .n .given .1)) (c .judge-points .ensures),
+      subst (λ (t : Counted). c6 .args .before + countOf t ≤ 512)
+          (sym (c .judge-points .ensures)) (points-most (c6 .args .before) (c2 .n .given .0 .0) (c6 .pre .1)),
+    )
 
 returns-2 : tie.Need-returns-2
-returns-2 c = (point-count-end (c .before .before .before .before .args .bytes .now) (c .before .before .before .before .args .at) (c .before .before .before .before .args .before) (c .before .before .read-field .ensures ∙ ap (λ (t : Taken). taken t (c .before .before .before .before .args .at + 10)) (c .enum-told .given .1)), omega arith)
+returns-2 c =
+    let c4 = c .before .before .before .before in (
+      point-count-end (c4 .args .bytes .now) (c4 .args .at) (c4 .args .before) (c .before .before .read-field .ensures ∙ ap
+          (λ (t : Taken). taken t (c4 .args .at + 10)) (c .enum-told .given .1)),
+      omega arith,
+    )
 
 pub read-point-count-spec : {M : Type 1} → statement M
 read-point-count-spec =

@@ -17,23 +17,45 @@ standing-capacity-requires : tie.Need-standing-capacity-requires
 standing-capacity-requires c κs = search needs
 
 returns : tie.Need-returns
-returns c = (sym (counts-sheet (c .before .before .before .before .before .args .sheet-strips) (c .before .before .before .before .before .args .apart-strips) (c .before .before .before .before .before .args .placed-strips) (c .before .before .before .before .before .args .sheet .now) (c .before .before .before .before .before .args .shapes .now) (c .before .before .before .before .before .args .placed .now) (let a = c .before .standing-capacity .ensures in let b = c .if1 .taken in omega arith)), never)
+returns c =
+    let c5 = c .before .before .before .before .before in (
+      sym (counts-sheet (c5 .args .sheet-strips) (c5 .args .apart-strips) (c5 .args .placed-strips) (c5 .args .sheet .now) (c5 .args .shapes .now)
+          (c5 .args .placed .now) (let a = c .before .standing-capacity .ensures in let b = c .if1 .taken in omega arith)),
+      never,
+    )
 
 capacity-requires : tie.Need-capacity-requires
 capacity-requires c κs = search needs
 
 returns-2 : tie.Need-returns-2
-returns-2 c = (sym (counts-apart (c .before .before .before .before .before .before .before .args .sheet-strips) (c .before .before .before .before .before .before .before .args .apart-strips) (c .before .before .before .before .before .before .before .args .placed-strips) (c .before .before .before .before .before .before .before .args .sheet .now) (c .before .before .before .before .before .before .before .args .shapes .now) (c .before .before .before .before .before .before .before .args .placed .now) (let a = c .before .before .before .standing-capacity .ensures in let b = c .before .before .if1 .left in omega arith) (let a = c .before .capacity .ensures in let b = c .if2 .taken in omega arith)), never)
+returns-2 c =
+    let c7 = c .before .before .before .before .before .before .before in (
+      sym (counts-apart (c7 .args .sheet-strips) (c7 .args .apart-strips) (c7 .args .placed-strips) (c7 .args .sheet .now) (c7 .args .shapes .now)
+          (c7 .args .placed .now) (let a = c .before .before .before .standing-capacity .ensures in let b = c .before .before .if1 .left in omega arith)
+          (let a = c .before .capacity .ensures in let b = c .if2 .taken in omega arith)),
+      never,
+    )
 
 standing-capacity-requires-2 : tie.Need-standing-capacity-requires-2
 standing-capacity-requires-2 c κs = search needs
 
 returns-3 : tie.Need-returns-3
-returns-3 c = let s : c .before .before .before .before .before .before .before .before .args .sheet-strips ≤ standingCapacity (c .before .before .before .before .before .before .before .before .args .sheet .now) = (let a = c .before .before .before .before .standing-capacity .ensures in let b = c .before .before .before .if1 .left in omega arith) in
-    let a : c .before .before .before .before .before .before .before .before .args .apart-strips ≤ capacity (c .before .before .before .before .before .before .before .before .args .shapes .now) = (let a = c .before .before .capacity .ensures in let b = c .before .if2 .left in omega arith) in
-    let e = ap (leb (c .before .before .before .before .before .before .before .before .args .placed-strips)) (c .standing-capacity2 .ensures) in (
-      e ∙ counts-placed (c .before .before .before .before .before .before .before .before .args .sheet-strips) (c .before .before .before .before .before .before .before .before .args .apart-strips) (c .before .before .before .before .before .before .before .before .args .placed-strips) (c .before .before .before .before .before .before .before .before .args .sheet .now) (c .before .before .before .before .before .before .before .before .args .shapes .now) (c .before .before .before .before .before .before .before .before .args .placed .now) s a,
-      λ q. (standing-within (c .before .before .before .before .before .before .before .before .args .sheet-strips) (c .before .before .before .before .before .before .before .before .args .sheet .now) s, room-for (c .before .before .before .before .before .before .before .before .args .apart-strips) (c .before .before .before .before .before .before .before .before .args .shapes .now) a, standing-within (c .before .before .before .before .before .before .before .before .args .placed-strips) (c .before .before .before .before .before .before .before .before .args .placed .now) (leb-true (c .before .before .before .before .before .before .before .before .args .placed-strips) (standingCapacity (c .before .before .before .before .before .before .before .before .args .placed .now)) (sym e ∙ q))),
+returns-3 c =
+    let c8 = c .before .before .before .before .before .before .before .before in
+    let s : c8 .args .sheet-strips ≤ standingCapacity
+    (c8 .args .sheet .now) = (let a = c .before .before .before .before .standing-capacity .ensures in let b = c .before .before .before .if1 .left in omega
+    arith) in
+    let a : c8 .args .apart-strips ≤ capacity (c8 .args .shapes .now) = (let a = c .before .before .capacity .ensures in let b = c .before .if2 .left in omega
+    arith) in
+    let e = ap (leb (c8 .args .placed-strips)) (c .standing-capacity2 .ensures) in (
+      e ∙ counts-placed (c8 .args .sheet-strips) (c8 .args .apart-strips) (c8 .args .placed-strips) (c8 .args .sheet .now) (c8 .args .shapes .now)
+          (c8 .args .placed .now) s a,
+      λ q. (
+        standing-within (c8 .args .sheet-strips) (c8 .args .sheet .now) s,
+        room-for (c8 .args .apart-strips) (c8 .args .shapes .now) a,
+        standing-within
+            (c8 .args .placed-strips) (c8 .args .placed .now) (leb-true (c8 .args .placed-strips) (standingCapacity (c8 .args .placed .now)) (sym e ∙ q)),
+      ),
     )
 
 pub strip-counts-fit-spec : {M : Type 1} → statement M

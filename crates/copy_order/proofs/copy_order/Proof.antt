@@ -26,8 +26,12 @@ slice-aggregate-put-kinds c = search needs
 
 put-kinds-requires : tie.Need-put-kinds-requires
 put-kinds-requires c κs =
-    let s = c .before .before .before .sort-kinds in let e : length (c .before .before .before .sort-kinds .last .1 .1 .1 .0) ≡ 64 = s .kept .1 .1 .1 .0 in
-    let l : length (flatMap (copiesAt (now (c .before .before .before .before .before .before .before .before .args .rows))) (down (at (c .before .before .before .sort-kinds .last .1 .1 .1 .0)) (c .before .before .before .before .before .before .before .before .args .kinds))) ≡ copiesIn (now (c .before .before .before .before .before .before .before .before .args .rows)) (c .before .before .before .before .before .before .before .before .args .kinds) = line-length (now (c .before .before .before .before .before .before .before .before .args .rows)) (now (c .before .before .before .before .before .before .before .before .args .areas)) (c .before .before .before .sort-kinds .last .1 .1 .1 .0) (c .before .before .before .before .before .before .before .before .args .kinds) (s .ensures .0) in
+    let c3 = c .before .before .before in
+    let c8 = c3 .before .before .before .before .before in
+    let s = c3 .sort-kinds in let e : length (c3 .sort-kinds .last .1 .1 .1 .0) ≡ 64 = s .kept .1 .1 .1 .0 in
+    let l : length (flatMap (copiesAt (now (c8 .args .rows))) (down (at (c3 .sort-kinds .last .1 .1 .1 .0)) (c8 .args .kinds))) ≡ copiesIn
+    (now (c8 .args .rows)) (c8 .args .kinds) = line-length (now (c8 .args .rows)) (now (c8 .args .areas)) (c3 .sort-kinds .last .1 .1 .1 .0)
+    (c8 .args .kinds) (s .ensures .0) in
     (omega arith, omega arith, s .ensures .1, omega arith)
 
 same-length : tie.Need-same-length
@@ -35,8 +39,12 @@ same-length c = search needs
 
 returns : tie.Need-returns
 returns c =
-    λ (j : Job) t l. let e = line-order (now (c .before .before .before .before .before .before .before .before .before .before .before .args .rows)) (now (c .before .before .before .before .before .before .before .before .before .before .before .args .areas)) j t (c .before .before .before .before .before .before .sort-kinds .last .1 .1 .1 .0) (c .before .before .before .before .before .before .before .before .before .before .before .args .kinds) l (c .before .before .before .before .before .before .sort-kinds .ensures .0) in
-    (c .before .before .put-kinds .ensures .0 ∙ ap length e, c .before .before .put-kinds .ensures .1 ∙ ap (λ (o : List ℕ). laid o (now (c .before .before .before .before .before .before .before .before .before .before .before .args .order))) e)
+    let c2 = c .before .before in
+    let c6 = c2 .before .before .before .before in
+    let c11 = c6 .before .before .before .before .before in
+    λ (j : Job) t l. let e = line-order (now (c11 .args .rows)) (now (c11 .args .areas)) j t (c6 .sort-kinds .last .1 .1 .1 .0) (c11 .args .kinds) l
+    (c6 .sort-kinds .ensures .0) in
+    (c2 .put-kinds .ensures .0 ∙ ap length e, c2 .put-kinds .ensures .1 ∙ ap (λ (o : List ℕ). laid o (now (c11 .args .order))) e)
 
 pub copy-order-spec : {M : Type 1} → statement M
 copy-order-spec =

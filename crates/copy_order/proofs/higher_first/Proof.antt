@@ -10,21 +10,32 @@ lower-at-requires c κs = search needs
 
 returns : tie.Need-returns
 returns c =
-    higher-yes (now (c .before .before .before .before .args .rows)) (now (c .before .before .before .before .args .areas)) (c .before .before .before .before .args .a) (c .before .before .before .before .args .b) (c .before .lower-at .result) (c .before .lower-at .ensures) (c .if1 .taken)
+    let c1 = c .before in
+    let c4 = c1 .before .before .before in
+    higher-yes (now (c4 .args .rows)) (now (c4 .args .areas)) (c4 .args .a) (c4 .args .b) (c1 .lower-at .result) (c1 .lower-at .ensures) (c .if1 .taken)
 
 lower-at-requires-2 : tie.Need-lower-at-requires-2
 lower-at-requires-2 c κs = search needs
 
 returns-2 : tie.Need-returns-2
 returns-2 c =
-    higher-no (now (c .before .before .before .before .before .before .args .rows)) (now (c .before .before .before .before .before .before .args .areas)) (c .before .before .before .before .before .before .args .a) (c .before .before .before .before .before .before .args .b) (c .before .before .before .lower-at .result) (c .before .lower-at2 .result) (c .before .before .before .lower-at .ensures) (c .before .before .if1 .left) (c .before .lower-at2 .ensures) (c .if2 .taken)
+    let c1 = c .before in
+    let c3 = c1 .before .before in
+    let c6 = c3 .before .before .before in
+    higher-no (now (c6 .args .rows)) (now (c6 .args .areas)) (c6 .args .a) (c6 .args .b) (c3 .lower-at .result) (c1 .lower-at2 .result) (c3 .lower-at .ensures)
+    (c .before .before .if1 .left) (c1 .lower-at2 .ensures) (c .if2 .taken)
 
 larger-first-requires : tie.Need-larger-first-requires
 larger-first-requires c κs = search needs
 
 returns-3 : tie.Need-returns-3
 returns-3 c =
-    higher-same (now (c .before .before .before .before .before .before .before .args .rows)) (now (c .before .before .before .before .before .before .before .args .areas)) (c .before .before .before .before .before .before .before .args .a) (c .before .before .before .before .before .before .before .args .b) (c .before .before .before .before .lower-at .result) (c .before .before .lower-at2 .result) (c .larger-first .result) (c .before .before .before .before .lower-at .ensures) (c .before .before .before .if1 .left) (c .before .before .lower-at2 .ensures) (c .before .if2 .left) (c .larger-first .ensures)
+    let c2 = c .before .before in
+    let c4 = c2 .before .before in
+    let c7 = c4 .before .before .before in
+    higher-same (now (c7 .args .rows)) (now (c7 .args .areas)) (c7 .args .a) (c7 .args .b) (c4 .lower-at .result) (c2 .lower-at2 .result)
+    (c .larger-first .result) (c4 .lower-at .ensures) (c .before .before .before .if1 .left) (c2 .lower-at2 .ensures) (c .before .if2 .left)
+    (c .larger-first .ensures)
 
 pub higher-first-spec : {M : Type 1} → statement M
 higher-first-spec =

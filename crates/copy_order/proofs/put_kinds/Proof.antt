@@ -19,7 +19,8 @@ abbrev μ-loop : tie.MeasureT-loop
 
 loop-holds : tie.Need-loop-holds Inv-loop μ-loop
 loop-holds c =
-    (omega arith, laying-start (copiesAt (now (c .before .before .before .args .rows))) (λ (q : ℕ). getD (now (c .before .before .before .args .line)) q 0) (c .before .before .before .args .kinds) (now (c .before .before .before .args .order)))
+    let c3 = c .before .before .before in
+    (omega arith, laying-start (copiesAt (now (c3 .args .rows))) (λ (q : ℕ). getD (now (c3 .args .line)) q 0) (c3 .args .kinds) (now (c3 .args .order)))
 
 sub-i : tie.Need-sub-i Inv-loop μ-loop
 sub-i c =
@@ -43,15 +44,26 @@ mul-n-2 c =
 
 shared-slice-read-n : tie.Need-shared-slice-read-n Inv-loop μ-loop
 shared-slice-read-n c =
-    omega (arith, (c .before .before .before .before .before .before .before .pre .2 (c .before .before .before .loop .i - 1) (omega arith)))
+    let c7 = c .before .before .before .before .before .before .before in
+    omega (arith, (c7 .pre .2 (c .before .before .before .loop .i - 1) (omega arith)))
 
 put-copies-requires : tie.Need-put-copies-requires Inv-loop μ-loop
 put-copies-requires c κs =
-    copies-fit (now (c .before .before .before .before .before .before .before .before .args .rows)) (now (c .before .before .before .before .before .before .before .before .args .line)) (c .before .before .before .before .before .before .before .before .args .kinds) (now (c .before .before .before .before .before .before .before .before .args .order)) (c .before .before .before .before .loop .i) (c .before .before .before .before .loop .at) (c .before .before .before .before .loop .order) (c .before .before .before .before .loop .inv .1) (omega arith) (c .before .before .before .before .before .before .before .before .pre .3)
+    let c4 = c .before .before .before .before in
+    let c8 = c4 .before .before .before .before in
+    copies-fit (now (c8 .args .rows)) (now (c8 .args .line)) (c8 .args .kinds) (now (c8 .args .order)) (c4 .loop .i) (c4 .loop .at) (c4 .loop .order)
+    (c4 .loop .inv .1) (omega arith) (c8 .pre .3)
 
 add-at : tie.Need-add-at Inv-loop μ-loop
 add-at c =
-    omega (arith, copies-fit (now (c .before .before .before .before .before .before .before .before .before .before .before .args .rows)) (now (c .before .before .before .before .before .before .before .before .before .before .before .args .line)) (c .before .before .before .before .before .before .before .before .before .before .before .args .kinds) (now (c .before .before .before .before .before .before .before .before .before .before .before .args .order)) (c .before .before .before .before .before .before .before .loop .i) (c .before .before .before .before .before .before .before .loop .at) (c .before .before .before .before .before .before .before .loop .order) (c .before .before .before .before .before .before .before .loop .inv .1) (omega arith) (c .before .before .before .before .before .before .before .before .before .before .before .pre .3), c .before .before .before .before .before .before .before .loop .inv .1 .lengths)
+    let c7 = c .before .before .before .before .before .before .before in
+    let c11 = c7 .before .before .before .before in
+    omega (
+      arith,
+      copies-fit (now (c11 .args .rows)) (now (c11 .args .line)) (c11 .args .kinds) (now (c11 .args .order)) (c7 .loop .i) (c7 .loop .at)
+          (c7 .loop .order) (c7 .loop .inv .1) (omega arith) (c11 .pre .3),
+      c7 .loop .inv .1 .lengths,
+    )
 
 loop-less : tie.Need-loop-less Inv-loop μ-loop
 loop-less c =
@@ -59,7 +71,13 @@ loop-less c =
 
 loop-again : tie.Need-loop-again Inv-loop μ-loop
 loop-again c =
-    (omega arith, copies-on (now (c .before .before .before .before .before .before .before .before .before .before .before .args .rows)) (now (c .before .before .before .before .before .before .before .before .before .before .before .args .line)) (c .before .before .before .before .before .before .before .before .before .before .before .args .kinds) (now (c .before .before .before .before .before .before .before .before .before .before .before .args .order)) (c .before .before .before .before .before .before .before .loop .i) (c .before .before .before .before .before .before .before .loop .at) (c .before .before .before .before .before .before .before .loop .order) (c .before .before .before .before .before .before .before .loop .inv .1) (omega arith) (c .before .before .put-copies .last .0) (c .before .before .put-copies .ensures) (c .before .before .put-copies .kept .0))
+    let c2 = c .before .before in
+    let c7 = c2 .before .before .before .before .before in
+    let c11 = c7 .before .before .before .before in (
+      omega arith,
+      copies-on (now (c11 .args .rows)) (now (c11 .args .line)) (c11 .args .kinds) (now (c11 .args .order)) (c7 .loop .i) (c7 .loop .at)
+          (c7 .loop .order) (c7 .loop .inv .1) (omega arith) (c2 .put-copies .last .0) (c2 .put-copies .ensures) (c2 .put-copies .kept .0),
+    )
 
 same-length : tie.Need-same-length Inv-loop μ-loop
 same-length c =
@@ -67,9 +85,13 @@ same-length c =
 
 returns : tie.Need-returns Inv-loop μ-loop
 returns c =
-    let z : c .before .loop .i ≡ 0 = omega arith in
-    laying-end (copiesAt (now (c .before .before .before .before .before .args .rows))) (λ (q : ℕ). getD (now (c .before .before .before .before .before .args .line)) q 0) (c .before .before .before .before .before .args .kinds) (now (c .before .before .before .before .before .args .order)) (c .before .loop .at) (c .before .loop .order)
-    (subst (λ (i : ℕ). Laid (now (c .before .before .before .before .before .args .rows)) (now (c .before .before .before .before .before .args .line)) (c .before .before .before .before .before .args .kinds) (now (c .before .before .before .before .before .args .order)) i (c .before .loop .at) (c .before .loop .order)) z (c .before .loop .inv .1))
+    let c1 = c .before in
+    let c5 = c1 .before .before .before .before in
+    let z : c1 .loop .i ≡ 0 = omega arith in
+    laying-end (copiesAt (now (c5 .args .rows))) (λ (q : ℕ). getD (now (c5 .args .line)) q 0) (c5 .args .kinds) (now (c5 .args .order)) (c1 .loop .at)
+    (c1 .loop .order)
+    (subst (λ (i : ℕ). Laid (now (c5 .args .rows)) (now (c5 .args .line)) (c5 .args .kinds) (now (c5 .args .order)) i (c1 .loop .at) (c1 .loop .order)) z
+    (c1 .loop .inv .1))
 
 pub put-kinds-spec : {M : Type 1} → statement M
 put-kinds-spec =

@@ -23,7 +23,13 @@ abbrev μ-loop : tie.MeasureT-loop
 
 loop-holds : tie.Need-loop-holds Inv-loop μ-loop
 loop-holds c =
-    (omega arith, refl, λ q h. absurd (omega arith), sorted-none ahead (numberedAt (now (c .before .before .before .args .rows)) (now (c .before .before .before .args .areas))) (λ (q : ℕ). (numberedAt (now (c .before .before .before .args .rows)) (now (c .before .before .before .args .areas))) (at (now (c .before .before .before .args .line)) q)) (c .before .before .before .args .kinds))
+    let c3 = c .before .before .before in (
+      omega arith,
+      refl,
+      λ q h. absurd (omega arith),
+      sorted-none ahead (numberedAt (now (c3 .args .rows)) (now (c3 .args .areas)))
+          (λ (q : ℕ). (numberedAt (now (c3 .args .rows)) (now (c3 .args .areas))) (at (now (c3 .args .line)) q)) (c3 .args .kinds),
+    )
 
 sub-k : tie.Need-sub-k Inv-loop μ-loop
 sub-k c =
@@ -47,11 +53,15 @@ loop-less c =
 
 loop-again : tie.Need-loop-again Inv-loop μ-loop
 loop-again c =
+    let c9 = c .before .before .before .before .before .before .before .before .before in
     let l = c .before .before .before .before .before .loop in let g = c .before .before .insert-kind in (
       omega arith,
       g .kept .1 .1 .0 ∙ l .inv .1,
       λ q h. g .ensures .1 q (omega arith),
-      sorted-more ahead (numberedAt (now (c .before .before .before .before .before .before .before .before .before .args .rows)) (now (c .before .before .before .before .before .before .before .before .before .args .areas))) (λ (q : ℕ). (numberedAt (now (c .before .before .before .before .before .before .before .before .before .args .rows)) (now (c .before .before .before .before .before .before .before .before .before .args .areas))) (at (l .line) q)) (λ (q : ℕ). (numberedAt (now (c .before .before .before .before .before .before .before .before .before .args .rows)) (now (c .before .before .before .before .before .before .before .before .before .args .areas))) (at (g .last .1 .1 .0) q)) (l .k) (c .before .before .before .before .before .before .before .before .before .args .kinds) (omega arith) (l .inv .0) (g .ensures .0) (l .inv .3),
+      sorted-more ahead (numberedAt (now (c9 .args .rows)) (now (c9 .args .areas)))
+          (λ (q : ℕ). (numberedAt (now (c9 .args .rows)) (now (c9 .args .areas))) (at (l .line) q))
+          (λ (q : ℕ). (numberedAt (now (c9 .args .rows)) (now (c9 .args .areas))) (at (g .last .1 .1 .0) q)) (l .k) (c9 .args .kinds) (omega arith) (l .inv .0)
+          (g .ensures .0) (l .inv .3),
     )
 
 same-length : tie.Need-same-length Inv-loop μ-loop
@@ -60,7 +70,13 @@ same-length c =
 
 returns : tie.Need-returns Inv-loop μ-loop
 returns c =
-    (sorted-all ahead (numberedAt (now (c .before .before .before .before .before .args .rows)) (now (c .before .before .before .before .before .args .areas))) (λ (q : ℕ). (numberedAt (now (c .before .before .before .before .before .args .rows)) (now (c .before .before .before .before .before .args .areas))) (at (c .before .loop .line) q)) (c .before .loop .k) (c .before .before .before .before .before .args .kinds) (omega arith) (c .before .loop .inv .3), λ q h. c .before .loop .inv .2 q (omega arith))
+    let c1 = c .before in
+    let c5 = c1 .before .before .before .before in (
+      sorted-all ahead (numberedAt (now (c5 .args .rows)) (now (c5 .args .areas)))
+          (λ (q : ℕ). (numberedAt (now (c5 .args .rows)) (now (c5 .args .areas))) (at (c1 .loop .line) q)) (c1 .loop .k) (c5 .args .kinds) (omega arith)
+          (c1 .loop .inv .3),
+      λ q h. c1 .loop .inv .2 q (omega arith),
+    )
 
 pub sort-kinds-spec : {M : Type 1} → statement M
 sort-kinds-spec =

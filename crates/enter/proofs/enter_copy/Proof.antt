@@ -13,15 +13,26 @@ use Rattle.enter.proofs.enter_one.Reads as enter-one-reads
 use Rattle.enter.proofs.enter_many.Reads as enter-many-reads
 
 enter-one-requires : tie.Need-enter-one-requires
-enter-one-requires c κs = (omega (arith, c .before .before .before .before .before .before .before .pre .1, c .before .before .if1 .taken), c .before .before .before .before .before .before .before .pre .3, omega (arith, c .before .before .before .before .before .before .before .pre .4, c .before .before .if1 .taken))
+enter-one-requires c κs =
+    let c2 = c .before .before in
+    let c7 = c2 .before .before .before .before .before in
+    (omega (arith, c7 .pre .1, c2 .if1 .taken), c7 .pre .3, omega (arith, c7 .pre .4, c2 .if1 .taken))
 
 returns : tie.Need-returns
-returns c = let g = c .before .before .before .before .before .before .before .before .before .before .before .before .args in
-    let e : g .from + 1 ≡ g .to = omega (arith, c .before .before .before .before .before .before .before .if1 .taken) in
-    subst (λ (k : ℕ). (entering (c .before .before .before .before .enter-one .result) (c .before .before .before .before .enter-one .last .1 .1 .1 .0) (c .before .before .before .before .enter-one .last .1 .1 .1 .1 .0) ≡ enterOf (g .ix) (g .standing .now) k (rooms (g .entries .now) (g .starts .now))) × (c .before .before .before .before .enter-one .result ≡ true → Laid (g .ix) (g .standing .now) k (c .before .before .before .before .enter-one .last .1 .1 .1 .0) (c .before .before .before .before .enter-one .last .1 .1 .1 .1 .0))) e (c .before .before .before .before .enter-one .ensures)
+returns c =
+    let c4 = c .before .before .before .before in
+    let c7 = c4 .before .before .before in
+    let c12 = c7 .before .before .before .before .before in
+    let g = c12 .args in
+    let e : g .from + 1 ≡ g .to = omega (arith, c7 .if1 .taken) in
+    subst (λ (k : ℕ). (entering (c4 .enter-one .result) (c4 .enter-one .last .1 .1 .1 .0) (c4 .enter-one .last .1 .1 .1 .1 .0) ≡ enterOf (g .ix)
+    (g .standing .now) k (rooms (g .entries .now) (g .starts .now))) × (c4 .enter-one .result ≡ true → Laid (g .ix) (g .standing .now) k
+    (c4 .enter-one .last .1 .1 .1 .0) (c4 .enter-one .last .1 .1 .1 .1 .0))) e (c4 .enter-one .ensures)
 
 enter-many-requires : tie.Need-enter-many-requires
-enter-many-requires c κs = c .before .before .before .before .before .before .before .before .pre
+enter-many-requires c κs =
+    let c8 = c .before .before .before .before .before .before .before .before in
+    c8 .pre
 
 returns-2 : tie.Need-returns-2
 returns-2 c = c .before .before .before .before .before .before .enter-many .ensures

@@ -32,8 +32,12 @@ same-length-4 c = search needs
 
 returns : tie.Need-returns
 returns c =
-    let a = c .before .before .before .before .before .before .before .before .before .before .before .before .before .before .before .before .before .before .before .before .before .before .args in let g = c .before .before .before .before .before .before .before .before .before .before .before .trapezoids in
-    told-count (stored (trapezoids (now (a .points)) (a .n) (now (a .ends)) (a .sheet)) (now (a .room)) 0) (g .result) (now (a .room)) (g .last .1 .1 .1 .1 .1 .1 .1 .0) (c .before .stored .given .0 .0) (g .ensures) (c .before .stored .given .1)
+    let c1 = c .before in
+    let c11 = c1 .before .before .before .before .before .before .before .before .before .before in
+    let c22 = c11 .before .before .before .before .before .before .before .before .before .before .before in
+    let a = c22 .args in let g = c11 .trapezoids in
+    told-count (stored (trapezoids (now (a .points)) (a .n) (now (a .ends)) (a .sheet)) (now (a .room)) 0) (g .result) (now (a .room))
+    (g .last .1 .1 .1 .1 .1 .1 .1 .0) (c1 .stored .given .0 .0) (g .ensures) (c1 .stored .given .1)
 
 same-length-5 : tie.Need-same-length-5
 same-length-5 c = search needs
@@ -49,8 +53,11 @@ same-length-8 c = search needs
 
 returns-2 : tie.Need-returns-2
 returns-2 c =
-    let a = c .before .before .before .before .before .before .before .before .before .before .before .before .before .before .before .before .before .before .before .before .before .args in let g = c .before .before .before .before .before .before .before .before .before .before .trapezoids in
-    told-none (stored (trapezoids (now (a .points)) (a .n) (now (a .ends)) (a .sheet)) (now (a .room)) 0) (g .result) (now (a .room)) (g .last .1 .1 .1 .1 .1 .1 .1 .0) (g .ensures) (g .kept .1 .1 .1 .1 .1 .1 .1 .0) (c .enum-told .given .1)
+    let c10 = c .before .before .before .before .before .before .before .before .before .before in
+    let c21 = c10 .before .before .before .before .before .before .before .before .before .before .before in
+    let a = c21 .args in let g = c10 .trapezoids in
+    told-none (stored (trapezoids (now (a .points)) (a .n) (now (a .ends)) (a .sheet)) (now (a .room)) 0) (g .result) (now (a .room))
+    (g .last .1 .1 .1 .1 .1 .1 .1 .0) (g .ensures) (g .kept .1 .1 .1 .1 .1 .1 .1 .0) (c .enum-told .given .1)
 
 pub panel-trapezoids-spec : {M : Type 1} → statement M
 panel-trapezoids-spec =

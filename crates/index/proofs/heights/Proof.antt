@@ -26,34 +26,39 @@ use Rattle.numbers.proofs.larger.Reads as larger-reads
 use Rattle.numbers.proofs.smaller.Reads as smaller-reads
 use Rattle.trapezoid.proofs.Trapezoid.at.Reads as at-reads
 
--- src/lib.rt:108:9
 at-requires : tie.Need-at-requires
 at-requires c κs = search needs
 
--- src/lib.rt:109:9
 at-requires-2 : tie.Need-at-requires-2
 at-requires-2 c κs = search needs
 
--- src/lib.rt:110:9
 at-requires-3 : tie.Need-at-requires-3
 at-requires-3 c κs = search needs
 
--- src/lib.rt:111:9
 at-requires-4 : tie.Need-at-requires-4
 at-requires-4 c κs = search needs
 
--- src/lib.rt:113:15
 smaller-requires : tie.Need-smaller-requires
 smaller-requires c κs = search needs
 
--- src/lib.rt:114:13
 larger-requires : tie.Need-larger-requires
 larger-requires c κs = search needs
 
--- src/lib.rt:104:1
 returns : tie.Need-returns
 unfolding heightsOf intervalOf
-returns c = rw (c .larger .ensures, c .before .before .before .before .before .smaller .ensures, c .before .before .before .before .before .before .before .before .before .before .at4 .ensures, c .before .before .before .before .before .before .before .before .before .before .before .before .at3 .ensures, c .before .before .before .before .before .before .before .before .before .before .before .before .before .before .at2 .ensures, c .before .before .before .before .before .before .before .before .before .before .before .before .before .before .before .at .ensures)
+returns c =
+    let c10 = c .before .before .before .before .before .before .before .before .before .before in
+    let c12 = c10 .before .before in
+    let c14 = c12 .before .before in
+    let c15 = c14 .before in
+    rw (
+      c .larger .ensures,
+      c .before .before .before .before .before .smaller .ensures,
+      c10 .at4 .ensures,
+      c12 .at3 .ensures,
+      c14 .at2 .ensures,
+      c15 .at .ensures,
+    )
 
 pub heights-spec : {M : Type 1} → statement M
 heights-spec =

@@ -21,8 +21,11 @@ add-read-orientations : tie.Need-add-read-orientations
 add-read-orientations c = search needs
 
 read-orientations-requires : tie.Need-read-orientations-requires
-read-orientations-requires c κs = let b = subst (λ (t : HeadRead). headFits t) (c .before .before .before .before .h .given .1) (c .before .before .before .before .before .before .read-head .ensures .1) in
-    (omega arith, b .1, c .before .before .before .before .before .before .before .before .before .before .before .pre .1, c .before .before .before .before .before .before .before .before .before .before .before .pre .2, c .before .before .before .before .before .before .before .before .before .before .before .pre .3, c .before .before .before .before .before .before .before .before .before .before .before .pre .4)
+read-orientations-requires c κs =
+    let c11 = c .before .before .before .before .before .before .before .before .before .before .before in
+    let b = subst (λ (t : HeadRead). headFits t) (c .before .before .before .before .h .given .1)
+    (c .before .before .before .before .before .before .read-head .ensures .1) in
+    (omega arith, b .1, c11 .pre .1, c11 .pre .2, c11 .pre .3, c11 .pre .4)
 
 enum-known-q : tie.Need-enum-known-q
 enum-known-q c = search needs
@@ -43,9 +46,22 @@ same-length-3 : tie.Need-same-length-3
 same-length-3 c = search needs
 
 returns : tie.Need-returns
-returns c = let b = subst (λ (t : HeadRead). headFits t) (c .before .before .before .before .before .before .before .before .before .before .before .before .before .before .h .given .1) (c .before .before .before .before .before .before .before .before .before .before .before .before .before .before .before .before .read-head .ensures .1) in
-    let d : c .before .q .given .0 .0 ≤ c .before .before .before .before .before .before .before .before .before .before .before .before .before .before .before .before .before .before .before .before .before .args .at + 114 + 132366 * c .before .before .before .before .before .before .before .before .before .before .before .before .before .before .h .given .0 .0 .orientations = subst (λ (t : Run). runFits t (c .before .before .before .before .before .before .before .before .before .before .before .before .before .before .before .before .before .before .before .before .before .args .at + 114 + 132366 * c .before .before .before .before .before .before .before .before .before .before .before .before .before .before .h .given .0 .0 .orientations)) (c .before .q .given .1) (c .before .before .before .before .before .before .before .before .before .read-orientations .ensures .1) in
-    (kind-in (c .before .before .before .before .before .before .before .before .before .before .before .before .before .before .before .before .before .before .before .before .before .args .bytes .now) (c .before .before .before .before .before .before .before .before .before .before .before .before .before .before .before .before .before .before .before .before .before .args .at) (c .before .before .before .before .before .before .before .before .before .before .before .before .before .before .before .before .read-head .ensures .0 ∙ ap (λ (t : HeadRead). headRead t (c .before .before .before .before .before .before .before .before .before .before .before .before .before .before .before .before .before .before .before .before .before .args .at + 12 + 1 + 32 + 64 + 5)) (c .before .before .before .before .before .before .before .before .before .before .before .before .before .before .h .given .1)) (c .before .before .before .before .before .before .before .before .before .read-orientations .last .1 .1 .1 .1 .0) (c .before .before .before .before .before .before .before .before .before .before .before .before .before .before .before .before .before .before .before .before .before .args .kind) (c .before .before .before .before .before .before .before .before .before .read-orientations .ensures .0 ∙ ap (λ (t : Run). runRead t (orientationsOf (c .before .before .before .before .before .before .before .before .before .before .before .before .before .before .before .before .before .before .before .before .before .args .bytes .now) (c .before .before .before .before .before .before .before .before .before .read-orientations .last .1 .1 .1 .1 .0) (c .before .before .before .before .before .before .before .before .before .before .before .before .before .before .before .before .before .before .before .before .before .args .kind) (c .before .before .before .before .before .before .before .before .before .before .before .before .before .before .h .given .0 .0 .orientations))) (c .before .q .given .1)), (b .0, b .1, omega (arith, b .1)), c .before .before .before .before .before .before .before .before .before .read-orientations .ensures .2)
+returns c =
+    let c1 = c .before in
+    let c9 = c1 .before .before .before .before .before .before .before .before in
+    let c14 = c9 .before .before .before .before .before in
+    let c16 = c14 .before .before in
+    let c21 = c16 .before .before .before .before .before in
+    let b = subst (λ (t : HeadRead). headFits t) (c14 .h .given .1) (c16 .read-head .ensures .1) in
+    let d : c1 .q .given .0 .0 ≤ c21 .args .at + 114 + 132366 * c14 .h .given .0 .0 .orientations = subst
+    (λ (t : Run). runFits t (c21 .args .at + 114 + 132366 * c14 .h .given .0 .0 .orientations)) (c1 .q .given .1) (c9 .read-orientations .ensures .1) in (
+      kind-in (c21 .args .bytes .now) (c21 .args .at) (c16 .read-head .ensures .0 ∙ ap (λ (t : HeadRead). headRead t (c21 .args .at + 12 + 1 + 32 + 64 + 5))
+          (c14 .h .given .1)) (c9 .read-orientations .last .1 .1 .1 .1 .0) (c21 .args .kind)
+          (c9 .read-orientations .ensures .0 ∙ ap (λ (t : Run). runRead t (orientationsOf (c21 .args .bytes .now) (c9 .read-orientations .last .1 .1 .1 .1 .0)
+          (c21 .args .kind) (c14 .h .given .0 .0 .orientations))) (c1 .q .given .1)),
+      (b .0, b .1, omega (arith, b .1)),
+      c9 .read-orientations .ensures .2,
+    )
 
 same-length-4 : tie.Need-same-length-4
 same-length-4 c = search needs
@@ -57,10 +73,27 @@ same-length-6 : tie.Need-same-length-6
 same-length-6 c = search needs
 
 returns-2 : tie.Need-returns-2
-returns-2 c = (kind-sets (c .before .before .before .before .before .before .before .before .before .before .before .before .before .before .before .before .before .before .before .before .before .args .bytes .now) (c .before .before .before .before .before .before .before .before .before .before .before .before .before .before .before .before .before .before .before .before .before .args .at) (c .before .before .before .before .before .before .before .before .before .before .before .before .before .before .before .before .read-head .ensures .0 ∙ ap (λ (t : HeadRead). headRead t (c .before .before .before .before .before .before .before .before .before .before .before .before .before .before .before .before .before .before .before .before .before .args .at + 12 + 1 + 32 + 64 + 5)) (c .before .before .before .before .before .before .before .before .before .before .before .before .before .before .h .given .1)) (c .before .before .before .before .before .before .before .before .before .read-orientations .ensures .0 ∙ ap (λ (t : Run). runRead t (orientationsOf (c .before .before .before .before .before .before .before .before .before .before .before .before .before .before .before .before .before .before .before .before .before .args .bytes .now) (c .before .before .before .before .before .before .before .before .before .read-orientations .last .1 .1 .1 .1 .0) (c .before .before .before .before .before .before .before .before .before .before .before .before .before .before .before .before .before .before .before .before .before .args .kind) (c .before .before .before .before .before .before .before .before .before .before .before .before .before .before .h .given .0 .0 .orientations))) (c .before .k .given .1)), tt, c .before .before .before .before .before .before .before .before .before .read-orientations .ensures .2)
+returns-2 c =
+    let c9 = c .before .before .before .before .before .before .before .before .before in
+    let c14 = c9 .before .before .before .before .before in
+    let c16 = c14 .before .before in
+    let c21 = c16 .before .before .before .before .before in (
+      kind-sets (c21 .args .bytes .now) (c21 .args .at) (c16 .read-head .ensures .0 ∙ ap (λ (t : HeadRead). headRead t (c21 .args .at + 12 + 1 + 32 + 64 + 5))
+          (c14 .h .given .1)) (c9 .read-orientations .ensures .0 ∙ ap (λ (t : Run). runRead t
+          (orientationsOf (c21 .args .bytes .now) (c9 .read-orientations .last .1 .1 .1 .1 .0) (c21 .args .kind) (c14 .h .given .0 .0 .orientations)))
+          (c .before .k .given .1)),
+      tt,
+      c9 .read-orientations .ensures .2,
+    )
 
 returns-3 : tie.Need-returns-3
-returns-3 c = (kind-head (c .before .before .before .before .before .before .before .before .args .bytes .now) (c .before .before .before .before .before .before .before .before .args .at) (c .before .before .before .read-head .ensures .0 ∙ ap (λ (t : HeadRead). headRead t (c .before .before .before .before .before .before .before .before .args .at + 12 + 1 + 32 + 64 + 5)) (c .before .k2 .given .1)), tt, refl)
+returns-3 c =
+    let c8 = c .before .before .before .before .before .before .before .before in (
+      kind-head (c8 .args .bytes .now) (c8 .args .at) (c .before .before .before .read-head .ensures .0 ∙ ap
+          (λ (t : HeadRead). headRead t (c8 .args .at + 12 + 1 + 32 + 64 + 5)) (c .before .k2 .given .1)),
+      tt,
+      refl,
+    )
 
 pub read-kind-spec : {M : Type 1} → statement M
 read-kind-spec =

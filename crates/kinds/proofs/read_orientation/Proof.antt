@@ -20,7 +20,12 @@ enum-known-p : tie.Need-enum-known-p
 enum-known-p c = search needs
 
 cast-inset : tie.Need-cast-inset
-cast-inset c = let b : c .before .p .given .0 .1 .1 .0 ≤ c .before .before .before .before .before .before .before .before .before .before .before .before .before .before .args .at + 66183 = subst (λ (t : SetRead). setFits t (c .before .before .before .before .before .before .before .before .before .before .before .before .before .before .args .at + 66183)) (c .before .p .given .1) (c .before .before .before .before .before .before .before .read-set .ensures .1) .2 in
+cast-inset c =
+    let c1 = c .before in
+    let c7 = c1 .before .before .before .before .before .before in
+    let c14 = c7 .before .before .before .before .before .before .before in
+    let b : c1 .p .given .0 .1 .1 .0 ≤ c14 .args .at + 66183 = subst (λ (t : SetRead). setFits t (c14 .args .at + 66183)) (c1 .p .given .1)
+    (c7 .read-set .ensures .1) .2 in
     omega arith
 
 read-set-requires-2 : tie.Need-read-set-requires-2
@@ -63,9 +68,24 @@ same-length-3 : tie.Need-same-length-3
 same-length-3 c = search needs
 
 returns : tie.Need-returns
-returns c = let b : c .before .before .before .before .before .before .before .before .before .before .before .p .given .0 .1 .1 .0 ≤ c .before .before .before .before .before .before .before .before .before .before .before .before .before .before .before .before .before .before .before .before .before .before .before .before .args .at + 66183 = subst (λ (t : SetRead). setFits t (c .before .before .before .before .before .before .before .before .before .before .before .before .before .before .before .before .before .before .before .before .before .before .before .before .args .at + 66183)) (c .before .before .before .before .before .before .before .before .before .before .before .p .given .1) (c .before .before .before .before .before .before .before .before .before .before .before .before .before .before .before .before .before .read-set .ensures .1) .2 in
-    let d : c .before .q .given .0 .1 .1 .0 ≤ c .before .before .before .before .before .before .before .before .before .before .before .p .given .0 .1 .1 .0 + 66183 = subst (λ (t : SetRead). setFits t (c .before .before .before .before .before .before .before .before .before .before .before .p .given .0 .1 .1 .0 + 66183)) (c .before .q .given .1) (c .before .before .before .before .before .before .before .read-set2 .ensures .1) .2 in
-    (orientation-in (c .before .before .before .before .before .before .before .before .before .before .before .before .before .before .before .before .before .before .before .before .before .before .before .before .args .bytes .now) (c .before .before .before .before .before .before .before .before .before .before .before .before .before .before .before .before .before .before .before .before .before .before .before .before .args .at) (c .before .before .before .before .before .before .before .before .before .before .before .before .before .before .before .before .before .read-set .ensures .0 ∙ ap (λ (t : SetRead). setRead t (c .before .before .before .before .before .before .before .before .before .before .before .before .before .before .before .before .before .read-set .last .1 .1 .0) (c .before .before .before .before .before .before .before .before .before .before .before .before .before .before .before .before .before .read-set .last .1 .1 .1 .0)) (c .before .before .before .before .before .before .before .before .before .before .before .p .given .1)) (c .before .before .before .before .before .before .before .before .before .before .before .before .before .before .before .before .before .before .before .before .before .before .before .before .args .places .now) (c .before .before .before .before .before .before .before .before .before .before .before .before .before .before .before .before .before .before .before .before .before .before .before .before .args .slot) (c .before .before .before .before .before .before .before .read-set2 .ensures .0 ∙ ap (λ (t : SetRead). setRead t (c .before .before .before .before .before .before .before .read-set2 .last .1 .1 .0) (c .before .before .before .before .before .before .before .read-set2 .last .1 .1 .1 .0)) (c .before .q .given .1)) (c .before .before .before .before .before .before .before .before .before .before .before .before .before .before .before .before .before .before .before .before .before .before .before .before .pre .1) (c .before .before .before .before .before .before .before .before .before .before .before .before .before .before .before .before .before .before .before .before .before .before .before .before .pre .2), omega arith, below-kept (c .before .before .before .before .before .before .before .before .before .before .before .before .before .before .before .before .before .before .before .before .before .before .before .before .args .places .now) (2 * c .before .before .before .before .before .before .before .before .before .before .before .before .before .before .before .before .before .before .before .before .before .before .before .before .args .slot) (c .before .before .before .before .before .before .before .before .before .before .before .before .before .before .before .before .before .before .before .before .before .before .before .before .args .at) (c .before .before .before .before .before .before .before .before .before .before .before .p .given .0 .1 .1 .0))
+returns c =
+    let c1 = c .before in
+    let c7 = c1 .before .before .before .before .before .before in
+    let c11 = c7 .before .before .before .before in
+    let c17 = c11 .before .before .before .before .before .before in
+    let c24 = c17 .before .before .before .before .before .before .before in
+    let b : c11 .p .given .0 .1 .1 .0 ≤ c24 .args .at + 66183 = subst (λ (t : SetRead). setFits t (c24 .args .at + 66183)) (c11 .p .given .1)
+    (c17 .read-set .ensures .1) .2 in
+    let d : c1 .q .given .0 .1 .1 .0 ≤ c11 .p .given .0 .1 .1 .0 + 66183 = subst (λ (t : SetRead). setFits t (c11 .p .given .0 .1 .1 .0 + 66183))
+    (c1 .q .given .1) (c7 .read-set2 .ensures .1) .2 in (
+      orientation-in (c24 .args .bytes .now) (c24 .args .at) (c17 .read-set .ensures .0 ∙ ap
+          (λ (t : SetRead). setRead t (c17 .read-set .last .1 .1 .0) (c17 .read-set .last .1 .1 .1 .0)) (c11 .p .given .1)) (c24 .args .places .now)
+          (c24 .args .slot) (c7 .read-set2 .ensures .0 ∙ ap (λ (t : SetRead). setRead t (c7 .read-set2 .last .1 .1 .0) (c7 .read-set2 .last .1 .1 .1 .0))
+          (c1 .q .given .1)) (c24 .pre .1) (c24 .pre .2),
+      omega arith,
+      below-kept (c24 .args .places .now) (2 * c24 .args .slot) (c24 .args .at)
+          (c11 .p .given .0 .1 .1 .0),
+    )
 
 same-length-4 : tie.Need-same-length-4
 same-length-4 c = search needs
@@ -74,7 +94,17 @@ same-length-5 : tie.Need-same-length-5
 same-length-5 c = search needs
 
 returns-2 : tie.Need-returns-2
-returns-2 c = (orientation-inset (c .before .before .before .before .before .before .before .before .before .before .before .before .before .before .before .before .before .before .before .before .before .before .before .before .args .bytes .now) (c .before .before .before .before .before .before .before .before .before .before .before .before .before .before .before .before .before .before .before .before .before .before .before .before .args .at) (c .before .before .before .before .before .before .before .before .before .before .before .before .before .before .before .before .before .read-set .ensures .0 ∙ ap (λ (t : SetRead). setRead t (c .before .before .before .before .before .before .before .before .before .before .before .before .before .before .before .before .before .read-set .last .1 .1 .0) (c .before .before .before .before .before .before .before .before .before .before .before .before .before .before .before .before .before .read-set .last .1 .1 .1 .0)) (c .before .before .before .before .before .before .before .before .before .before .before .p .given .1)) (c .before .before .before .before .before .before .before .read-set2 .ensures .0 ∙ ap (λ (t : SetRead). setRead t (c .before .before .before .before .before .before .before .read-set2 .last .1 .1 .0) (c .before .before .before .before .before .before .before .read-set2 .last .1 .1 .1 .0)) (c .before .k .given .1)), tt, refl)
+returns-2 c =
+    let c7 = c .before .before .before .before .before .before .before in
+    let c11 = c7 .before .before .before .before in
+    let c17 = c11 .before .before .before .before .before .before in
+    let c24 = c17 .before .before .before .before .before .before .before in (
+      orientation-inset (c24 .args .bytes .now) (c24 .args .at) (c17 .read-set .ensures .0 ∙ ap
+          (λ (t : SetRead). setRead t (c17 .read-set .last .1 .1 .0) (c17 .read-set .last .1 .1 .1 .0)) (c11 .p .given .1))
+          (c7 .read-set2 .ensures .0 ∙ ap (λ (t : SetRead). setRead t (c7 .read-set2 .last .1 .1 .0) (c7 .read-set2 .last .1 .1 .1 .0)) (c .before .k .given .1)),
+      tt,
+      refl,
+    )
 
 same-length-6 : tie.Need-same-length-6
 same-length-6 c = search needs
@@ -83,7 +113,14 @@ same-length-7 : tie.Need-same-length-7
 same-length-7 c = search needs
 
 returns-3 : tie.Need-returns-3
-returns-3 c = (orientation-apart (c .before .before .before .before .before .before .before .before .before .before .before .before .before .before .args .bytes .now) (c .before .before .before .before .before .before .before .before .before .before .before .before .before .before .args .at) (c .before .before .before .before .before .before .before .read-set .ensures .0 ∙ ap (λ (t : SetRead). setRead t (c .before .before .before .before .before .before .before .read-set .last .1 .1 .0) (c .before .before .before .before .before .before .before .read-set .last .1 .1 .1 .0)) (c .before .k2 .given .1)), tt, refl)
+returns-3 c =
+    let c7 = c .before .before .before .before .before .before .before in
+    let c14 = c7 .before .before .before .before .before .before .before in (
+      orientation-apart (c14 .args .bytes .now) (c14 .args .at) (c7 .read-set .ensures .0 ∙ ap
+          (λ (t : SetRead). setRead t (c7 .read-set .last .1 .1 .0) (c7 .read-set .last .1 .1 .1 .0)) (c .before .k2 .given .1)),
+      tt,
+      refl,
+    )
 
 pub read-orientation-spec : {M : Type 1} → statement M
 read-orientation-spec =

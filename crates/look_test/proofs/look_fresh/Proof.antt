@@ -32,26 +32,40 @@ slice-aggregate-enter-both-5 c = sym (length-replicate {A = ℕ} 512 1)
 
 enter-both-requires : tie.Need-enter-both-requires
 enter-both-requires c κs =
-    let p = c .before .before .before .before .before .before .before .before .before .before .before .before .before .pre in
+    let c13 = c .before .before .before .before .before .before .before .before .before .before .before .before .before in
+    let p = c13 .pre in
     (p .2, p .3, length-replicate {A = ℕ} 513 1, length-replicate {A = ℕ} 513 1, length-replicate {A = ℕ} 512 1)
 
 slice-aggregate-look-twice : tie.Need-slice-aggregate-look-twice
-slice-aggregate-look-twice c = c .before .before .before .before .before .before .before .before .before .before .before .before .before .before .before .table .ensures ∙ sym (c .before .before .before .before .before .before .before .enter-both .kept .1 .1 .1 .0)
+slice-aggregate-look-twice c =
+    let c7 = c .before .before .before .before .before .before .before in
+    let c15 = c7 .before .before .before .before .before .before .before .before in
+    c15 .table .ensures ∙ sym (c7 .enter-both .kept .1 .1 .1 .0)
 
 slice-aggregate-look-twice-2 : tie.Need-slice-aggregate-look-twice-2
-slice-aggregate-look-twice-2 c = sym (c .before .before .before .before .before .before .before .before .enter-both .kept .1 .1 .1 .1 .0 ∙ length-replicate {A = ℕ} 513 1)
+slice-aggregate-look-twice-2 c =
+    let c8 = c .before .before .before .before .before .before .before .before in
+    sym (c8 .enter-both .kept .1 .1 .1 .1 .0 ∙ length-replicate {A = ℕ} 513 1)
 
 slice-aggregate-look-twice-3 : tie.Need-slice-aggregate-look-twice-3
-slice-aggregate-look-twice-3 c = c .before .before .before .before .before .before .before .before .before .before .before .before .before .before .before .before .table2 .ensures ∙ sym (c .before .before .before .before .before .before .before .before .before .enter-both .kept .1 .1 .1 .1 .1 .0)
+slice-aggregate-look-twice-3 c =
+    let c9 = c .before .before .before .before .before .before .before .before .before in
+    let c16 = c9 .before .before .before .before .before .before .before in
+    c16 .table2 .ensures ∙ sym (c9 .enter-both .kept .1 .1 .1 .1 .1 .0)
 
 slice-aggregate-look-twice-4 : tie.Need-slice-aggregate-look-twice-4
-slice-aggregate-look-twice-4 c = sym (c .before .before .before .before .before .before .before .before .before .before .enter-both .kept .1 .1 .1 .1 .1 .1 .0 ∙ length-replicate {A = ℕ} 513 1)
+slice-aggregate-look-twice-4 c =
+    let c10 = c .before .before .before .before .before .before .before .before .before .before in
+    sym (c10 .enter-both .kept .1 .1 .1 .1 .1 .1 .0 ∙ length-replicate {A = ℕ} 513 1)
 
 look-twice-requires : tie.Need-look-twice-requires
 look-twice-requires c κs =
-    let n = c .before .before .before .before .before .before .before .before .before .before .before .before .before .before .before .before .before .new in
-    let e = c .before .before .before .before .before .before .before .before .before .before .before .enter-both .ensures (c .before .before .before .before .before .if1 .taken) in
-    let p = c .before .before .before .before .before .before .before .before .before .before .before .before .before .before .before .before .before .before .before .before .before .before .before .before .before .pre in
+    let c11 = c .before .before .before .before .before .before .before .before .before .before .before in
+    let c17 = c11 .before .before .before .before .before .before in
+    let c25 = c17 .before .before .before .before .before .before .before .before in
+    let n = c17 .new in
+    let e = c11 .enter-both .ensures (c .before .before .before .before .before .if1 .taken) in
+    let p = c25 .pre in
     lookable _ _ _ _ _ _ _ _ _ _ _ _ _ (n .result) (n .ensures) (p .0) (p .1) (e .0) (e .1)
 
 same-length : tie.Need-same-length

@@ -21,16 +21,26 @@ zero-requires-4 : tie.Need-zero-requires-4
 zero-requires-4 c κs = tt
 
 same-length : tie.Need-same-length
-same-length c = c .before .before .before .before .before .before .before .before .before .before .before .before .before .before .before .before .before .before .before .before .before .before .zero .kept .0
+same-length c =
+    let c16 = c .before .before .before .before .before .before .before .before .before .before .before .before .before .before .before .before in
+    let c22 = c16 .before .before .before .before .before .before in
+    c22 .zero .kept .0
 
 same-length-2 : tie.Need-same-length-2
-same-length-2 c = c .before .before .before .before .before .before .before .before .before .before .before .before .before .before .before .before .before .before .zero2 .kept .0
+same-length-2 c =
+    let c16 = c .before .before .before .before .before .before .before .before .before .before .before .before .before .before .before .before in
+    let c18 = c16 .before .before in
+    c18 .zero2 .kept .0
 
 same-length-3 : tie.Need-same-length-3
-same-length-3 c = c .before .before .before .before .before .before .before .before .before .before .before .before .before .before .zero3 .kept .0
+same-length-3 c =
+    let c14 = c .before .before .before .before .before .before .before .before .before .before .before .before .before .before in
+    c14 .zero3 .kept .0
 
 same-length-4 : tie.Need-same-length-4
-same-length-4 c = c .before .before .before .before .before .before .before .before .before .before .zero-numbers .kept .0
+same-length-4 c =
+    let c10 = c .before .before .before .before .before .before .before .before .before .before in
+    c10 .zero-numbers .kept .0
 
 same-length-5 : tie.Need-same-length-5
 same-length-5 c = c .before .before .before .before .before .before .zero-numbers2 .kept .0
@@ -39,7 +49,18 @@ same-length-6 : tie.Need-same-length-6
 same-length-6 c = c .before .before .zero4 .kept .0
 
 returns : tie.Need-returns
-returns c = (c .before .before .before .before .before .before .before .before .before .before .before .before .before .before .before .before .before .before .before .before .before .before .zero .ensures, c .before .before .before .before .before .before .before .before .before .before .before .before .before .before .before .before .before .before .zero2 .ensures, c .before .before .before .before .before .before .before .before .before .before .before .before .before .before .zero3 .ensures, c .before .before .before .before .before .before .before .before .before .before .zero-numbers .ensures, c .before .before .before .before .before .before .zero-numbers2 .ensures, c .before .before .zero4 .ensures)
+returns c =
+    let c10 = c .before .before .before .before .before .before .before .before .before .before in
+    let c14 = c10 .before .before .before .before in
+    let c18 = c14 .before .before .before .before in
+    let c22 = c18 .before .before .before .before in (
+      c22 .zero .ensures,
+      c18 .zero2 .ensures,
+      c14 .zero3 .ensures,
+      c10 .zero-numbers .ensures,
+      c .before .before .before .before .before .before .zero-numbers2 .ensures,
+      c .before .before .zero4 .ensures,
+    )
 
 pub clear-spec : {M : Type 1} → statement M
 clear-spec =

@@ -20,15 +20,23 @@ enum-known-k : tie.Need-enum-known-k
 enum-known-k c = search needs
 
 add-end : tie.Need-add-end
-add-end c = let b : c .before .before .before .before .before .before .args .before + c .before .k .given .0 .0 ≤ 512 = subst (λ (t : Counted). c .before .before .before .before .before .before .args .before + countOf t ≤ 512) (c .before .k .given .1) (c .before .before .before .read-point-count .ensures .1) in
+add-end c =
+    let c1 = c .before in
+    let c6 = c1 .before .before .before .before .before in
+    let b : c6 .args .before + c1 .k .given .0 .0 ≤ 512 = subst (λ (t : Counted). c6 .args .before + countOf t ≤ 512) (c1 .k .given .1)
+    (c .before .before .before .read-point-count .ensures .1) in
     omega arith
 
 add-read-points : tie.Need-add-read-points
 add-read-points c = search needs
 
 read-points-requires : tie.Need-read-points-requires
-read-points-requires c κs = let b : c .before .before .before .before .before .before .before .args .before + c .before .before .k .given .0 .0 ≤ 512 = subst (λ (t : Counted). c .before .before .before .before .before .before .before .args .before + countOf t ≤ 512) (c .before .before .k .given .1) (c .before .before .before .before .read-point-count .ensures .1) in
-    (omega arith, b, c .before .before .before .before .before .before .before .pre .2)
+read-points-requires c κs =
+    let c2 = c .before .before in
+    let c7 = c2 .before .before .before .before .before in
+    let b : c7 .args .before + c2 .k .given .0 .0 ≤ 512 = subst (λ (t : Counted). c7 .args .before + countOf t ≤ 512) (c2 .k .given .1)
+    (c .before .before .before .before .read-point-count .ensures .1) in
+    (omega arith, b, c7 .pre .2)
 
 enum-known-q : tie.Need-enum-known-q
 enum-known-q c = search needs
@@ -43,18 +51,46 @@ same-length : tie.Need-same-length
 same-length c = search needs
 
 returns : tie.Need-returns
-returns c = let b : c .before .before .before .before .before .before .before .before .before .before .before .before .before .args .before + c .before .before .before .before .before .before .before .before .k .given .0 .0 ≤ 512 = subst (λ (t : Counted). c .before .before .before .before .before .before .before .before .before .before .before .before .before .args .before + countOf t ≤ 512) (c .before .before .before .before .before .before .before .before .k .given .1) (c .before .before .before .before .before .before .before .before .before .before .read-point-count .ensures .1) in
-    let d : c .before .q .given .0 .0 ≤ c .before .before .before .before .before .before .before .before .before .before .before .before .before .args .at + 10 + 128 * c .before .before .before .before .before .before .before .before .k .given .0 .0 = subst (λ (t : Run). runFits t (c .before .before .before .before .before .before .before .before .before .before .before .before .before .args .at + 10 + 128 * c .before .before .before .before .before .before .before .before .k .given .0 .0)) (c .before .q .given .1) (c .before .before .before .before .before .read-points .ensures .1) in
-    (loop-in (c .before .before .before .before .before .before .before .before .before .before .before .before .before .args .bytes .now) (c .before .before .before .before .before .before .before .before .before .before .before .before .before .args .at) (c .before .before .before .before .before .before .before .before .before .before .before .before .before .args .before) (take (2 * c .before .before .before .before .before .before .before .before .before .before .before .before .before .args .before) (c .before .before .before .before .before .before .before .before .before .before .before .before .before .args .room .now)) (c .before .before .before .before .before .before .before .before .before .before .read-point-count .ensures .0 ∙ ap (λ (t : Counted). counted t (c .before .before .before .before .before .before .before .before .before .before .before .before .before .args .at + 10)) (c .before .before .before .before .before .before .before .before .k .given .1)) (c .before .before .before .before .before .read-points .ensures .0 ∙ ap (λ (t : Run). runRead t (take (2 * (c .before .before .before .before .before .before .before .before .before .before .before .before .before .args .before + c .before .before .before .before .before .before .before .before .k .given .0 .0)) (c .before .before .before .before .before .read-points .last .1 .1 .1 .0))) (c .before .q .given .1)), (omega arith, b, omega arith))
+returns c =
+    let c1 = c .before in
+    let c5 = c1 .before .before .before .before in
+    let c8 = c5 .before .before .before in
+    let c10 = c8 .before .before in
+    let c13 = c10 .before .before .before in
+    let b : c13 .args .before + c8 .k .given .0 .0 ≤ 512 = subst (λ (t : Counted). c13 .args .before + countOf t ≤ 512) (c8 .k .given .1)
+    (c10 .read-point-count .ensures .1) in
+    let d : c1 .q .given .0 .0 ≤ c13 .args .at + 10 + 128 * c8 .k .given .0 .0 = subst (λ (t : Run). runFits t (c13 .args .at + 10 + 128 * c8 .k .given .0 .0))
+    (c1 .q .given .1) (c5 .read-points .ensures .1) in (
+      loop-in (c13 .args .bytes .now) (c13 .args .at) (c13 .args .before) (take (2 * c13 .args .before) (c13 .args .room .now))
+          (c10 .read-point-count .ensures .0 ∙ ap (λ (t : Counted). counted t (c13 .args .at + 10)) (c8 .k .given .1))
+          (c5 .read-points .ensures .0 ∙ ap (λ (t : Run). runRead t (take (2 * (c13 .args .before + c8 .k .given .0 .0)) (c5 .read-points .last .1 .1 .1 .0)))
+          (c1 .q .given .1)),
+      (omega arith, b, omega arith),
+    )
 
 same-length-2 : tie.Need-same-length-2
 same-length-2 c = search needs
 
 returns-2 : tie.Need-returns-2
-returns-2 c = (loop-bad (c .before .before .before .before .before .before .before .before .before .before .before .before .before .args .bytes .now) (c .before .before .before .before .before .before .before .before .before .before .before .before .before .args .at) (c .before .before .before .before .before .before .before .before .before .before .before .before .before .args .before) (take (2 * c .before .before .before .before .before .before .before .before .before .before .before .before .before .args .before) (c .before .before .before .before .before .before .before .before .before .before .before .before .before .args .room .now)) (c .before .before .before .before .before .before .before .before .before .before .read-point-count .ensures .0 ∙ ap (λ (t : Counted). counted t (c .before .before .before .before .before .before .before .before .before .before .before .before .before .args .at + 10)) (c .before .before .before .before .before .before .before .before .k .given .1)) (c .before .before .before .before .before .read-points .ensures .0 ∙ ap (λ (t : Run). runRead t (take (2 * (c .before .before .before .before .before .before .before .before .before .before .before .before .before .args .before + c .before .before .before .before .before .before .before .before .k .given .0 .0)) (c .before .before .before .before .before .read-points .last .1 .1 .1 .0))) (c .before .j .given .1)), tt)
+returns-2 c =
+    let c5 = c .before .before .before .before .before in
+    let c8 = c5 .before .before .before in
+    let c10 = c8 .before .before in
+    let c13 = c10 .before .before .before in (
+      loop-bad (c13 .args .bytes .now) (c13 .args .at) (c13 .args .before) (take (2 * c13 .args .before) (c13 .args .room .now))
+          (c10 .read-point-count .ensures .0 ∙ ap (λ (t : Counted). counted t (c13 .args .at + 10)) (c8 .k .given .1))
+          (c5 .read-points .ensures .0 ∙ ap (λ (t : Run). runRead t (take (2 * (c13 .args .before + c8 .k .given .0 .0)) (c5 .read-points .last .1 .1 .1 .0)))
+          (c .before .j .given .1)),
+      tt,
+    )
 
 returns-3 : tie.Need-returns-3
-returns-3 c = (loop-count (c .before .before .before .before .before .before .args .bytes .now) (c .before .before .before .before .before .before .args .at) (c .before .before .before .before .before .before .args .before) (take (2 * c .before .before .before .before .before .before .args .before) (c .before .before .before .before .before .before .args .room .now)) (c .before .before .before .read-point-count .ensures .0 ∙ ap (λ (t : Counted). counted t (c .before .before .before .before .before .before .args .at + 10)) (c .before .j2 .given .1)), tt)
+returns-3 c =
+    let c6 = c .before .before .before .before .before .before in (
+      loop-count (c6 .args .bytes .now) (c6 .args .at) (c6 .args .before) (take (2 * c6 .args .before) (c6 .args .room .now))
+          (c .before .before .before .read-point-count .ensures .0 ∙ ap (λ (t : Counted). counted t (c6 .args .at + 10)) (c .before .j2 .given .1)),
+      tt,
+    )
 
 pub read-loop-spec : {M : Type 1} → statement M
 read-loop-spec =

@@ -16,10 +16,14 @@ abbrev μ-loop : tie.MeasureT-loop
 μ-loop bytes at n room₀ ends₀ i₀ p₀ before₀ room ends i p before = n - i
 
 loop-holds : tie.Need-loop-holds Inv-loop μ-loop
-loop-holds c = loops-start (c .before .before .before .args .bytes .now) (c .before .before .before .args .at) (c .before .before .before .args .n) (c .before .before .before .args .room .now) (c .before .before .before .args .ends .now)
+loop-holds c =
+    let c3 = c .before .before .before in
+    loops-start (c3 .args .bytes .now) (c3 .args .at) (c3 .args .n) (c3 .args .room .now) (c3 .args .ends .now)
 
 read-loop-requires : tie.Need-read-loop-requires Inv-loop μ-loop
-read-loop-requires c κs = (omega (arith, c .before .before .loop .inv .place, c .before .before .loop .inv .few), c .before .before .loop .inv .few, omega (arith, c .before .before .loop .inv .long))
+read-loop-requires c κs =
+    let c2 = c .before .before in
+    (omega (arith, c2 .loop .inv .place, c2 .loop .inv .few), c2 .loop .inv .few, omega (arith, c2 .loop .inv .long))
 
 enum-known-m : tie.Need-enum-known-m Inv-loop μ-loop
 enum-known-m c = search needs
@@ -28,19 +32,34 @@ mul-ends : tie.Need-mul-ends Inv-loop μ-loop
 mul-ends c = search needs
 
 slice-write-ends : tie.Need-slice-write-ends Inv-loop μ-loop
-slice-write-ends c = omega (arith, c .before .before .before .before .before .before .before .before .loop .inv .longEnds)
+slice-write-ends c =
+    let c8 = c .before .before .before .before .before .before .before .before in
+    omega (arith, c8 .loop .inv .longEnds)
 
 enum-known-k : tie.Need-enum-known-k Inv-loop μ-loop
 enum-known-k c = search needs
 
 same-length : tie.Need-same-length Inv-loop μ-loop
-same-length c = c .before .before .before .before .before .read-loop .kept .1 .1 .0 ∙ c .before .before .before .before .before .before .before .before .loop .inv .long
+same-length c =
+    let c8 = c .before .before .before .before .before .before .before .before in
+    c .before .before .before .before .before .read-loop .kept .1 .1 .0 ∙ c8 .loop .inv .long
 
 same-length-2 : tie.Need-same-length-2 Inv-loop μ-loop
-same-length-2 c = c .before .before .before .before .before .before .before .before .loop .inv .longEnds
+same-length-2 c =
+    let c8 = c .before .before .before .before .before .before .before .before in
+    c8 .loop .inv .longEnds
 
 returns : tie.Need-returns Inv-loop μ-loop
-returns c = (loops-end (c .before .before .before .before .before .before .before .before .before .before .before .before .args .bytes .now) (c .before .before .before .before .before .before .before .before .before .before .before .before .args .at) (c .before .before .before .before .before .before .before .before .before .before .before .before .args .n) (c .before .before .before .before .before .before .before .before .before .before .before .before .args .room .now) (c .before .before .before .before .before .before .before .before .before .before .before .before .args .ends .now) (c .before .before .before .before .before .before .before .before .loop .room) (c .before .before .before .before .before .before .before .before .loop .ends) (c .before .before .before .before .before .before .before .before .loop .i) (c .before .before .before .before .before .before .before .before .loop .p) (c .before .before .before .before .before .before .before .before .loop .before) (c .before .before .before .before .before .before .before .before .loop .inv) (c .before .before .before .before .before .read-loop .ensures .0 ∙ ap (λ (t : LoopRead). loopRead t (c .before .before .before .before .before .read-loop .last .1 .1 .0)) (c .before .k .given .1)) (c .before .before .before .before .before .before .before .loop-test .taken), tt)
+returns c =
+    let c5 = c .before .before .before .before .before in
+    let c7 = c5 .before .before in
+    let c8 = c7 .before in
+    let c12 = c8 .before .before .before .before in (
+      loops-end (c12 .args .bytes .now) (c12 .args .at) (c12 .args .n) (c12 .args .room .now) (c12 .args .ends .now) (c8 .loop .room) (c8 .loop .ends)
+          (c8 .loop .i) (c8 .loop .p) (c8 .loop .before) (c8 .loop .inv) (c5 .read-loop .ensures .0 ∙ ap
+          (λ (t : LoopRead). loopRead t (c5 .read-loop .last .1 .1 .0)) (c .before .k .given .1)) (c7 .loop-test .taken),
+      tt,
+    )
 
 add-i : tie.Need-add-i Inv-loop μ-loop
 add-i c = search needs
@@ -49,7 +68,17 @@ loop-less : tie.Need-loop-less Inv-loop μ-loop
 loop-less c = search needs
 
 loop-again : tie.Need-loop-again Inv-loop μ-loop
-loop-again c = loops-on (c .before .before .before .before .before .before .before .before .before .before .before .before .args .bytes .now) (c .before .before .before .before .before .before .before .before .before .before .before .before .args .at) (c .before .before .before .before .before .before .before .before .before .before .before .before .args .n) (c .before .before .before .before .before .before .before .before .before .before .before .before .args .room .now) (c .before .before .before .before .before .before .before .before .before .before .before .before .args .ends .now) (c .before .before .before .before .before .before .before .before .loop .room) (c .before .before .before .before .before .before .before .before .loop .ends) (c .before .before .before .before .before .before .before .before .loop .i) (c .before .before .before .before .before .before .before .before .loop .p) (c .before .before .before .before .before .before .before .before .loop .before) (c .before .before .before .before .before .before .before .before .loop .inv) (c .before .before .before .before .before .read-loop .ensures .0 ∙ ap (λ (t : LoopRead). loopRead t (c .before .before .before .before .before .read-loop .last .1 .1 .0)) (c .before .m .given .1)) (subst (λ (t : LoopRead). loopFits t (c .before .before .before .before .before .before .before .before .loop .p) (c .before .before .before .before .before .before .before .before .loop .before)) (c .before .m .given .1) (c .before .before .before .before .before .read-loop .ensures .1)) (c .before .before .before .before .before .read-loop .kept .1 .1 .0) (c .before .before .before .before .before .before .before .loop-test .taken) (c .before .before .before .before .before .before .before .before .before .before .before .before .pre .1) (c .before .before .before .before .before .before .before .before .before .before .before .before .pre .3)
+loop-again c =
+    let c1 = c .before in
+    let c5 = c1 .before .before .before .before in
+    let c7 = c5 .before .before in
+    let c8 = c7 .before in
+    let c12 = c8 .before .before .before .before in
+    loops-on (c12 .args .bytes .now) (c12 .args .at) (c12 .args .n) (c12 .args .room .now) (c12 .args .ends .now) (c8 .loop .room) (c8 .loop .ends)
+    (c8 .loop .i) (c8 .loop .p) (c8 .loop .before) (c8 .loop .inv) (c5 .read-loop .ensures .0 ∙ ap
+    (λ (t : LoopRead). loopRead t (c5 .read-loop .last .1 .1 .0)) (c1 .m .given .1))
+    (subst (λ (t : LoopRead). loopFits t (c8 .loop .p) (c8 .loop .before)) (c1 .m .given .1) (c5 .read-loop .ensures .1)) (c5 .read-loop .kept .1 .1 .0)
+    (c7 .loop-test .taken) (c12 .pre .1) (c12 .pre .3)
 
 same-length-3 : tie.Need-same-length-3 Inv-loop μ-loop
 same-length-3 c = c .before .loop .inv .long
@@ -58,7 +87,11 @@ same-length-4 : tie.Need-same-length-4 Inv-loop μ-loop
 same-length-4 c = c .before .loop .inv .longEnds
 
 returns-2 : tie.Need-returns-2 Inv-loop μ-loop
-returns-2 c = loops-all (c .before .before .before .before .before .args .bytes .now) (c .before .before .before .before .before .args .at) (c .before .before .before .before .before .args .n) (c .before .before .before .before .before .args .room .now) (c .before .before .before .before .before .args .ends .now) (c .before .loop .room) (c .before .loop .ends) (c .before .loop .i) (c .before .loop .p) (c .before .loop .before) (c .before .loop .inv) (c .loop-test .left) (c .before .before .before .before .before .pre .1)
+returns-2 c =
+    let c1 = c .before in
+    let c5 = c1 .before .before .before .before in
+    loops-all (c5 .args .bytes .now) (c5 .args .at) (c5 .args .n) (c5 .args .room .now) (c5 .args .ends .now) (c1 .loop .room) (c1 .loop .ends) (c1 .loop .i)
+    (c1 .loop .p) (c1 .loop .before) (c1 .loop .inv) (c .loop-test .left) (c5 .pre .1)
 
 pub read-loops-spec : {M : Type 1} → statement M
 read-loops-spec =

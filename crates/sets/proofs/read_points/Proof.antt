@@ -17,7 +17,9 @@ abbrev μ-loop : tie.MeasureT-loop
 μ-loop bytes at n room₀ first i₀ p₀ room i p = n - i
 
 loop-holds : tie.Need-loop-holds Inv-loop μ-loop
-loop-holds c = points-start (c .before .before .args .bytes .now) (c .before .before .args .at) (c .before .before .args .n) (c .before .before .args .first) (c .before .before .args .room .now)
+loop-holds c =
+    let c2 = c .before .before in
+    points-start (c2 .args .bytes .now) (c2 .args .at) (c2 .args .n) (c2 .args .first) (c2 .args .room .now)
 
 read-point-requires : tie.Need-read-point-requires Inv-loop μ-loop
 read-point-requires c κs = omega (arith, c .before .loop .inv .place)
@@ -53,7 +55,14 @@ same-length : tie.Need-same-length Inv-loop μ-loop
 same-length c = c .before .before .before .before .before .loop .inv .long
 
 returns : tie.Need-returns Inv-loop μ-loop
-returns c = (points-end (c .before .before .before .before .before .before .before .before .args .bytes .now) (c .before .before .before .before .before .before .before .before .args .at) (c .before .before .before .before .before .before .before .before .args .n) (c .before .before .before .before .before .before .before .before .args .first) (c .before .before .before .before .before .before .before .before .args .room .now) (c .before .before .before .before .before .loop .room) (c .before .before .before .before .before .loop .i) (c .before .before .before .before .before .loop .p) (c .before .before .before .before .before .loop .inv) (c .before .before .before .read-point .ensures ∙ ap (λ (t : PointRead). pointRead t (c .before .before .before .before .before .loop .p + 64 + 64)) (c .before .k .given .1)) (c .before .before .before .before .loop-test .taken), tt)
+returns c =
+    let c5 = c .before .before .before .before .before in
+    let c8 = c5 .before .before .before in (
+      points-end (c8 .args .bytes .now) (c8 .args .at) (c8 .args .n) (c8 .args .first) (c8 .args .room .now) (c5 .loop .room) (c5 .loop .i) (c5 .loop .p)
+          (c5 .loop .inv) (c .before .before .before .read-point .ensures ∙ ap (λ (t : PointRead). pointRead t (c5 .loop .p + 64 + 64)) (c .before .k .given .1))
+          (c .before .before .before .before .loop-test .taken),
+      tt,
+    )
 
 add-i : tie.Need-add-i Inv-loop μ-loop
 add-i c = search needs
@@ -65,13 +74,22 @@ loop-less : tie.Need-loop-less Inv-loop μ-loop
 loop-less c = search needs
 
 loop-again : tie.Need-loop-again Inv-loop μ-loop
-loop-again c = points-on (c .before .before .before .before .before .before .before .before .args .bytes .now) (c .before .before .before .before .before .before .before .before .args .at) (c .before .before .before .before .before .before .before .before .args .n) (c .before .before .before .before .before .before .before .before .args .first) (c .before .before .before .before .before .before .before .before .args .room .now) (c .before .before .before .before .before .loop .room) (c .before .before .before .before .before .loop .i) (c .before .before .before .before .before .loop .p) (c .before .before .before .before .before .loop .inv) (c .before .before .before .read-point .ensures ∙ ap (λ (t : PointRead). pointRead t (c .before .before .before .before .before .loop .p + 64 + 64)) (c .before .x .given .1)) (c .before .before .before .before .loop-test .taken) (c .before .before .before .before .before .before .before .before .pre .1) (c .before .before .before .before .before .before .before .before .pre .2)
+loop-again c =
+    let c5 = c .before .before .before .before .before in
+    let c8 = c5 .before .before .before in
+    points-on (c8 .args .bytes .now) (c8 .args .at) (c8 .args .n) (c8 .args .first) (c8 .args .room .now) (c5 .loop .room) (c5 .loop .i) (c5 .loop .p)
+    (c5 .loop .inv) (c .before .before .before .read-point .ensures ∙ ap (λ (t : PointRead). pointRead t (c5 .loop .p + 64 + 64)) (c .before .x .given .1))
+    (c .before .before .before .before .loop-test .taken) (c8 .pre .1) (c8 .pre .2)
 
 same-length-2 : tie.Need-same-length-2 Inv-loop μ-loop
 same-length-2 c = c .before .loop .inv .long
 
 returns-2 : tie.Need-returns-2 Inv-loop μ-loop
-returns-2 c = points-all (c .before .before .before .before .args .bytes .now) (c .before .before .before .before .args .at) (c .before .before .before .before .args .n) (c .before .before .before .before .args .first) (c .before .before .before .before .args .room .now) (c .before .loop .room) (c .before .loop .i) (c .before .loop .p) (c .before .loop .inv) (c .loop-test .left)
+returns-2 c =
+    let c1 = c .before in
+    let c4 = c1 .before .before .before in
+    points-all (c4 .args .bytes .now) (c4 .args .at) (c4 .args .n) (c4 .args .first) (c4 .args .room .now) (c1 .loop .room) (c1 .loop .i) (c1 .loop .p)
+    (c1 .loop .inv) (c .loop-test .left)
 
 pub read-points-spec : {M : Type 1} → statement M
 read-points-spec =

@@ -16,7 +16,9 @@ use Rattle.slab.proofs.wind.Tie as tie
 
 abbrev Inv-loop : tie.InvT-loop
 Inv-loop rows m sheet bottom top xa xb room₀ n k₀ w₀ la₀ lb₀ count₀ room k w la lb count =
-    (k ≤ m) × (k ≤ w) × (w + k ≤ m + m) × (length room ≡ length room₀) × (hold (record { room = room; count = count }) (walk sheet top xa xb (pos w -ℤ pos m) la lb (down (crossingAt rows) k)) ≡ hold (record { room = room₀; count = n }) (walk sheet top xa xb (pos 0) bottom bottom (down (crossingAt rows) m)))
+    (k ≤ m) × (k ≤ w) × (w + k ≤ m + m) × (length room ≡ length room₀) × (hold (record { room = room; count = count })
+    (walk sheet top xa xb (pos w -ℤ pos m) la lb (down (crossingAt rows) k)) ≡ hold (record { room = room₀; count = n })
+    (walk sheet top xa xb (pos 0) bottom bottom (down (crossingAt rows) m)))
 
 abbrev μ-loop : tie.MeasureT-loop
 μ-loop rows m sheet bottom top xa xb room₀ n k₀ w₀ la₀ lb₀ count₀ room k w la lb count =
@@ -24,7 +26,15 @@ abbrev μ-loop : tie.MeasureT-loop
 
 loop-holds : tie.Need-loop-holds Inv-loop μ-loop
 loop-holds c =
-    let a = c .before .before .args in (search needs, search needs, omega arith, refl, ap (λ (z : ℤ). hold (record { room = now (a .room); count = a .n }) (walk (a .sheet) (a .top) (a .xa) (a .xb) z (a .bottom) (a .bottom) (down (crossingAt (now (a .rows))) (a .m)))) (+ℤ-invr (pos (a .m))))
+    let a = c .before .before .args in (
+      search needs,
+      search needs,
+      omega arith,
+      refl,
+      ap
+          (λ (z : ℤ). hold (record { room = now (a .room); count = a .n }) (walk (a .sheet) (a .top) (a .xa) (a .xb) z (a .bottom) (a .bottom)
+          (down (crossingAt (now (a .rows))) (a .m)))) (+ℤ-invr (pos (a .m))),
+    )
 
 sub-k : tie.Need-sub-k Inv-loop μ-loop
 sub-k c = search needs
@@ -62,14 +72,27 @@ loop-less c = search needs
 
 loop-again : tie.Need-loop-again Inv-loop μ-loop
 loop-again c =
-    let l = c .before .before .before .before .before .before .before .before .before .before .before .before .before in let a = c .before .before .before .before .before .before .before .before .before .before .before .before .before .before .before .before .args in let g = c .before .before .before .before .close in let t = c .before .before .before .before .before .before .before .before .before .turned in let r = c .before .before .before .before .before .before .before .before .before .before .before .row-at in let p : 0 < l .loop .k = c .before .before .before .before .before .before .before .before .before .before .before .before .loop-test .taken in (
+    let c1 = c .before in
+    let c6 = c1 .before .before .before .before .before in
+    let c7 = c6 .before in
+    let c8 = c7 .before in
+    let c9 = c8 .before in
+    let c10 = c9 .before in
+    let c11 = c10 .before in
+    let c12 = c11 .before in
+    let c13 = c12 .before in
+    let c16 = c13 .before .before .before in
+    let l = c13 in let a = c16 .args in let g = c .before .before .before .before .close in let t = c9 .turned in let r = c11 .row-at in let p : 0 <
+    l .loop .k = c12 .loop-test .taken in (
       omega arith,
       turned-low (lt zeroBits (r .result .d)) (l .loop .w) (t .result) (l .loop .k) (a .m) (t .ensures) p (l .loop .inv .1),
       turned-high (lt zeroBits (r .result .d)) (l .loop .w) (t .result) (l .loop .k) (a .m) (t .ensures) p (l .loop .inv .1) (l .loop .inv .2),
       g .kept .1 .0 ∙ l .loop .inv .3,
-      wind-step (a .sheet) (a .top) (a .xa) (a .xb) (now (a .rows)) (a .m) (l .loop .k) (l .loop .w) (t .result) p (omega (arith, p, l .loop .inv .1)) (l .loop .la) (l .loop .lb) (l .loop .room) (g .last .1 .0) (l .loop .count) (g .result)
-          (r .result) (c .before .before .before .before .before .before .before .before .before .before .runs .result) (c .before .before .before .before .before .before .before .before .runs2 .result) (c .before .before .before .before .before .before .closes .result) (c .before .before .before .before .before .before .before .strip .result) (c .before .pick .result) (c .pick2 .result)
-          (r .ensures) (t .ensures) (c .before .before .before .before .before .before .before .before .before .before .runs .ensures) (c .before .before .before .before .before .before .before .before .runs2 .ensures) (c .before .before .before .before .before .before .before .strip .ensures) (c .before .before .before .before .before .before .closes .ensures) (g .ensures) (c .before .pick .ensures) (c .pick2 .ensures) ∙ l .loop .inv .4,
+      wind-step (a .sheet) (a .top) (a .xa) (a .xb) (now (a .rows)) (a .m) (l .loop .k) (l .loop .w) (t .result) p (omega (arith, p, l .loop .inv .1))
+          (l .loop .la) (l .loop .lb) (l .loop .room) (g .last .1 .0) (l .loop .count) (g .result)
+          (r .result) (c10 .runs .result) (c8 .runs2 .result) (c6 .closes .result) (c7 .strip .result) (c1 .pick .result) (c .pick2 .result)
+          (r .ensures) (t .ensures) (c10 .runs .ensures) (c8 .runs2 .ensures) (c7 .strip .ensures) (c6 .closes .ensures) (g .ensures) (c1 .pick .ensures)
+          (c .pick2 .ensures) ∙ l .loop .inv .4,
     )
 
 strip-requires-2 : tie.Need-strip-requires-2 Inv-loop μ-loop
@@ -86,12 +109,19 @@ close-requires-2 c κs = search needs
 
 same-length : tie.Need-same-length Inv-loop μ-loop
 same-length c =
-    c .before .before .close2 .kept .1 .0 ∙ c .before .before .before .before .before .before .before .before .loop .inv .3
+    let c8 = c .before .before .before .before .before .before .before .before in
+    c .before .before .close2 .kept .1 .0 ∙ c8 .loop .inv .3
 
 returns : tie.Need-returns Inv-loop μ-loop
 returns c =
-    let l = c .before .before .before .before .before .before .before .before in let a = c .before .before .before .before .before .before .before .before .before .before .before .args in let g = c .before .before .close2 in
-    g .ensures ∙ (wind-last (a .sheet) (a .top) (a .xa) (a .xb) (crossingAt (now (a .rows))) (l .loop .k) (omega arith) (pos (l .loop .w) -ℤ pos (a .m)) (l .loop .la) (l .loop .lb) (l .loop .room) (l .loop .count) (c .before .before .before .before .both .result) (c .before .before .before .before .before .before .strip2 .result) (c .before .before .before .before .before .before .strip2 .ensures) (c .before .before .before .before .both .ensures ∙ ap (λ (t : Bool). a .sheet && t) (c .before .before .before .before .before .runs3 .ensures)) ∙ l .loop .inv .4)
+    let c4 = c .before .before .before .before in
+    let c6 = c4 .before .before in
+    let c8 = c6 .before .before in
+    let c11 = c8 .before .before .before in
+    let l = c8 in let a = c11 .args in let g = c .before .before .close2 in
+    g .ensures ∙ (wind-last (a .sheet) (a .top) (a .xa) (a .xb) (crossingAt (now (a .rows))) (l .loop .k) (omega arith) (pos (l .loop .w) -ℤ pos (a .m))
+    (l .loop .la) (l .loop .lb) (l .loop .room) (l .loop .count) (c4 .both .result) (c6 .strip2 .result) (c6 .strip2 .ensures)
+    (c4 .both .ensures ∙ ap (λ (t : Bool). a .sheet && t) (c .before .before .before .before .before .runs3 .ensures)) ∙ l .loop .inv .4)
 
 pub wind-spec : {M : Type 1} → statement M
 wind-spec =

@@ -10,46 +10,44 @@ use Rattle.slots.proofs.slot_bounds.Lts as lts
 use Rattle.set_strips.proofs.set_bounds.Reads as set-bounds-reads
 use Rattle.slots.proofs.in_use.Reads as in-use-reads
 
--- src/lib.rt:114:8
 in-use-requires : tie.Need-in-use-requires
 in-use-requires c κs = search needs
 
--- src/lib.rt:115:25
 mul-at : tie.Need-mul-at
 mul-at c = search needs
 
--- src/lib.rt:115:25
 add-at : tie.Need-add-at
 add-at c = search needs
 
--- src/lib.rt:115:18
 mul-at-2 : tie.Need-mul-at-2
 mul-at-2 c = search needs
 
--- src/lib.rt:115:18
 shared-slice-read-at : tie.Need-shared-slice-read-at
 shared-slice-read-at c = search needs
 
--- src/lib.rt:116:9
 set-bounds-requires : tie.Need-set-bounds-requires
 set-bounds-requires c κs = search needs
 
--- src/lib.rt:116:9
 same-length : tie.Need-same-length
 same-length c = search needs
 
--- src/lib.rt:116:9
 same-length-2 : tie.Need-same-length-2
 same-length-2 c = search needs
 
--- src/lib.rt:116:9
 returns : tie.Need-returns
-returns c = c .before .before .before .before .set-bounds .ensures ∙ bounds-used (c .before .before .before .before .before .before .before .before .before .before .before .before .before .before .before .args .bytes .now) (c .before .before .before .before .before .before .before .before .before .before .before .before .before .before .before .args .rows .now) (c .before .before .before .before .before .before .before .before .before .before .before .before .before .before .before .args .places .now) (c .before .before .before .before .before .before .before .before .before .before .before .before .before .before .before .args .kinds) (c .before .before .before .before .before .before .before .before .before .before .before .before .before .before .before .args .i) (sym (c .before .before .before .before .before .before .before .before .before .in-use .ensures) ∙ c .before .before .before .before .before .before .before .before .if1 .taken)
+returns c =
+    let c8 = c .before .before .before .before .before .before .before .before in
+    let c9 = c8 .before in
+    let c15 = c9 .before .before .before .before .before .before in
+    c .before .before .before .before .set-bounds .ensures ∙ bounds-used (c15 .args .bytes .now) (c15 .args .rows .now) (c15 .args .places .now)
+    (c15 .args .kinds) (c15 .args .i) (sym (c9 .in-use .ensures) ∙ c8 .if1 .taken)
 
--- src/lib.rt:102:1
 returns-2 : tie.Need-returns-2
 unfolding noBounds lib.Ieee.ofBits
-returns-2 c = bounds-unused (c .before .before .before .before .before .before .before .args .bytes .now) (c .before .before .before .before .before .before .before .args .rows .now) (c .before .before .before .before .before .before .before .args .places .now) (c .before .before .before .before .before .before .before .args .kinds) (c .before .before .before .before .before .before .before .args .i) (sym (c .before .in-use .ensures) ∙ c .if1 .left)
+returns-2 c =
+    let c7 = c .before .before .before .before .before .before .before in
+    bounds-unused (c7 .args .bytes .now) (c7 .args .rows .now) (c7 .args .places .now) (c7 .args .kinds) (c7 .args .i)
+    (sym (c .before .in-use .ensures) ∙ c .if1 .left)
 
 pub slot-bounds-spec : {M : Type 1} → statement M
 slot-bounds-spec =

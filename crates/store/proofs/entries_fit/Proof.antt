@@ -19,41 +19,50 @@ Inv-loop ix apart x left count rest₀ j₀ rest j = Counting ix apart x left re
 abbrev μ-loop : tie.MeasureT-loop
 μ-loop ix apart x left count rest₀ j₀ rest j = capacity apart - j
 
--- src/lib.rt:52:9
 capacity-requires : tie.Need-capacity-requires Inv-loop μ-loop
 capacity-requires c κs = search needs
 
--- src/lib.rt:55:5
 loop-holds : tie.Need-loop-holds Inv-loop μ-loop
-loop-holds c = counting-start (c .before .before .args .ix) (c .before .before .args .apart .now) (c .before .before .args .x) (c .before .before .args .left)
+loop-holds c =
+    let c2 = c .before .before in
+    counting-start (c2 .args .ix) (c2 .args .apart .now) (c2 .args .x) (c2 .args .left)
 
--- src/lib.rt:56:13
 load-requires : tie.Need-load-requires Inv-loop μ-loop
 load-requires c κs = in-room (c .before .before .before .before .args .apart .now) _ _ (c .before .before .capacity .ensures) (c .loop-test .taken)
 
--- src/lib.rt:57:13
 width-at-requires : tie.Need-width-at-requires Inv-loop μ-loop
 width-at-requires c κs = search needs
 
--- src/lib.rt:59:13
 returns : tie.Need-returns Inv-loop μ-loop
-returns c = counting-over (c .before .before .before .before .before .before .before .args .ix) (c .before .before .before .before .before .before .before .args .apart .now) (c .before .before .before .before .before .before .before .args .x) (c .before .before .before .before .before .before .before .args .left) (c .before .before .before .before .loop .rest) (c .before .before .before .before .loop .j) _ (c .before .before .before .before .loop .inv) (c .before .before .before .before .before .capacity .ensures) _ (c .before .before .load .result) (c .before .before .before .loop-test .taken) (c .before .before .load .ensures) (c .before .width-at .ensures) (c .if1 .taken)
+returns c =
+    let c2 = c .before .before in
+    let c4 = c2 .before .before in
+    let c7 = c4 .before .before .before in
+    counting-over (c7 .args .ix) (c7 .args .apart .now) (c7 .args .x) (c7 .args .left) (c4 .loop .rest) (c4 .loop .j) _ (c4 .loop .inv)
+    (c .before .before .before .before .before .capacity .ensures) _ (c2 .load .result) (c .before .before .before .loop-test .taken) (c2 .load .ensures)
+    (c .before .width-at .ensures) (c .if1 .taken)
 
--- src/lib.rt:62:9
 add-j : tie.Need-add-j Inv-loop μ-loop
 add-j c = omega (arith, c .before .before .before .loop-test .taken)
 
--- src/lib.rt:55:5
 loop-less : tie.Need-loop-less Inv-loop μ-loop
 loop-less c = omega (arith, c .before .before .before .loop-test .taken, c .before .before .before .before .before .capacity .ensures)
 
--- src/lib.rt:55:5
 loop-again : tie.Need-loop-again Inv-loop μ-loop
-loop-again c = counting-next (c .before .before .before .before .before .before .before .args .ix) (c .before .before .before .before .before .before .before .args .apart .now) (c .before .before .before .before .before .before .before .args .x) (c .before .before .before .before .before .before .before .args .left) (c .before .before .before .before .loop .rest) (c .before .before .before .before .loop .j) _ (c .before .before .before .before .loop .inv) (c .before .before .before .before .before .capacity .ensures) _ (c .before .before .load .result) (c .before .before .before .loop-test .taken) (c .before .before .load .ensures) (c .before .width-at .ensures) (c .if1 .left)
+loop-again c =
+    let c2 = c .before .before in
+    let c4 = c2 .before .before in
+    let c7 = c4 .before .before .before in
+    counting-next (c7 .args .ix) (c7 .args .apart .now) (c7 .args .x) (c7 .args .left) (c4 .loop .rest) (c4 .loop .j) _ (c4 .loop .inv)
+    (c .before .before .before .before .before .capacity .ensures) _ (c2 .load .result) (c .before .before .before .loop-test .taken) (c2 .load .ensures)
+    (c .before .width-at .ensures) (c .if1 .left)
 
--- src/lib.rt:49:1
 returns-2 : tie.Need-returns-2 Inv-loop μ-loop
-returns-2 c = counting-end (c .before .before .before .before .args .ix) (c .before .before .before .before .args .apart .now) (c .before .before .before .before .args .x) (c .before .before .before .before .args .left) (c .before .loop .rest) (c .before .loop .j) _ (c .before .loop .inv) (c .before .before .capacity .ensures) (c .loop-test .left)
+returns-2 c =
+    let c1 = c .before in
+    let c4 = c1 .before .before .before in
+    counting-end (c4 .args .ix) (c4 .args .apart .now) (c4 .args .x) (c4 .args .left) (c1 .loop .rest) (c1 .loop .j) _ (c1 .loop .inv)
+    (c .before .before .capacity .ensures) (c .loop-test .left)
 
 pub entries-fit-spec : {M : Type 1} → statement M
 entries-fit-spec =

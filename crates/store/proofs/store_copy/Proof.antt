@@ -14,7 +14,6 @@ use Rattle.store.proofs.store_moved.Reads as store-moved-reads
 use Rattle.trapezoid.proofs.capacity.Reads as capacity-reads
 use Rattle.index.proofs.standing_capacity.Reads as standing-capacity-reads
 
--- src/lib.rt:79:9
 capacity-requires : tie.Need-capacity-requires
 capacity-requires c κs = search needs
 
@@ -22,41 +21,68 @@ standing-capacity-requires : tie.Need-standing-capacity-requires
 standing-capacity-requires c κs = search needs
 
 add-if1 : tie.Need-add-if1
-add-if1 c = let a = c .before .before .before .before .before .before .before .before .args in
-    record { fits = sum-fits (a .placed .now) (a .apart .now) (a .n) _ (c .before .before .before .before .before .before .before .before .pre .0 .room) (omega arith) (c .before .before .capacity .ensures) (omega arith) }
+add-if1 c =
+    let c8 = c .before .before .before .before .before .before .before .before in
+    let a = c8 .args in
+    record { fits = sum-fits (a .placed .now) (a .apart .now) (a .n) _ (c8 .pre .0 .room) (omega arith) (c .before .before .capacity .ensures) (omega arith) }
 
 same-length : tie.Need-same-length
 same-length c = search needs
 
 returns : tie.Need-returns
-returns c = let a = c .before .before .before .before .before .before .before .before .before .args in
-    let p = c .before .before .before .before .before .before .before .before .before .pre in
-    (short-is (a .ix) (a .apart .now) (a .x) (a .y) (a .n) (a .placed .now) (a .entries .now) (a .starts .now) (p .0) _ _ (c .before .standing-capacity .ensures) (c .before .before .before .capacity .ensures) (c .if1 .taken), p .0)
+returns c =
+    let c9 = c .before .before .before .before .before .before .before .before .before in
+    let a = c9 .args in
+    let p = c9 .pre in (
+      short-is (a .ix) (a .apart .now) (a .x) (a .y) (a .n) (a .placed .now) (a .entries .now) (a .starts .now) (p .0) _ _
+          (c .before .standing-capacity .ensures) (c .before .before .before .capacity .ensures) (c .if1 .taken),
+      p .0,
+    )
 
 slice-read-rest : tie.Need-slice-read-rest
 slice-read-rest c = search needs
 
 sub-rest : tie.Need-sub-rest
-sub-rest c = c .before .before .before .before .before .before .before .before .before .before .pre .0 .within 512 (omega arith)
+sub-rest c =
+    let c10 = c .before .before .before .before .before .before .before .before .before .before in
+    c10 .pre .0 .within 512 (omega arith)
 
 entries-fit-requires : tie.Need-entries-fit-requires
 entries-fit-requires c κs = search needs
 
 store-moved-requires : tie.Need-store-moved-requires
-store-moved-requires c κs = let a = c .before .before .before .before .before .before .before .before .before .before .before .before .before .args in
-    let p = c .before .before .before .before .before .before .before .before .before .before .before .before .before .pre in
-    six-in (a .ix) (a .apart .now) (a .x) (a .y) (a .n) (a .placed .now) (a .entries .now) (a .starts .now) (p .0) (fits-is (a .ix) (a .apart .now) (a .x) (a .y) (a .n) (a .placed .now) (a .entries .now) (a .starts .now) (p .0) _ _ (c .before .before .before .before .before .standing-capacity .ensures) (c .before .before .before .before .before .before .before .capacity .ensures) (c .before .before .before .before .if1 .left))
+store-moved-requires c κs =
+    let c7 = c .before .before .before .before .before .before .before in
+    let c13 = c7 .before .before .before .before .before .before in
+    let a = c13 .args in
+    let p = c13 .pre in
+    six-in (a .ix) (a .apart .now) (a .x) (a .y) (a .n) (a .placed .now) (a .entries .now) (a .starts .now) (p .0)
+    (fits-is (a .ix) (a .apart .now) (a .x) (a .y) (a .n) (a .placed .now) (a .entries .now) (a .starts .now) (p .0) _ _
+    (c .before .before .before .before .before .standing-capacity .ensures) (c7 .capacity .ensures) (c .before .before .before .before .if1 .left))
 
 add-enter-copy : tie.Need-add-enter-copy
 add-enter-copy c = search needs
 
 enter-copy-requires : tie.Need-enter-copy-requires
-enter-copy-requires c κs = let a = c .before .before .before .before .before .before .before .before .before .before .before .before .before .before .before .before .before .before .before .before .args in
-    let p = c .before .before .before .before .before .before .before .before .before .before .before .before .before .before .before .before .before .before .before .before .pre in
-    let f = fits-is (a .ix) (a .apart .now) (a .x) (a .y) (a .n) (a .placed .now) (a .entries .now) (a .starts .now) (p .0) _ _ (c .before .before .before .before .before .before .before .before .before .before .before .before .standing-capacity .ensures) (c .before .before .before .before .before .before .before .before .before .before .before .before .before .before .capacity .ensures) (c .before .before .before .before .before .before .before .before .before .before .before .if1 .left) in
+enter-copy-requires c κs =
+    let c11 = c .before .before .before .before .before .before .before .before .before .before .before in
+    let c12 = c11 .before in
+    let c14 = c12 .before .before in
+    let c20 = c14 .before .before .before .before .before .before in
+    let a = c20 .args in
+    let p = c20 .pre in
+    let f = fits-is (a .ix) (a .apart .now) (a .x) (a .y) (a .n) (a .placed .now) (a .entries .now) (a .starts .now) (p .0) _ _
+    (c12 .standing-capacity .ensures) (c14 .capacity .ensures) (c11 .if1 .left) in
     let E = c .before .before .before .before .before .before .store-moved .ensures in
-    let k = c .before .before .before .before .before .before .before .before .before .before .before .before .before .before .capacity .ensures in
-    (omega arith, six-after (a .ix) (a .apart .now) (a .x) (a .y) (a .n) (a .placed .now) (a .entries .now) (a .starts .now) (p .0) f _ _ k E, p .1, laid-on (a .ix) (a .apart .now) (a .x) (a .y) (a .n) (a .placed .now) (a .entries .now) (a .starts .now) (p .0) f _ E, few-in (a .ix) (a .apart .now) (a .x) (a .y) (a .n) (a .placed .now) (a .entries .now) (a .starts .now) (p .0) f _ k)
+    let k = c14 .capacity .ensures in (
+      omega arith,
+      six-after (a .ix) (a .apart .now) (a .x) (a .y) (a .n) (a .placed .now) (a .entries .now) (a .starts .now) (p .0) f _ _ k E,
+      p .1,
+      laid-on
+          (a .ix) (a .apart .now) (a .x) (a .y) (a .n) (a .placed .now) (a .entries .now) (a .starts .now) (p .0) f _ E,
+      few-in (a .ix) (a .apart .now) (a .x)
+          (a .y) (a .n) (a .placed .now) (a .entries .now) (a .starts .now) (p .0) f _ k,
+    )
 
 same-length-2 : tie.Need-same-length-2
 same-length-2 c = search needs
@@ -71,20 +97,39 @@ same-length-5 : tie.Need-same-length-5
 same-length-5 c = search needs
 
 returns-2 : tie.Need-returns-2
-returns-2 c = let a = c .before .before .before .before .before .before .before .before .before .before .before .before .before .before .before .before .before .before .before .before .before .before .before .before .before .before .before .args in
-    let p = c .before .before .before .before .before .before .before .before .before .before .before .before .before .before .before .before .before .before .before .before .before .before .before .before .before .before .before .pre in
-    let f = fits-is (a .ix) (a .apart .now) (a .x) (a .y) (a .n) (a .placed .now) (a .entries .now) (a .starts .now) (p .0) _ _ (c .before .before .before .before .before .before .before .before .before .before .before .before .before .before .before .before .before .before .before .standing-capacity .ensures) (c .before .before .before .before .before .before .before .before .before .before .before .before .before .before .before .before .before .before .before .before .before .capacity .ensures) (c .before .before .before .before .before .before .before .before .before .before .before .before .before .before .before .before .before .before .if1 .left) in
-    let g = room-is (a .ix) (a .apart .now) (a .x) (a .y) (a .n) (a .placed .now) (a .entries .now) (a .starts .now) (p .0) f _ (c .before .before .before .before .before .before .before .before .before .before .before .before .before .before .before .before .entries-fit .ensures) (c .before .before .before .before .before .before .before .before .before .before .before .before .before .before .before .if2 .taken) in
-    done-is (a .ix) (a .apart .now) (a .x) (a .y) (a .n) (a .placed .now) (a .entries .now) (a .starts .now) (p .0) f g _ (c .before .before .before .before .before .before .enter-copy .result) _ _ _ (c .before .before .before .before .before .before .before .before .before .before .before .before .before .before .before .before .before .before .before .before .before .capacity .ensures) (c .before .before .before .before .before .before .before .before .before .before .before .before .before .store-moved .ensures) (c .before .before .before .before .before .before .enter-copy .ensures .0) (c .before .before .before .before .before .before .enter-copy .ensures .1)
+returns-2 c =
+    let c6 = c .before .before .before .before .before .before in
+    let c13 = c6 .before .before .before .before .before .before .before in
+    let c15 = c13 .before .before in
+    let c16 = c15 .before in
+    let c18 = c16 .before .before in
+    let c19 = c18 .before in
+    let c21 = c19 .before .before in
+    let c27 = c21 .before .before .before .before .before .before in
+    let a = c27 .args in
+    let p = c27 .pre in
+    let f = fits-is (a .ix) (a .apart .now) (a .x) (a .y) (a .n) (a .placed .now) (a .entries .now) (a .starts .now) (p .0) _ _
+    (c19 .standing-capacity .ensures) (c21 .capacity .ensures) (c18 .if1 .left) in
+    let g = room-is (a .ix) (a .apart .now) (a .x) (a .y) (a .n) (a .placed .now) (a .entries .now) (a .starts .now) (p .0) f _ (c16 .entries-fit .ensures)
+    (c15 .if2 .taken) in
+    done-is (a .ix) (a .apart .now) (a .x) (a .y) (a .n) (a .placed .now) (a .entries .now) (a .starts .now) (p .0) f g _ (c6 .enter-copy .result) _ _ _
+    (c21 .capacity .ensures) (c13 .store-moved .ensures) (c6 .enter-copy .ensures .0) (c6 .enter-copy .ensures .1)
 
 same-length-6 : tie.Need-same-length-6
 same-length-6 c = search needs
 
 returns-3 : tie.Need-returns-3
-returns-3 c = let a = c .before .before .before .before .before .before .before .before .before .before .before .before .args in
-    let p = c .before .before .before .before .before .before .before .before .before .before .before .before .pre in
-    let f = fits-is (a .ix) (a .apart .now) (a .x) (a .y) (a .n) (a .placed .now) (a .entries .now) (a .starts .now) (p .0) _ _ (c .before .before .before .before .standing-capacity .ensures) (c .before .before .before .before .before .before .capacity .ensures) (c .before .before .before .if1 .left) in
-    (full-is (a .ix) (a .apart .now) (a .x) (a .y) (a .n) (a .placed .now) (a .entries .now) (a .starts .now) (p .0) f _ (c .before .entries-fit .ensures) (c .if2 .left), p .0)
+returns-3 c =
+    let c12 = c .before .before .before .before .before .before .before .before .before .before .before .before in
+    let a = c12 .args in
+    let p = c12 .pre in
+    let f = fits-is (a .ix) (a .apart .now) (a .x) (a .y) (a .n) (a .placed .now) (a .entries .now) (a .starts .now) (p .0) _ _
+    (c .before .before .before .before .standing-capacity .ensures) (c .before .before .before .before .before .before .capacity .ensures)
+    (c .before .before .before .if1 .left) in (
+      full-is (a .ix) (a .apart .now) (a .x) (a .y) (a .n) (a .placed .now) (a .entries .now) (a .starts .now) (p .0) f _ (c .before .entries-fit .ensures)
+          (c .if2 .left),
+      p .0,
+    )
 
 pub store-copy-spec : {M : Type 1} → statement M
 store-copy-spec =

@@ -38,9 +38,15 @@ same-length-4 c = search needs
 
 returns : tie.Need-returns
 returns c =
-    let a = c .before .before .before .before .before .before .before .before .before .before .before .before .before .before .before .before .before .before .before .before .before .before .before .before .before .before .before .before .before .before .before .args in let b = c .before .before .before .before .before .before .before .before .before .before .before .before .before .before .before .before .before .before .before .before .before .before .before .before .bounds in let x = c .before .before .before .before .before .before .before .before .before .before .before .before .before .before .before .before .before .before .before .before .before .sort-xs in let g = c .before .before .before .before .before .before .before .before .before .before .before .before .before .before .before .edges in let d = c .before .before .before .before .before .before .before .before .before .before .before .drop-vertical in
+    let c11 = c .before .before .before .before .before .before .before .before .before .before .before in
+    let c15 = c11 .before .before .before .before in
+    let c21 = c15 .before .before .before .before .before .before in
+    let c24 = c21 .before .before .before in
+    let c31 = c24 .before .before .before .before .before .before .before in
+    let a = c31 .args in let b = c24 .bounds in let x = c21 .sort-xs in let g = c15 .edges in let d = c11 .drop-vertical in
     c .before .before .before .before .slabs .ensures ∙ ap (λ (l : List Trapezoid). hold (record { room = now (a .room); count = a .from }) l)
-    (strips-held (now (a .points)) (a .n) (x .result) (d .result) (now (a .ends)) (a .sheet) (g .last .1 .1 .1 .0) (d .last .0) (x .last .1 .1 .1 .1 .1 .0) (b .result) (b .ensures) (x .ensures .2) (g .ensures) (d .ensures .1))
+    (strips-held (now (a .points)) (a .n) (x .result) (d .result) (now (a .ends)) (a .sheet) (g .last .1 .1 .1 .0) (d .last .0) (x .last .1 .1 .1 .1 .1 .0)
+    (b .result) (b .ensures) (x .ensures .2) (g .ensures) (d .ensures .1))
 
 pub add-strips-spec : {M : Type 1} → statement M
 add-strips-spec =

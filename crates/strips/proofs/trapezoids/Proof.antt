@@ -14,8 +14,12 @@ capacity-requires c κs = search needs
 
 sub-t24 : tie.Need-sub-t24
 sub-t24 c =
-    let a = c .before .before .before .before .before .before .before .before .before .before .before .before .before .before .before .before .before .before .before .before .before .before .args in let g = c .before .before .before .before .before .before .before .before .before .before .before .add-strips in
-    from-count (trapezoids (now (a .points)) (a .n) (now (a .ends)) (a .sheet)) (now (a .room)) (g .last .1 .1 .1 .1 .1 .1 .1 .0) (a .from) (g .result) (c .before .before .before .before .before .before .before .before .before .before .before .before .before .before .before .before .before .before .before .before .before .before .pre .6) (g .ensures) (c .before .capacity .result) (c .before .capacity .ensures) (g .kept .1 .1 .1 .1 .1 .1 .1 .0) (c .if1 .left)
+    let c1 = c .before in
+    let c11 = c1 .before .before .before .before .before .before .before .before .before .before in
+    let c22 = c11 .before .before .before .before .before .before .before .before .before .before .before in
+    let a = c22 .args in let g = c11 .add-strips in
+    from-count (trapezoids (now (a .points)) (a .n) (now (a .ends)) (a .sheet)) (now (a .room)) (g .last .1 .1 .1 .1 .1 .1 .1 .0) (a .from) (g .result)
+    (c22 .pre .6) (g .ensures) (c1 .capacity .result) (c1 .capacity .ensures) (g .kept .1 .1 .1 .1 .1 .1 .1 .0) (c .if1 .left)
 
 same-length : tie.Need-same-length
 same-length c = search needs
@@ -31,8 +35,12 @@ same-length-4 c = search needs
 
 returns : tie.Need-returns
 returns c =
-    let a = c .before .before .before .before .before .before .before .before .before .before .before .before .before .before .before .before .before .before .before .before .before .before .args in let g = c .before .before .before .before .before .before .before .before .before .before .before .add-strips in
-    stored-no (trapezoids (now (a .points)) (a .n) (now (a .ends)) (a .sheet)) (now (a .room)) (g .last .1 .1 .1 .1 .1 .1 .1 .0) (a .from) (g .result) (c .before .before .before .before .before .before .before .before .before .before .before .before .before .before .before .before .before .before .before .before .before .before .pre .6) (g .ensures) (c .before .capacity .result) (c .before .capacity .ensures) (g .kept .1 .1 .1 .1 .1 .1 .1 .0) (c .if1 .taken)
+    let c1 = c .before in
+    let c11 = c1 .before .before .before .before .before .before .before .before .before .before in
+    let c22 = c11 .before .before .before .before .before .before .before .before .before .before .before in
+    let a = c22 .args in let g = c11 .add-strips in
+    stored-no (trapezoids (now (a .points)) (a .n) (now (a .ends)) (a .sheet)) (now (a .room)) (g .last .1 .1 .1 .1 .1 .1 .1 .0) (a .from) (g .result)
+    (c22 .pre .6) (g .ensures) (c1 .capacity .result) (c1 .capacity .ensures) (g .kept .1 .1 .1 .1 .1 .1 .1 .0) (c .if1 .taken)
 
 same-length-5 : tie.Need-same-length-5
 same-length-5 c = search needs
@@ -48,8 +56,12 @@ same-length-8 c = search needs
 
 returns-2 : tie.Need-returns-2
 returns-2 c =
-    let a = c .before .before .before .before .before .before .before .before .before .before .before .before .before .before .before .before .before .before .before .before .before .before .args in let g = c .before .before .before .before .before .before .before .before .before .before .before .add-strips in
-    stored-yes (trapezoids (now (a .points)) (a .n) (now (a .ends)) (a .sheet)) (now (a .room)) (g .last .1 .1 .1 .1 .1 .1 .1 .0) (a .from) (g .result) (c .before .before .before .before .before .before .before .before .before .before .before .before .before .before .before .before .before .before .before .before .before .before .pre .6) (g .ensures) (c .before .capacity .result) (c .before .capacity .ensures) (g .kept .1 .1 .1 .1 .1 .1 .1 .0) (c .if1 .left)
+    let c1 = c .before in
+    let c11 = c1 .before .before .before .before .before .before .before .before .before .before in
+    let c22 = c11 .before .before .before .before .before .before .before .before .before .before .before in
+    let a = c22 .args in let g = c11 .add-strips in
+    stored-yes (trapezoids (now (a .points)) (a .n) (now (a .ends)) (a .sheet)) (now (a .room)) (g .last .1 .1 .1 .1 .1 .1 .1 .0) (a .from) (g .result)
+    (c22 .pre .6) (g .ensures) (c1 .capacity .result) (c1 .capacity .ensures) (g .kept .1 .1 .1 .1 .1 .1 .1 .0) (c .if1 .left)
 
 pub trapezoids-spec : {M : Type 1} → statement M
 trapezoids-spec =

@@ -76,15 +76,21 @@ same-length c = search needs
 returns : tie.Need-returns
 unfolding putLine positionAt
 returns c =
-    let e = c .before .before .before .before .before .before .before .before .before .before .before .floor .ensures in
-    let f = c .before .before .before .before .before .before .before .before .before .floor2 .ensures in
-    let g = c .before .before .before .before .before .before .before .floor3 .ensures in
-    let x = getD (c .before .before .before .before .before .before .before .before .before .before .before .before .before .before .before .args .room .now) (5 * c .before .before .before .before .before .before .before .before .before .before .before .before .before .before .before .args .i + 3) nan in
-    let y = getD (c .before .before .before .before .before .before .before .before .before .before .before .before .before .before .before .args .room .now) (5 * c .before .before .before .before .before .before .before .before .before .before .before .before .before .before .before .args .i + 4) nan in
+    let c7 = c .before .before .before .before .before .before .before in
+    let c9 = c7 .before .before in
+    let c11 = c9 .before .before in
+    let c15 = c11 .before .before .before .before in
+    let e = c11 .floor .ensures in
+    let f = c9 .floor2 .ensures in
+    let g = c7 .floor3 .ensures in
+    let x = getD (c15 .args .room .now) (5 * c15 .args .i + 3) nan in
+    let y = getD (c15 .args .room .now) (5 * c15 .args .i + 4) nan in
     wrote-same
-    (ap (λ (v : ℕ). line putWord (decimal v ∷ decimal (c .before .before .before .before .before .before .before .before .before .floor2 .result) ∷ decimal (c .before .before .before .before .before .before .before .floor3 .result) ∷ hex x ∷ hex y ∷ [])) e
-    ∙ (ap (λ (v : ℕ). line putWord (decimal (toUnsigned 64 (getD (c .before .before .before .before .before .before .before .before .before .before .before .before .before .before .before .args .room .now) (5 * c .before .before .before .before .before .before .before .before .before .before .before .before .before .before .before .args .i) nan)) ∷ decimal v ∷ decimal (c .before .before .before .before .before .before .before .floor3 .result) ∷ hex x ∷ hex y ∷ [])) f
-    ∙ ap (λ (v : ℕ). line putWord (decimal (toUnsigned 64 (getD (c .before .before .before .before .before .before .before .before .before .before .before .before .before .before .before .args .room .now) (5 * c .before .before .before .before .before .before .before .before .before .before .before .before .before .before .before .args .i) nan)) ∷ decimal (toUnsigned 64 (getD (c .before .before .before .before .before .before .before .before .before .before .before .before .before .before .before .args .room .now) (5 * c .before .before .before .before .before .before .before .before .before .before .before .before .before .before .before .args .i + 1) nan)) ∷ decimal v ∷ hex x ∷ hex y ∷ [])) g))
+    (ap (λ (v : ℕ). line putWord (decimal v ∷ decimal (c9 .floor2 .result) ∷ decimal (c7 .floor3 .result) ∷ hex x ∷ hex y ∷ [])) e
+    ∙ (ap (λ (v : ℕ). line putWord (decimal (toUnsigned 64 (getD (c15 .args .room .now) (5 * c15 .args .i) nan)) ∷ decimal v ∷ decimal (c7 .floor3 .result) ∷
+    hex x ∷ hex y ∷ [])) f
+    ∙ ap (λ (v : ℕ). line putWord (decimal (toUnsigned 64 (getD (c15 .args .room .now) (5 * c15 .args .i) nan)) ∷ decimal
+    (toUnsigned 64 (getD (c15 .args .room .now) (5 * c15 .args .i + 1) nan)) ∷ decimal v ∷ hex x ∷ hex y ∷ [])) g))
     (c .before .before .place-line .ensures)
 
 pub put-line-spec : {M : Type 1} → statement M

@@ -28,7 +28,9 @@ use Rattle.trapezoid.proofs.capacity.Reads as capacity-reads
 use Rattle.trapezoid.proofs.load.Reads as load-reads
 
 abbrev Inv-loop : tie.InvT-loop
-Inv-loop self moving x y-low y-high standing entries starts room₀ start n₀ count j₀ room n j = (count ≡ length moving / 6) × (count < 18446744073709551616) × (length room ≡ length room₀) × (pushAll (collected room n) (listed self y-low y-high standing entries starts moving x (count - j) j) ≡ pushAll (collected room₀ start) (listed self y-low y-high standing entries starts moving x count 0))
+Inv-loop self moving x y-low y-high standing entries starts room₀ start n₀ count j₀ room n j = (count ≡ length moving / 6) × (count < 18446744073709551616) ×
+    (length room ≡ length room₀) × (pushAll (collected room n) (listed self y-low y-high standing entries starts moving x (count - j) j) ≡ pushAll
+    (collected room₀ start) (listed self y-low y-high standing entries starts moving x count 0))
 
 abbrev μ-loop : tie.MeasureT-loop
 μ-loop self moving x y-low y-high standing entries starts room₀ start n₀ count j₀ room n j = count - j
@@ -36,7 +38,6 @@ abbrev μ-loop : tie.MeasureT-loop
 capacity-requires : tie.Need-capacity-requires Inv-loop μ-loop
 capacity-requires c κs = search needs
 
--- src/lib.rt:166:5
 loop-holds : tie.Need-loop-holds Inv-loop μ-loop
 unfolding capacity
 loop-holds c =
@@ -44,49 +45,53 @@ loop-holds c =
     let e : c .capacity .result - 0 ≡ c .capacity .result = omega arith in
     (E, omega (arith, E), refl, rw e)
 
--- src/lib.rt:167:13
 load-requires : tie.Need-load-requires Inv-loop μ-loop
 load-requires c κs = omega (arith, c .loop-test .taken, c .before .loop .inv .0)
 
--- src/lib.rt:168:13
 new-requires : tie.Need-new-requires Inv-loop μ-loop
 new-requires c κs = search needs
 
--- src/lib.rt:169:9
 list-moving-requires : tie.Need-list-moving-requires Inv-loop μ-loop
 list-moving-requires c κs = c .before .before .before .before .before .before .before .before .before .before .before .pre
 
--- src/lib.rt:170:9
 add-j : tie.Need-add-j Inv-loop μ-loop
-add-j c = omega (arith, c .before .before .before .before .before .before .loop-test .taken, c .before .before .before .before .before .before .before .loop .inv .1)
+add-j c = omega (
+  arith,
+  c .before .before .before .before .before .before .loop-test .taken,
+  c .before .before .before .before .before .before .before .loop .inv .1,
+)
 
--- src/lib.rt:166:5
 loop-less : tie.Need-loop-less Inv-loop μ-loop
 loop-less c = omega arith
 
--- src/lib.rt:166:5
 loop-again : tie.Need-loop-again Inv-loop μ-loop
 unfolding listed
 loop-again c = let l = c .before .before .before .before .before .before .before in
     let g = c .before .before .before .before .before .before .before .before .before .before .before .before .before .before .args in
-    let M = c .before .before .before .before .new .ensures ∙ ap (λ (p : Trapezoid). movingOf p (g .x) (g .y-low) (g .y-high)) (c .before .before .before .before .before .load .ensures) in
-    let E = c .before .before .list-moving .ensures ∙ ap (λ (m : Moving). pushAll (collected (l .loop .room) (l .loop .n)) (listMoving (g .self) (g .standing .now) (g .entries .now) (g .starts .now) m)) M in (
+    let M = c .before .before .before .before .new .ensures ∙ ap (λ (p : Trapezoid). movingOf p (g .x) (g .y-low) (g .y-high))
+    (c .before .before .before .before .before .load .ensures) in
+    let E = c .before .before .list-moving .ensures ∙ ap (λ (m : Moving). pushAll (collected (l .loop .room) (l .loop .n))
+    (listMoving (g .self) (g .standing .now) (g .entries .now) (g .starts .now) m)) M in (
       l .loop .inv .0,
       l .loop .inv .1,
       kept-length (l .loop .room) _ (l .loop .n) _ _ E ∙ l .loop .inv .2,
-      turn (λ i. listMoving (g .self) (g .standing .now) (g .entries .now) (g .starts .now) (movingOf (stripAt (g .moving .now) i) (g .x) (g .y-low) (g .y-high))) (l .loop .room) _ (l .loop .n) _ (c .before .before .before .before .before .before .before .before .capacity .result) (l .loop .j) _ (omega arith) E (l .loop .inv .3),
+      turn (λ i. listMoving (g .self) (g .standing .now) (g .entries .now) (g .starts .now)
+          (movingOf (stripAt (g .moving .now) i) (g .x) (g .y-low) (g .y-high))) (l .loop .room) _ (l .loop .n) _
+          (c .before .before .before .before .before .before .before .before .capacity .result) (l .loop .j) _ (omega arith) E (l .loop .inv .3),
     )
 
--- src/lib.rt:159:1
 same-length : tie.Need-same-length Inv-loop μ-loop
 same-length c = c .before .loop .inv .2
 
--- src/lib.rt:159:1
 returns : tie.Need-returns Inv-loop μ-loop
 unfolding listed
 returns c = let l = c .before in
     let g = c .before .before .before .before .before .before .before .before .args in
-    sym (over-end (λ i. listMoving (g .self) (g .standing .now) (g .entries .now) (g .starts .now) (movingOf (stripAt (g .moving .now) i) (g .x) (g .y-low) (g .y-high))) (collected (l .loop .room) (l .loop .n)) (c .before .before .capacity .result) (l .loop .j) (omega arith)) ∙ (l .loop .inv .3 ∙ ap (λ (n : ℕ). pushAll (collected (g .room .now) (g .start)) (listed (g .self) (g .y-low) (g .y-high) (g .standing .now) (g .entries .now) (g .starts .now) (g .moving .now) (g .x) n 0)) (c .before .before .capacity .ensures))
+    sym (over-end (λ i. listMoving (g .self) (g .standing .now) (g .entries .now) (g .starts .now)
+    (movingOf (stripAt (g .moving .now) i) (g .x) (g .y-low) (g .y-high))) (collected (l .loop .room) (l .loop .n)) (c .before .before .capacity .result)
+    (l .loop .j) (omega arith)) ∙ (l .loop .inv .3 ∙ ap (λ (n : ℕ). pushAll (collected (g .room .now) (g .start))
+    (listed (g .self) (g .y-low) (g .y-high) (g .standing .now) (g .entries .now) (g .starts .now) (g .moving .now) (g .x) n 0))
+    (c .before .before .capacity .ensures))
 
 pub forbidden-spec : {M : Type 1} → statement M
 forbidden-spec =
