@@ -9,10 +9,9 @@ ghost use Rattle.filling.specs.Shapes.{plannerOf};
 ghost use Rattle.filling.specs.Start.{startVerdict, startJob, prepareVerdict};
 ghost use Rattle.prepare.specs.Ready.{FromTables};
 ghost use Rattle.begin.specs.Beginning.{Cleared, Begun};
-use filling::Tables;
+use filling::Verdict;
 use index::Entry;
 use job::Header;
-use prepare::Prepared;
 use started::Started;
 
 // The start with an order that is a rearrangement of the job's copies, over zeroed rooms. Only crates
@@ -31,39 +30,15 @@ pub fn begin_order(
     requires { ⌜ (length (now order) ≤ 4096) × (256 ≤ length (now rows)) × (2048 ≤ length (now places)) ⌝ }
     ensures { λ r. ⌜ ((j : Job) (l : Lent) → FromTables (now (bytes .entry)) (now (rows .entry)) (now (places .entry)) at (h .kinds) j → j .header ≡ h → Cleared l (now (shapes .entry)) (now (sheet .entry)) (now («sheet_entries» .entry)) → startVerdict j (now (order .entry)) l ≡ prepareVerdict (plannerOf j) (l .rooms) → Begun r (startJob j (now (order .entry)) l) (now (shapes .exit)) (now (sheet .exit)) (now («sheet_entries» .exit))) ⌝ }
 {
-    let mut starts = [0usize; 513];
-    let mut gains = [0usize; 512];
-    let mut inset_bounds = [0.0; 4096];
-    let mut parts = [0usize; 4096];
-    let mut table = [0usize; 4096];
-    let kinds = h.kinds as usize;
-    match prepare::prepare(
-        bytes,
-        at,
-        kinds,
-        rows,
-        places,
-        shapes,
-        sheet,
-        sheet_entries,
-        &mut starts,
-        &mut gains,
-        &mut inset_bounds,
-        &mut parts,
-    ) {
-        Prepared::Ready(bounds, sheet_strips, apart_strips, _) => {
+    let p = prepare::prepare(bytes, at, h, rows, places, shapes, sheet, sheet_entries);
+    let verdict = p.verdict;
+    match verdict {
+        Verdict::Accepted => {
+            let mut table = [0usize; 4096];
             started::copy_order(order, &mut table);
-            let tables = Tables {
-                resolution: h.resolution,
-                sheet_bounds: bounds,
-                sheet_strips,
-                apart_strips,
-                inset_bounds,
-                parts,
-            };
-            started::accepted(tables, table)
+            started::accepted(p.tables, table)
         }
-        Prepared::NotReady(k) => {
+        Verdict::Refused(k) => {
             rooms::zero(shapes);
             rooms::zero(sheet);
             rooms::zero_numbers(sheet_entries);

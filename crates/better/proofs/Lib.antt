@@ -1,3 +1,3 @@
 pub mod MaySwap
-pub mod Copied
+pub mod Drawing
 pub mod Judging

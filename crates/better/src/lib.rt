@@ -2,19 +2,21 @@
 // swapped, the swap, and the better of two fillings is kept. Only crates of ours call its functions.
 ghost use mathlib.Core.Path.{_≡_};
 ghost use mathlib.Core.Logic.{_⊎_};
-ghost use mathlib.Core.Bool.{not, _&&_, _||_};
+ghost use mathlib.Core.Bool.{false, not, _&&_, _||_};
 ghost use mathlib.Core.List.{List};
-ghost use Prim.Native.Nat.{ℕ, _+_, _*_, _%_, _≤_, _<_, _^_};
-ghost use lib.ListN.{length, getD, take};
+ghost use Prim.Native.Nat.{ℕ, _+_, _-_, _*_, _%_, _≤_, _<_, _^_};
+ghost use lib.ListN.{length, getD};
 ghost use lib.Ieee.{Float, lt, eq};
 ghost use Rattle.random.specs.SplitMix64.{nextState, mixed};
 ghost use Rattle.kinds.specs.Kinds.{lower, signed};
 ghost use Rattle.job.specs.Jobs.{Job};
 ghost use Rattle.filling.specs.Shapes.{Planner};
 ghost use Rattle.tables.specs.Tabled.{Tabled};
-ghost use Rattle.nesting.specs.Rounds.{swappable, swapped, judged};
-ghost use Rattle.fill_laws.specs.Prepared.{fillingBy};
-ghost use Rattle.better.specs.Keeping.{keptBy, swapsBy};
+ghost use Rattle.tracks.specs.Tracks.{trackNumbers, spotNumbers};
+ghost use Rattle.nesting.specs.Rounds.{swappable, swapped};
+ghost use Rattle.fill_laws.specs.Prepared.{fillingIn};
+ghost use Rattle.better.specs.Keeping.{half, keptIn, swapsIn};
+ghost use Rattle.better.specs.Turns.{judgedAs, Drew};
 use filling::Verdict;
 use place::Totals;
 
@@ -73,6 +75,63 @@ pub fn swap(order: &mut [usize], a: usize, b: usize)
     order[b] = k;
 }
 
+// Whether the copies at places i and k may be swapped.
+fn may_swap(rows: &[u64], order: &[usize], i: usize, k: usize) -> bool
+    requires { ⌜ (i < length (now order)) × (k < length (now order)) × (getD (now order) i 0 < 64) × (getD (now order) k 0 < 64)
+        × (256 ≤ length (now rows)) ⌝ }
+    ensures { λ r. ⌜ ((j : Job) (areas : List Float) → Tabled j (now (rows .entry)) areas → getD (now (order .entry)) i 0 < length (j .kinds)
+        → getD (now (order .entry)) k 0 < length (j .kinds)
+        → r ≡ swappable (j .kinds) (getD (now (order .entry)) i 0) (getD (now (order .entry)) k 0)) ⌝ }
+{
+    let a = order[i];
+    let b = order[k];
+    swappable(rows, a, b)
+}
+
+// What is drawn before a turn: the state of the draws, two places, and whether the order is filled.
+pub struct Drawn {
+    pub random: u64,
+    pub i: usize,
+    pub k: usize,
+    pub fills: bool,
+}
+
+// Before the first filling nothing is drawn. Before a round two copies are drawn, and swapped where
+// they may be; else the round ends, both draws spent.
+pub fn draw_swap(first: bool, random: u64, rows: &[u64], order: &mut [usize]) -> Drawn
+    requires { ⌜ (first ≡ false → 0 < length (now order)) × (256 ≤ length (now rows))
+        × ((q : ℕ) → q < length (now order) → getD (now order) q 0 < 64) ⌝ }
+    ensures { λ r. ⌜ Drew first random (now (rows .entry)) (now (order .entry)) r (now (order .exit)) ⌝ }
+{
+    if first {
+        return Drawn {
+            random: random,
+            i: 0,
+            k: 0,
+            fills: true,
+        };
+    }
+    let n = order.len();
+    let mut state = random;
+    let i = draw(&mut state, n);
+    let k = draw(&mut state, n);
+    if may_swap(rows, order, i, k) {
+        swap(order, i, k);
+        return Drawn {
+            random: state,
+            i: i,
+            k: k,
+            fills: true,
+        };
+    }
+    Drawn {
+        random: state,
+        i: i,
+        k: k,
+        fills: false,
+    }
+}
+
 // Whether a has a smaller unplaced area than b, or equal area and a smaller right.
 fn better_than(a: Totals, b: Totals) -> bool
     ensures { λ r. ⌜ r ≡ (lt (a .«unplaced_area») (b .«unplaced_area») || eq (a .«unplaced_area») (b .«unplaced_area») && lt (a .right) (b .right)) ⌝ }
@@ -86,61 +145,13 @@ fn better_than(a: Totals, b: Totals) -> bool
     false
 }
 
-// The first n numbers.
-fn copy_numbers(from: &[usize], to: &mut [usize], n: usize)
-    requires { ⌜ (n ≤ length (now from)) × (n ≤ length (now to)) ⌝ }
-    ensures { λ _. ⌜ take n (now (to .exit)) ≡ take n (now (from .entry)) ⌝ }
-{
-    let mut i = 0;
-    while i < n {
-        to[i] = from[i];
-        i += 1;
-    }
-}
-
-// The first n doubles.
-fn copy_doubles(from: &[f64], to: &mut [f64], n: usize)
-    requires { ⌜ (n ≤ length (now from)) × (n ≤ length (now to)) ⌝ }
-    ensures { λ _. ⌜ take n (now (to .exit)) ≡ take n (now (from .entry)) ⌝ }
-{
-    let mut i: usize = 0;
-    while i < n {
-        to[i] = from[i];
-        i += 1;
-    }
-}
-
-// The filling of n copies is kept.
-pub fn keep(
-    n: usize,
-    next_column: &[usize],
-    look_counts: &[usize],
-    orientation: &[usize],
-    x: &[f64],
-    y: &[f64],
-    best_column: &mut [usize],
-    best_counts: &mut [usize],
-    best_orientation: &mut [usize],
-    best_x: &mut [f64],
-    best_y: &mut [f64],
-)
-    requires { ⌜ (length (now «next_column») ≡ 1024) × (length (now «look_counts») ≡ 1024) × (length (now «best_column») ≡ 1024) × (length (now «best_counts») ≡ 1024)
-        × (n ≤ length (now orientation)) × (n ≤ length (now x)) × (n ≤ length (now y)) × (n ≤ length (now «best_orientation»)) × (n ≤ length (now «best_x»)) × (n ≤ length (now «best_y»)) ⌝ }
-    ensures { λ _. ⌜ (now («best_column» .exit) ≡ now («next_column» .entry)) × (now («best_counts» .exit) ≡ now («look_counts» .entry))
-        × (take n (now («best_orientation» .exit)) ≡ take n (now (orientation .entry))) × (take n (now («best_x» .exit)) ≡ take n (now (x .entry))) × (take n (now («best_y» .exit)) ≡ take n (now (y .entry))) ⌝ }
-{
-    copy_numbers(next_column, best_column, 1024);
-    copy_numbers(look_counts, best_counts, 1024);
-    copy_numbers(orientation, best_orientation, n);
-    copy_doubles(x, best_x, n);
-    copy_doubles(y, best_y, n);
-}
-
-// What is kept beside the arrays: the state of the draws, the totals and the improvements.
+// What is kept beside the tables: the state of the draws, the totals, the improvements, and which half
+// of the tables has the filling.
 pub struct Best {
     pub random: u64,
     pub totals: Totals,
     pub improvements: usize,
+    pub kept: usize,
 }
 
 pub struct Round {
@@ -148,63 +159,54 @@ pub struct Round {
     pub best: Best,
 }
 
-// A filling after the copies at places a and b were swapped: it is kept if it is better, else they
-// are swapped back; a refusal ends the rounds.
+// A filling of a turn: the first is kept, a later one if it is better; else the copies at places i
+// and k are swapped back. A refusal ends the rounds. The filling lies in the half that is not kept.
 pub fn judge(
+    first: bool,
     v: Verdict,
     t: Totals,
     b: Best,
     i: usize,
     k: usize,
     order: &mut [usize],
-    next_column: &[usize],
-    look_counts: &[usize],
-    orientation: &[usize],
-    x: &[f64],
-    y: &[f64],
-    best_column: &mut [usize],
-    best_counts: &mut [usize],
-    best_orientation: &mut [usize],
-    best_x: &mut [f64],
-    best_y: &mut [f64],
 ) -> Round
-    requires { ⌜ (b .improvements + 1 < 2 ^ 64) × (i < length (now order)) × (k < length (now order)) × (length (now «next_column») ≡ 1024) × (length (now «look_counts») ≡ 1024) × (length (now «best_column») ≡ 1024) × (length (now «best_counts») ≡ 1024)
-        × (length (now order) ≤ length (now orientation)) × (length (now order) ≤ length (now x)) × (length (now order) ≤ length (now y)) × (length (now order) ≤ length (now «best_orientation»)) × (length (now order) ≤ length (now «best_x»)) × (length (now order) ≤ length (now «best_y»)) ⌝ }
-    ensures { λ r. ⌜ ((p : Planner) → swapsBy (r .verdict) (r .best) p (now (order .exit)) (now («best_column» .exit)) (now («best_counts» .exit)) (now («best_orientation» .exit)) (now («best_x» .exit)) (now («best_y» .exit))
-        ≡ judged (b .random) (now (order .entry)) (keptBy b p (swapped i k (now (order .entry))) (now («best_column» .entry)) (now («best_counts» .entry)) (now («best_orientation» .entry)) (now («best_x» .entry)) (now («best_y» .entry))) (fillingBy v p (now (order .entry)) (now («next_column» .entry)) (now («look_counts» .entry)) t (now (orientation .entry)) (now (x .entry)) (now (y .entry))))
-        × ((now (order .exit) ≡ now (order .entry)) ⊎ (now (order .exit) ≡ swapped i k (now (order .entry)))) × (r .best .improvements ≤ b .improvements + 1) ⌝ }
+    requires { ⌜ (b .improvements + 1 < 2 ^ 64) × (b .kept ≤ 1) × (first ≡ false → (i < length (now order)) × (k < length (now order))) ⌝ }
+    ensures { λ r. ⌜ ((p : Planner) (tracks : List ℕ) (spots : List Float) → swapsIn (r .verdict) (r .best) p (now (order .exit)) tracks spots
+        ≡ judgedAs first (b .random) (now (order .entry)) (keptIn b p (swapped i k (now (order .entry))) tracks spots)
+        (fillingIn v p (now (order .entry)) (half trackNumbers (1 - b .kept) tracks) t (half spotNumbers (1 - b .kept) spots)))
+        × ((now (order .exit) ≡ now (order .entry)) ⊎ ((first ≡ false) × (now (order .exit) ≡ swapped i k (now (order .entry)))))
+        × (r .best .improvements ≤ b .improvements + 1) × (r .best .kept ≤ 1) ⌝ }
 {
     match v {
         Verdict::Accepted => {
+            let other = 1 - b.kept;
+            if first {
+                return Round {
+                    verdict: Verdict::Accepted,
+                    best: Best {
+                        random: b.random,
+                        totals: t,
+                        improvements: b.improvements,
+                        kept: other,
+                    },
+                };
+            }
             if better_than(t, b.totals) {
-                keep(
-                    order.len(),
-                    next_column,
-                    look_counts,
-                    orientation,
-                    x,
-                    y,
-                    best_column,
-                    best_counts,
-                    best_orientation,
-                    best_x,
-                    best_y,
-                );
                 let improvements = b.improvements + 1;
-                Round {
+                return Round {
                     verdict: Verdict::Accepted,
                     best: Best {
                         random: b.random,
                         totals: t,
                         improvements: improvements,
+                        kept: other,
                     },
-                }
-            } else {
-                swap(order, i, k);
-                Round {
-                    verdict: Verdict::Accepted,
-                    best: b,
-                }
+                };
+            }
+            swap(order, i, k);
+            Round {
+                verdict: Verdict::Accepted,
+                best: b,
             }
         }
         Verdict::Refused(r) => Round {

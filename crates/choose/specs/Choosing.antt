@@ -3,12 +3,14 @@
 use Prim.Native.Nat.{ℕ, zero, suc, _+_, _*_, _≤_}
 use mathlib.Core.Bool.{Bool, true, false, _&&_, _||_}
 use mathlib.Core.List.{List}
-use lib.ListN.{length, getD}
+use lib.ListN.{length, getD, take, drop}
 use lib.Ieee.{Float, nan, lt, eq}
 use Rattle.numbers.specs.Numbers.{_⊕_}
 use Rattle.trapezoid.specs.Strip.{partOf}
 use Rattle.strips.specs.declared.Rect.{Rect}
 use Rattle.index.specs.declared.Index.{Index}
+use Rattle.filling.specs.declared.Tables.{Tables}
+use Rattle.filling.specs.Consistent.{sheetIndex}
 use Rattle.look.specs.declared.Answer.{Answer}
 use Rattle.look.specs.Ready.{Lookable}
 use Rattle.columns.specs.declared.Columns.{Columns}
@@ -16,6 +18,7 @@ use Rattle.columns.specs.Stands.{columnsOf, xOf, lastOf}
 use Rattle.search.specs.declared.Found.{Found}
 use Rattle.search.specs.declared.Found.the-variants as Founds
 use Rattle.search.specs.Searching.{answerAt, Tracked, searchOf}
+use Rattle.choose.specs.declared.Grid.{Grid}
 use Rattle.choose.specs.declared.Part.{Part}
 use Rattle.choose.specs.declared.Choice.{Choice}
 use Rattle.choose.specs.declared.Winner.{Winner}
@@ -73,6 +76,16 @@ pub record World : Type 0 where
 abbrev pub world : ℕ → Rect → Float → List Float → List ℕ → List Float → List Float → List Float → List Float → World
 world capacity bounds resolution inset-bounds parts apart inset sheet placed =
     record { capacity = capacity; bounds = bounds; resolution = resolution; inset-bounds = inset-bounds; parts = parts; apart = apart; inset = inset; sheet = sheet; placed = placed }
+
+-- what the tables of a state say of it
+abbrev pub gridOf : Tables → Grid
+gridOf t =
+    record { index = sheetIndex (t .«sheet_bounds»); bounds = t .«sheet_bounds»; resolution = t .resolution; «apart_strips» = t .«apart_strips» }
+
+-- the same with the apart strips at the beginning of the shapes room and the inset strips after them
+abbrev pub worldIn : ℕ → Grid → List Float → List ℕ → List Float → List Float → List Float → World
+worldIn capacity g inset-bounds parts shapes sheet placed =
+    world capacity (g .bounds) (g .resolution) inset-bounds parts (take (6 * g .«apart_strips») shapes) (drop (6 * g .«apart_strips») shapes) sheet placed
 
 abbrev pub columnsAt : World → ℕ → Columns
 columnsAt w i = columnsOf (w .bounds) (boundsAt (w .inset-bounds) i) (w .resolution)

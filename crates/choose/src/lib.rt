@@ -2,12 +2,14 @@
 // smallest y + b3, then the first listed.
 ghost use mathlib.Core.Path.{_≡_};
 ghost use Prim.Native.Nat.{ℕ, _+_, _*_, _/_, _≤_, _<_, _^_};
-ghost use lib.ListN.{length, getD};
+ghost use lib.ListN.{length, getD, take, drop};
 ghost use Rattle.look.specs.Ready.{Lookable};
+ghost use Rattle.tracks.specs.Tracks.{nextColumns, lookCounts, slotNumbers};
 ghost use Rattle.columns.specs.Stands.{xOf, lastOf};
 ghost use Rattle.search.specs.Searching.{answerAt, tracked, searchOf};
-ghost use Rattle.choose.specs.Choosing.{boundsAt, partAt, winnerOf, winsOf, firstOf, againstOf, betterOf, insetPart, apartPart, world, Ready, chosen, orientationOf, chooseFrom};
+ghost use Rattle.choose.specs.Choosing.{boundsAt, partAt, winnerOf, winsOf, firstOf, againstOf, betterOf, insetPart, apartPart, gridOf, worldIn, Ready, chosen, orientationOf, chooseFrom};
 use columns::Columns;
+use filling::Tables;
 use index::Entry;
 use index::Index;
 use search::Found;
@@ -28,6 +30,29 @@ pub struct Choice {
     pub y: f64,
     pub right: f64,
     pub top: f64,
+}
+
+// What every search of a plan shares: the sheet's index and bounds, the resolution, and the apart
+// strips, which begin the shapes room.
+pub struct Grid {
+    pub index: Index,
+    pub bounds: Rect,
+    pub resolution: f64,
+    pub apart_strips: usize,
+}
+
+// The grid of a state's tables. Only crates of ours call it.
+pub fn grid_of(tables: Tables) -> Grid
+    ensures { λ r. ⌜ r ≡ gridOf tables ⌝ }
+{
+    let b = tables.sheet_bounds;
+    let index = Index::new(b.left, b.right);
+    Grid {
+        index: index,
+        bounds: b,
+        resolution: tables.resolution,
+        apart_strips: tables.apart_strips,
+    }
 }
 
 // The choice that wins, none, or that a look's intervals exceed the room.
@@ -129,14 +154,13 @@ fn better(best: Winner, next: Winner) -> Winner
     }
 }
 
-// The search of one orientation, with its strips in their rooms.
-fn search_part<'a>(
-    ix: Index,
+// The search of one orientation, with its strips in their room.
+fn search_part(
+    g: Grid,
     k: Columns,
     p: Part,
     slot: usize,
-    apart: &'a [f64],
-    inset: &'a [f64],
+    shapes: &[f64],
     sheet: &[f64],
     sheet_entries: &[Entry],
     sheet_starts: &[usize],
@@ -144,16 +168,35 @@ fn search_part<'a>(
     placed_entries: &[Entry],
     placed_starts: &[usize],
     room: &mut [f64],
-    look_counts: &mut [usize],
-    next_column: &mut [usize],
+    tracks: &mut [usize],
 ) -> Found
-    requires { ⌜ ((c : ℕ) → c ≤ lastOf k → Lookable ix (xOf k c) (k .«y_low») (k .«y_high») (insetPart p (now inset)) (apartPart p (now apart)) (now sheet) (now placed) (now «sheet_entries») (now «sheet_starts») (now «placed_entries») (now «placed_starts»)) × (k .count ≤ 4000000000) × (slot < length (now «look_counts»)) × (slot < length (now «next_column»)) × (getD (now «look_counts») slot 0 + 4000000002 < 2 ^ 64) ⌝ }
-    ensures { λ r. ⌜ tracked r (now («look_counts» .exit)) (now («next_column» .exit)) ≡ searchOf (answerAt (length (now (room .entry)) / 2) k (insetPart p (now (inset .entry))) (apartPart p (now (apart .entry))) (now (sheet .entry)) (now (placed .entry))) k slot (now («look_counts» .entry)) (now («next_column» .entry)) ⌝ }
+    requires { ⌜ ((c : ℕ) → c ≤ lastOf k → Lookable (g .index) (xOf k c) (k .«y_low») (k .«y_high») (insetPart p (drop (6 * g .«apart_strips») (now shapes)))
+        (apartPart p (take (6 * g .«apart_strips») (now shapes))) (now sheet) (now placed)
+        (now «sheet_entries») (now «sheet_starts») (now «placed_entries») (now «placed_starts»))
+        × (k .count ≤ 4000000000) × (slot < 1024) × (slotNumbers ≤ length (now tracks)) × (getD (lookCounts (now tracks)) slot 0 + 4000000002 < 2 ^ 64)
+        × (6 * g .«apart_strips» ≤ length (now shapes)) ⌝ }
+    ensures { λ r. ⌜ tracked r (lookCounts (now (tracks .exit))) (nextColumns (now (tracks .exit)))
+        ≡ searchOf (answerAt (length (now (room .entry)) / 2) k (insetPart p (drop (6 * g .«apart_strips») (now (shapes .entry))))
+        (apartPart p (take (6 * g .«apart_strips») (now (shapes .entry)))) (now (sheet .entry)) (now (placed .entry)))
+        k slot (lookCounts (now (tracks .entry))) (nextColumns (now (tracks .entry))) ⌝ }
 {
-    let insets = trapezoid::strips_of(apart, inset, true, p.inset_start, p.inset_count);
-    let aparts = trapezoid::strips_of(apart, inset, false, p.apart_start, p.apart_count);
+    let end = 6 * g.apart_strips;
+    let insets = trapezoid::strips_of(
+        &shapes[..end],
+        &shapes[end..],
+        true,
+        p.inset_start,
+        p.inset_count,
+    );
+    let aparts = trapezoid::strips_of(
+        &shapes[..end],
+        &shapes[end..],
+        false,
+        p.apart_start,
+        p.apart_count,
+    );
     search::search(
-        ix,
+        g.index,
         k,
         slot,
         insets,
@@ -165,22 +208,18 @@ fn search_part<'a>(
         placed_entries,
         placed_starts,
         room,
-        look_counts,
-        next_column,
+        tracks,
     )
 }
 
 // The search of orientation o, of the slot.
-fn orientation<'a>(
-    ix: Index,
-    bounds: Rect,
-    resolution: f64,
+fn orientation(
+    g: Grid,
     slot: usize,
     o: usize,
     inset_bounds: &[f64],
     parts: &[usize],
-    apart: &'a [f64],
-    inset: &'a [f64],
+    shapes: &[f64],
     sheet: &[f64],
     sheet_entries: &[Entry],
     sheet_starts: &[usize],
@@ -188,22 +227,26 @@ fn orientation<'a>(
     placed_entries: &[Entry],
     placed_starts: &[usize],
     room: &mut [f64],
-    look_counts: &mut [usize],
-    next_column: &mut [usize],
+    tracks: &mut [usize],
 ) -> Winner
-    requires { ⌜ Ready ix (world (length (now room) / 2) bounds resolution (now «inset_bounds») (now parts) (now apart) (now inset) (now sheet) (now placed)) (now «sheet_entries») (now «sheet_starts») (now «placed_entries») (now «placed_starts») slot × (slot < length (now «look_counts»)) × (slot < length (now «next_column»)) × (getD (now «look_counts») slot 0 + 4000000002 < 2 ^ 64) ⌝ }
-    ensures { λ r. ⌜ chosen r (now («look_counts» .exit)) (now («next_column» .exit)) ≡ orientationOf (world (length (now (room .entry)) / 2) bounds resolution (now («inset_bounds» .entry)) (now (parts .entry)) (now (apart .entry)) (now (inset .entry)) (now (sheet .entry)) (now (placed .entry))) slot o (now («look_counts» .entry)) (now («next_column» .entry)) ⌝ }
+    requires { ⌜ Ready (g .index) (worldIn (length (now room) / 2) g (now «inset_bounds») (now parts) (now shapes) (now sheet) (now placed))
+        (now «sheet_entries») (now «sheet_starts») (now «placed_entries») (now «placed_starts») slot
+        × (slot < 1024) × (slotNumbers ≤ length (now tracks)) × (getD (lookCounts (now tracks)) slot 0 + 4000000002 < 2 ^ 64)
+        × (6 * g .«apart_strips» ≤ length (now shapes)) ⌝ }
+    ensures { λ r. ⌜ chosen r (lookCounts (now (tracks .exit))) (nextColumns (now (tracks .exit)))
+        ≡ orientationOf (worldIn (length (now (room .entry)) / 2) g (now («inset_bounds» .entry)) (now (parts .entry))
+        (now (shapes .entry)) (now (sheet .entry))
+        (now (placed .entry))) slot o (lookCounts (now (tracks .entry))) (nextColumns (now (tracks .entry))) ⌝ }
 {
     let b = bounds_at(inset_bounds, slot);
     let p = part_at(parts, slot);
-    let k = Columns::new(bounds, b, resolution);
+    let k = Columns::new(g.bounds, b, g.resolution);
     let found = search_part(
-        ix,
+        g,
         k,
         p,
         slot,
-        apart,
-        inset,
+        shapes,
         sheet,
         sheet_entries,
         sheet_starts,
@@ -211,24 +254,20 @@ fn orientation<'a>(
         placed_entries,
         placed_starts,
         room,
-        look_counts,
-        next_column,
+        tracks,
     );
     winner_of(k, b, o, found)
 }
 
 // The winner among the n orientations of a kind, whose slots start at `slot`. Only crates of ours
 // call it: the entries must be those of the strips.
-pub fn choose<'a>(
-    ix: Index,
-    bounds: Rect,
-    resolution: f64,
+pub fn choose(
+    g: Grid,
     slot: usize,
     n: usize,
     inset_bounds: &[f64],
     parts: &[usize],
-    apart: &'a [f64],
-    inset: &'a [f64],
+    shapes: &[f64],
     sheet: &[f64],
     sheet_entries: &[Entry],
     sheet_starts: &[usize],
@@ -236,25 +275,26 @@ pub fn choose<'a>(
     placed_entries: &[Entry],
     placed_starts: &[usize],
     room: &mut [f64],
-    look_counts: &mut [usize],
-    next_column: &mut [usize],
+    tracks: &mut [usize],
 ) -> Winner
-    requires { ⌜ ((o : ℕ) → o < n → Ready ix (world (length (now room) / 2) bounds resolution (now «inset_bounds») (now parts) (now apart) (now inset) (now sheet) (now placed)) (now «sheet_entries») (now «sheet_starts») (now «placed_entries») (now «placed_starts») (slot + o)) × (slot + n ≤ length (now «look_counts»)) × (slot + n ≤ length (now «next_column»)) × ((o : ℕ) → o < n → getD (now «look_counts») (slot + o) 0 + 4000000002 < 2 ^ 64) × (slot + n ≤ 1024) ⌝ }
-    ensures { λ r. ⌜ chosen r (now («look_counts» .exit)) (now («next_column» .exit)) ≡ chooseFrom (world (length (now (room .entry)) / 2) bounds resolution (now («inset_bounds» .entry)) (now (parts .entry)) (now (apart .entry)) (now (inset .entry)) (now (sheet .entry)) (now (placed .entry))) slot n 0 (chosen Winner.Nowhere (now («look_counts» .entry)) (now («next_column» .entry))) ⌝ }
+    requires { ⌜ ((o : ℕ) → o < n → Ready (g .index) (worldIn (length (now room) / 2) g (now «inset_bounds») (now parts) (now shapes) (now sheet) (now placed))
+        (now «sheet_entries») (now «sheet_starts») (now «placed_entries») (now «placed_starts») (slot + o))
+        × (slot + n ≤ 1024) × (slotNumbers ≤ length (now tracks)) × ((o : ℕ) → o < n → getD (lookCounts (now tracks)) (slot + o) 0 + 4000000002 < 2 ^ 64)
+        × (6 * g .«apart_strips» ≤ length (now shapes)) ⌝ }
+    ensures { λ r. ⌜ chosen r (lookCounts (now (tracks .exit))) (nextColumns (now (tracks .exit)))
+        ≡ chooseFrom (worldIn (length (now (room .entry)) / 2) g (now («inset_bounds» .entry)) (now (parts .entry)) (now (shapes .entry)) (now (sheet .entry))
+        (now (placed .entry))) slot n 0 (chosen Winner.Nowhere (lookCounts (now (tracks .entry))) (nextColumns (now (tracks .entry)))) ⌝ }
 {
     let mut best = Winner::Nowhere;
     let mut o = 0;
     while o < n {
         let next = orientation(
-            ix,
-            bounds,
-            resolution,
+            g,
             slot + o,
             o,
             inset_bounds,
             parts,
-            apart,
-            inset,
+            shapes,
             sheet,
             sheet_entries,
             sheet_starts,
@@ -262,8 +302,7 @@ pub fn choose<'a>(
             placed_entries,
             placed_starts,
             room,
-            look_counts,
-            next_column,
+            tracks,
         );
         best = better(best, next);
         o += 1;

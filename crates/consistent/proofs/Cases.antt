@@ -1,15 +1,14 @@
 -- The groups of 31's tests by cases, in the code's order. Assumes nothing.
 use Prim.Native.Nat.{ℕ, _-_, _*_, _≤_, _<_}
-use native.Mathlib.Nat.{le-of-eq}
 use native.Mathlib.Omega.{arith}
 use mathlib.Core.Path.{_≡_, sym, ap, subst, _∙_}
 use mathlib.Core.Bool.{Bool, true, false, _&&_}
 use mathlib.Core.List.{List}
-use lib.ListN.{length, take, drop, length-drop}
-use lib.Seq.{take-all}
+use lib.ListN.{length, take, drop}
 use lib.Dec.{leb}
 use lib.Ieee.{Float}
 use borrow.Author.Tests.{lt-leb, le-leb}
+use Rattle.tracks.proofs.Parts.{rest-is}
 use Rattle.trapezoid.specs.Strip.{capacity}
 use Rattle.strips.specs.declared.Rect.{Rect}
 use Rattle.index.specs.declared.Index.{Index}
@@ -150,9 +149,6 @@ pub both-yes : (a b : Bool) → a ≡ true → b ≡ a && b
 both-yes a b e = sym (ap (λ t. t && b) e)
 
 -- ---- the second part of the shapes room
-
-rest-is : (n : ℕ) (room : List Float) → take (length room - n) (drop n room) ≡ drop n room
-rest-is n room = take-all (length room - n) (drop n room) (le-of-eq (length-drop n room))
 
 pub slots-rest : {r : Bool} (bounds : Rect) (resolution : Float) (taken : ℕ) (inset-bounds : List Float) (parts : List ℕ) (apart : List Float) (n : ℕ) (room : List Float) (next looks rows : List ℕ) (kinds : ℕ)
     → r ≡ slotsTest (slots bounds resolution taken inset-bounds parts apart (take (length room - n) (drop n room)) next looks) rows kinds

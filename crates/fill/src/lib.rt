@@ -27,28 +27,19 @@ fn fill_bytes(
     requires { ⌜ ((l : Lent) × Zeroed l (now shapes) (now sheet) (now placed) (now «sheet_entries») (now «placed_entries») (now intervals) (now positions)) ⌝ }
     ensures { λ r. ⌜ ((l : Lent) → Zeroed l (now (shapes .entry)) (now (sheet .entry)) (now (placed .entry)) (now («sheet_entries» .entry)) (now («placed_entries» .entry)) (now (intervals .entry)) (now (positions .entry)) → reply r (now (positions .exit)) ≡ replyOf (fillOf (now (bytes .entry)) (now (order .entry)) l)) ⌝ }
 {
-    let mut rows = [0u64; 256];
-    let mut areas = [0.0; 64];
-    let mut places = [0u32; 2048];
-    let mut points = [0.0; 1024];
-    let mut ends = [0usize; 64];
-    match job::read_job(
-        bytes,
-        &mut rows,
-        &mut areas,
-        &mut places,
-        &mut points,
-        &mut ends,
-    ) {
+    let j = job::read(bytes);
+    let rows = j.rows;
+    let areas = j.areas;
+    let places = j.places;
+    let answer = j.answer;
+    match answer {
         JobRead::Good(h, at, copies) => {
-            let kinds = h.kinds as usize;
             let n = copies as usize;
             fill_job::fill_job(
                 bytes,
                 at,
-                kinds,
+                h,
                 n,
-                h.resolution,
                 order,
                 &rows,
                 &areas,

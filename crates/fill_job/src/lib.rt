@@ -13,16 +13,16 @@ ghost use Rattle.filling.specs.Fill.{fillOrder, plannedBy, fillJob};
 ghost use Rattle.report.specs.Replies.{reply, replyOf, plannedWhen};
 ghost use Rattle.readied.specs.Zeroed.{Zeroed, ReadInto};
 use filling::Refusal;
+use filling::Verdict;
 use index::Entry;
-use prepare::Prepared;
+use job::Header;
 use report::NestResult;
 
 // The job's tables and rooms are prepared, then filled.
 fn fill_tables(
     bytes: &[u8],
     at: u32,
-    kinds: usize,
-    resolution: f64,
+    h: Header,
     order: &[usize],
     rows: &[u64],
     areas: &[f64],
@@ -35,50 +35,46 @@ fn fill_tables(
     intervals: &mut [f64],
     positions: &mut [f64],
 ) -> NestResult
-    requires { ⌜ ((j : Job) × (l : Lent) × ReadInto j (now bytes) at kinds resolution (now rows) (now areas) (now places) × Zeroed l (now shapes) (now sheet) (now placed) (now «sheet_entries») (now «placed_entries») (now intervals) (now positions) × (rearranged j (now order) ≡ true))
+    requires { ⌜ ((j : Job) × (l : Lent) × ReadInto j (now bytes) at h (now rows) (now areas) (now places)
+        × Zeroed l (now shapes) (now sheet) (now placed) (now «sheet_entries») (now «placed_entries») (now intervals) (now positions)
+        × (rearranged j (now order) ≡ true))
         × (2048 ≤ length (now places)) × (5 * length (now order) ≤ length (now positions)) ⌝ }
-    ensures { λ r. ⌜ ((j : Job) (l : Lent) → ReadInto j (now (bytes .entry)) at kinds resolution (now (rows .entry)) (now (areas .entry)) (now (places .entry)) → Zeroed l (now (shapes .entry)) (now (sheet .entry)) (now (placed .entry)) (now («sheet_entries» .entry)) (now («placed_entries» .entry)) (now (intervals .entry)) (now (positions .entry)) → rearranged j (now (order .entry)) ≡ true
-        → reply r (now (positions .exit)) ≡ replyOf (plannedWhen (prepareVerdict (plannerOf j) (l .rooms)) l (plannedBy j l (fillOrder j l (now (order .entry)))))) ⌝ }
+    ensures { λ r. ⌜ ((j : Job) (l : Lent) → ReadInto j (now (bytes .entry)) at h (now (rows .entry)) (now (areas .entry)) (now (places .entry))
+        → Zeroed l (now (shapes .entry)) (now (sheet .entry)) (now (placed .entry)) (now («sheet_entries» .entry))
+        (now («placed_entries» .entry)) (now (intervals .entry)) (now (positions .entry))
+        → rearranged j (now (order .entry)) ≡ true
+        → reply r (now (positions .exit)) ≡ replyOf (plannedWhen (prepareVerdict (plannerOf j) (l .rooms)) l
+        (plannedBy j l (fillOrder j l (now (order .entry)))))) ⌝ }
 {
-    let mut sheet_starts = [0usize; 513];
-    let mut gains = [0usize; 512];
-    let mut inset_bounds = [0.0; 4096];
-    let mut parts = [0usize; 4096];
-    match prepare::prepare(
-        bytes,
-        at,
-        kinds,
-        rows,
-        places,
-        shapes,
-        sheet,
-        sheet_entries,
-        &mut sheet_starts,
-        &mut gains,
-        &mut inset_bounds,
-        &mut parts,
-    ) {
-        Prepared::Ready(bounds, n, a, _) => fill_plan::fill_plan(
-            bounds,
-            resolution,
-            kinds,
-            n,
-            a,
-            order,
-            rows,
-            areas,
-            &inset_bounds,
-            &parts,
-            shapes,
-            sheet,
-            sheet_entries,
-            &sheet_starts,
-            placed,
-            placed_entries,
-            intervals,
-            positions,
-        ),
-        Prepared::NotReady(k) => report::refused(k),
+    let kinds = h.kinds as usize;
+    let p = prepare::prepare(bytes, at, h, rows, places, shapes, sheet, sheet_entries);
+    let tables = p.tables;
+    let sheet_starts = p.sheet_starts;
+    let verdict = p.verdict;
+    match verdict {
+        Verdict::Accepted => {
+            let n = order.len();
+            let mut table = [0usize; 4096];
+            started::copy_order(order, &mut table);
+            search_plan::search_plan(
+                tables,
+                kinds,
+                h.seed,
+                0,
+                &mut table[..n],
+                rows,
+                areas,
+                shapes,
+                sheet,
+                sheet_entries,
+                &sheet_starts,
+                placed,
+                placed_entries,
+                intervals,
+                positions,
+            )
+        }
+        Verdict::Refused(k) => report::refused(k),
     }
 }
 
@@ -87,9 +83,8 @@ fn fill_tables(
 pub fn fill_job(
     bytes: &[u8],
     at: u32,
-    kinds: usize,
+    h: Header,
     copies: usize,
-    resolution: f64,
     order: &[usize],
     rows: &[u64],
     areas: &[f64],
@@ -102,20 +97,25 @@ pub fn fill_job(
     intervals: &mut [f64],
     positions: &mut [f64],
 ) -> NestResult
-    requires { ⌜ ((j : Job) × (l : Lent) × ReadInto j (now bytes) at kinds resolution (now rows) (now areas) (now places) × Zeroed l (now shapes) (now sheet) (now placed) (now «sheet_entries») (now «placed_entries») (now intervals) (now positions) × (j .copies ≡ copies))
+    requires { ⌜ ((j : Job) × (l : Lent) × ReadInto j (now bytes) at h (now rows) (now areas) (now places)
+        × Zeroed l (now shapes) (now sheet) (now placed) (now «sheet_entries») (now «placed_entries») (now intervals) (now positions)
+        × (j .copies ≡ copies))
         × (2048 ≤ length (now places)) ⌝ }
-    ensures { λ r. ⌜ ((j : Job) (l : Lent) → ReadInto j (now (bytes .entry)) at kinds resolution (now (rows .entry)) (now (areas .entry)) (now (places .entry)) → Zeroed l (now (shapes .entry)) (now (sheet .entry)) (now (placed .entry)) (now («sheet_entries» .entry)) (now («placed_entries» .entry)) (now (intervals .entry)) (now (positions .entry)) → j .copies ≡ copies
+    ensures { λ r. ⌜ ((j : Job) (l : Lent) → ReadInto j (now (bytes .entry)) at h (now (rows .entry)) (now (areas .entry)) (now (places .entry))
+        → Zeroed l (now (shapes .entry)) (now (sheet .entry)) (now (placed .entry)) (now («sheet_entries» .entry))
+        (now («placed_entries» .entry)) (now (intervals .entry)) (now (positions .entry))
+        → j .copies ≡ copies
         → reply r (now (positions .exit)) ≡ replyOf (fillJob j (now (order .entry)) l)) ⌝ }
 {
     if positions.len() / 5 < copies {
         return report::refused(Refusal::PositionRoom);
     }
+    let kinds = h.kinds as usize;
     if order::rearranged(order, rows, kinds, copies) {
         return fill_tables(
             bytes,
             at,
-            kinds,
-            resolution,
+            h,
             order,
             rows,
             areas,

@@ -2,7 +2,7 @@
 use Prim.Native.Nat.{ℕ, _+_, _*_, _≤_}
 use mathlib.Core.Path.{_≡_}
 use mathlib.Core.List.{List}
-use lib.ListN.{length, take, replicate}
+use lib.ListN.{length, take, drop, replicate}
 use lib.Ieee.{Float}
 use Rattle.numbers.specs.Numbers.{posZero}
 use Rattle.trapezoid.specs.Strip.{capacity}
@@ -21,10 +21,9 @@ use Rattle.filling.specs.Consistent.{sheetIndex}
 use Rattle.filling.specs.Start.{tablesOf, firstRooms}
 use Rattle.filling.specs.Fill.{Filling, filled, stopped}
 use Rattle.tables.specs.Tabled.{Tabled}
+use Rattle.tracks.specs.Tracks.{nextColumns, lookCounts, orientations, xs, ys}
+use Rattle.choose.specs.declared.Grid.{Grid}
 use Rattle.place.specs.declared.Totals.{Totals}
-use Rattle.place.specs.declared.Outcome.{Outcome}
-use Rattle.place.specs.declared.Outcome.the-variants as Outcomes
-use Rattle.place.specs.declared.Outcome.the-variants.{At, Nowhere}
 
 -- what is worked out of a job before the first copy
 pub record Given : Type 0 where
@@ -44,6 +43,12 @@ pub record Given : Type 0 where
 abbrev pub given : Index → Rect → Float → List ℕ → List Float → List Float → List ℕ → List Float → List Float → List Float → List ℕ → List ℕ → Given
 given ix bounds resolution rows areas inset-bounds parts apart inset sheet sheet-entries sheet-starts =
     record { index = ix; bounds = bounds; resolution = resolution; rows = rows; areas = areas; inset-bounds = inset-bounds; parts = parts; apart = apart; inset = inset; sheet = sheet; sheet-entries = sheet-entries; sheet-starts = sheet-starts }
+
+-- the same with the apart strips at the beginning of the shapes room and the inset strips after them
+abbrev pub givenIn : Grid → List ℕ → List Float → List Float → List ℕ → List Float → List Float → List ℕ → List ℕ → Given
+givenIn g rows areas inset-bounds parts shapes sheet sheet-entries sheet-starts =
+    given (g .index) (g .bounds) (g .resolution) rows areas inset-bounds parts (take (6 * g .«apart_strips») shapes) (drop (6 * g .«apart_strips») shapes)
+    sheet sheet-entries sheet-starts
 
 -- it is the job's, in rooms as a start leaves them
 pub record Prepared (j : Job) (g : Given) : Type 0 where
@@ -87,12 +92,6 @@ abbrev pub roomsBy : Planner → Rooms → List Float → List ℕ → Rooms
 roomsBy p lent placed entries =
     record { shapes = firstRooms p lent .shapes; sheet = firstRooms p lent .sheet; placed = placed; sheet-entries = firstRooms p lent .sheet-entries; placed-entries = entries }
 
--- whether the copy is taken
-abbrev pub verdictOf : Outcome → Verdict
-verdictOf (At c) = Accepted
-verdictOf Nowhere = Accepted
-verdictOf (Outcomes.Refused k) = Refused k
-
 -- where the filling goes on after place i of n
 abbrev pub placeAfter : Verdict → ℕ → ℕ → ℕ
 placeAfter Accepted i n = i + 1
@@ -102,3 +101,7 @@ placeAfter (Refused k) i n = n
 abbrev pub fillingBy : Verdict → Planner → List ℕ → List ℕ → List ℕ → Totals → List ℕ → List Float → List Float → Filling
 fillingBy Accepted p order next looks t orientation x y = filled (stateBy p order (length order) next looks t orientation x y)
 fillingBy (Refused k) p order next looks t orientation x y = stopped k
+
+-- the same in a filling's two tables
+abbrev pub fillingIn : Verdict → Planner → List ℕ → List ℕ → Totals → List Float → Filling
+fillingIn v p order tracks t spots = fillingBy v p order (nextColumns tracks) (lookCounts tracks) t (orientations tracks) (xs spots) (ys spots)

@@ -43,7 +43,7 @@ use Rattle.place.specs.declared.Totals.{Totals}
 use Rattle.place.specs.declared.Outcome.{Outcome}
 use Rattle.place.specs.declared.Outcome.the-variants.{At, Nowhere, Refused}
 use Rattle.place.specs.declared.Step.{Step}
-use Rattle.place.specs.Placing.{step, afterOf, withoutOf, PutLeft, put, putLeft, putOf, settleOf, Among, Placed, placeWith, placeOf, numberOf, xOf, yOf}
+use Rattle.place.specs.Placing.{totalsOf, step, afterOf, withoutOf, PutLeft, put, putLeft, putOf, settleOf, Among, Placed, placeWith, placeOf, numberOf, xOf, yOf}
 use Rattle.place.proofs.Putting.{chosen-among}
 use Rattle.filling_laws.proofs.SameChoice.{choiceIn, bestOf, worldOf, shapeIn, shapesFrom, tracksFrom, foundsFrom, trackedFrom, aboveFrom, choose-over, choose-fine}
 
@@ -52,10 +52,6 @@ dich true = inl refl
 dich false = inr refl
 
 -- ---- the definition's step, from what the code leaves
-
--- a state's numbers that stand beside the rooms
-abbrev pub totalsOf : State → Totals
-totalsOf s = record { «placed_strips» = s .«placed_strips»; right = s .layout .right; «unplaced_area» = s .layout .«unplaced_area» }
 
 abbrev pub takenWith : State → Rooms → List Float → Placed → Next.Step
 takenWith s w intervals r =

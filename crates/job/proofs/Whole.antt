@@ -19,6 +19,7 @@ use Rattle.job.specs.declared.Header.{Header}
 use Rattle.job.specs.declared.Judged.{Judged}
 use Rattle.job.specs.declared.Judged.the-variants.{Passed, Failed}
 use Rattle.job.specs.declared.JobRead.{JobRead}
+use Rattle.job.specs.declared.ReadJob.{ReadJob}
 use Rattle.kinds.specs.Tables.{tabulate, kindAt}
 use Rattle.job.specs.Meaning.{answered, jobRead}
 use Rattle.sets.specs.Sets.{Set, aSet, found, setAt}
@@ -165,3 +166,8 @@ module _ (bytes R : List ℕ) (A : List Float) (P : List ℕ) (h : Header) (at c
       ∙ ap (λ (x : Set). passed d (record { header = h; sheet = x; kinds = tabulate (kindAt bytes R A P) (h .kinds); copies = c })) (sym es)
       ∙ sym (answered-is d)
       ∙ ap (λ (x : JobRead). jobRead x bytes R A P) (sym ea)
+
+-- ---- a job as it was read
+pub read-as : (bytes : List ℕ) (r : ReadJob) {a : JobRead} → readJob bytes ≡ jobRead (r .answer) bytes (r .rows) (r .areas) (r .places) → r .answer ≡ a
+    → readJob bytes ≡ jobRead a bytes (r .rows) (r .areas) (r .places)
+read-as bytes r e d = e ∙ ap (λ (a : JobRead). jobRead a bytes (r .rows) (r .areas) (r .places)) d

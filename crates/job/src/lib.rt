@@ -172,8 +172,8 @@ fn answer(j: Judged, h: Header, sheet: u32, copies: u64) -> JobRead
 }
 
 // The job that the bytes are, its kinds in the tables; or why it is refused. The rooms take each set
-// in turn. Called by this project's crates alone.
-pub fn read_job(
+// in turn.
+fn read_job(
     bytes: &[u8],
     rows: &mut [u64],
     areas: &mut [f64],
@@ -208,6 +208,40 @@ pub fn read_job(
     }
 }
 
+// A job as it was read: its answer and its tables.
+pub struct ReadJob {
+    pub answer: JobRead,
+    pub rows: [u64; 256],
+    pub areas: [f64; 64],
+    pub places: [u32; 2048],
+}
+
+// The job that the bytes are, its kinds in the tables; or why it is refused.
+pub fn read(bytes: &[u8]) -> ReadJob
+    ensures { λ r. ⌜ (readJob (now (bytes .entry)) ≡ jobRead (r .answer) (now (bytes .entry)) (r .rows) (r .areas) (r .places))
+        × (length (r .rows) ≡ 256) × (length (r .areas) ≡ 64) × (length (r .places) ≡ 2048) ⌝ }
+{
+    let mut rows = [0u64; 256];
+    let mut areas = [0.0; 64];
+    let mut places = [0u32; 2048];
+    let mut room = [0.0; 1024];
+    let mut ends = [0usize; 64];
+    let answer = read_job(
+        bytes,
+        &mut rows,
+        &mut areas,
+        &mut places,
+        &mut room,
+        &mut ends,
+    );
+    ReadJob {
+        answer,
+        rows,
+        areas,
+        places,
+    }
+}
+
 // The header and the copies in all, or why the job is refused.
 pub enum Verdict {
     Accepted(Header, u64),
@@ -218,19 +252,9 @@ pub enum Verdict {
 pub fn judge(bytes: &[u8]) -> Verdict
     ensures { λ r. ⌜ r ≡ verdictOf (readJob (now (bytes .entry))) ⌝ }
 {
-    let mut rows = [0u64; 256];
-    let mut areas = [0.0; 64];
-    let mut places = [0u32; 2048];
-    let mut room = [0.0; 1024];
-    let mut ends = [0usize; 64];
-    match read_job(
-        bytes,
-        &mut rows,
-        &mut areas,
-        &mut places,
-        &mut room,
-        &mut ends,
-    ) {
+    let j = read(bytes);
+    let answer = j.answer;
+    match answer {
         JobRead::Good(h, _, c) => Verdict::Accepted(h, c),
         JobRead::NoJob(k) => Verdict::Refused(k),
     }

@@ -12,12 +12,12 @@ ghost use Rattle.nesting.specs.Nest.{nested, nestJob};
 ghost use Rattle.report.specs.Replies.{reply, replyOf, plannedWhen};
 ghost use Rattle.readied.specs.Zeroed.{Zeroed, ReadInto};
 use filling::Refusal;
+use filling::Verdict;
 use index::Entry;
 use job::Header;
-use prepare::Prepared;
 use report::NestResult;
 
-// The job's tables and rooms are prepared, then its plan is made.
+// The job's tables and rooms are prepared, then the plan of its copies in their order is made.
 fn nest_tables(
     bytes: &[u8],
     at: u32,
@@ -33,49 +33,44 @@ fn nest_tables(
     intervals: &mut [f64],
     positions: &mut [f64],
 ) -> NestResult
-    requires { ⌜ ((j : Job) × (l : Lent) × ReadInto j (now bytes) at (h .kinds) (h .resolution) (now rows) (now areas) (now places) × Zeroed l (now shapes) (now sheet) (now placed) (now «sheet_entries») (now «placed_entries») (now intervals) (now positions) × (j .header ≡ h) × (5 * j .copies ≤ length (now positions)))
+    requires { ⌜ ((j : Job) × (l : Lent) × ReadInto j (now bytes) at h (now rows) (now areas) (now places)
+        × Zeroed l (now shapes) (now sheet) (now placed) (now «sheet_entries») (now «placed_entries») (now intervals) (now positions)
+        × (5 * j .copies ≤ length (now positions)))
         × (2048 ≤ length (now places)) ⌝ }
-    ensures { λ r. ⌜ ((j : Job) (l : Lent) → ReadInto j (now (bytes .entry)) at (h .kinds) (h .resolution) (now (rows .entry)) (now (areas .entry)) (now (places .entry)) → Zeroed l (now (shapes .entry)) (now (sheet .entry)) (now (placed .entry)) (now («sheet_entries» .entry)) (now («placed_entries» .entry)) (now (intervals .entry)) (now (positions .entry)) → j .header ≡ h
+    ensures { λ r. ⌜ ((j : Job) (l : Lent) → ReadInto j (now (bytes .entry)) at h (now (rows .entry)) (now (areas .entry)) (now (places .entry))
+        → Zeroed l (now (shapes .entry)) (now (sheet .entry)) (now (placed .entry)) (now («sheet_entries» .entry))
+        (now («placed_entries» .entry)) (now (intervals .entry)) (now (positions .entry))
         → reply r (now (positions .exit)) ≡ replyOf (plannedWhen (prepareVerdict (plannerOf j) (l .rooms)) l (nested j l (swapSearch j l)))) ⌝ }
 {
     let kinds = h.kinds as usize;
-    let mut sheet_starts = [0usize; 513];
-    let mut gains = [0usize; 512];
-    let mut inset_bounds = [0.0; 4096];
-    let mut parts = [0usize; 4096];
-    match prepare::prepare(
-        bytes,
-        at,
-        kinds,
-        rows,
-        places,
-        shapes,
-        sheet,
-        sheet_entries,
-        &mut sheet_starts,
-        &mut gains,
-        &mut inset_bounds,
-        &mut parts,
-    ) {
-        Prepared::Ready(bounds, n, a, _) => nest_order::nest_order(
-            bounds,
-            h,
-            n,
-            a,
-            rows,
-            areas,
-            &inset_bounds,
-            &parts,
-            shapes,
-            sheet,
-            sheet_entries,
-            &sheet_starts,
-            placed,
-            placed_entries,
-            intervals,
-            positions,
-        ),
-        Prepared::NotReady(k) => report::refused(k),
+    let p = prepare::prepare(bytes, at, h, rows, places, shapes, sheet, sheet_entries);
+    let tables = p.tables;
+    let sheet_starts = p.sheet_starts;
+    let verdict = p.verdict;
+    match verdict {
+        Verdict::Accepted => {
+            let rounds = h.rounds as usize;
+            let mut order = [0usize; 4096];
+            let n = copy_order::copy_order(rows, areas, kinds, &mut order);
+            search_plan::search_plan(
+                tables,
+                kinds,
+                h.seed,
+                rounds,
+                &mut order[..n],
+                rows,
+                areas,
+                shapes,
+                sheet,
+                sheet_entries,
+                &sheet_starts,
+                placed,
+                placed_entries,
+                intervals,
+                positions,
+            )
+        }
+        Verdict::Refused(k) => report::refused(k),
     }
 }
 
@@ -97,9 +92,14 @@ pub fn nest_job(
     intervals: &mut [f64],
     positions: &mut [f64],
 ) -> NestResult
-    requires { ⌜ ((j : Job) × (l : Lent) × ReadInto j (now bytes) at (h .kinds) (h .resolution) (now rows) (now areas) (now places) × Zeroed l (now shapes) (now sheet) (now placed) (now «sheet_entries») (now «placed_entries») (now intervals) (now positions) × (j .copies ≡ copies) × (j .header ≡ h))
+    requires { ⌜ ((j : Job) × (l : Lent) × ReadInto j (now bytes) at h (now rows) (now areas) (now places)
+        × Zeroed l (now shapes) (now sheet) (now placed) (now «sheet_entries») (now «placed_entries») (now intervals) (now positions)
+        × (j .copies ≡ copies))
         × (2048 ≤ length (now places)) ⌝ }
-    ensures { λ r. ⌜ ((j : Job) (l : Lent) → ReadInto j (now (bytes .entry)) at (h .kinds) (h .resolution) (now (rows .entry)) (now (areas .entry)) (now (places .entry)) → Zeroed l (now (shapes .entry)) (now (sheet .entry)) (now (placed .entry)) (now («sheet_entries» .entry)) (now («placed_entries» .entry)) (now (intervals .entry)) (now (positions .entry)) → j .copies ≡ copies → j .header ≡ h
+    ensures { λ r. ⌜ ((j : Job) (l : Lent) → ReadInto j (now (bytes .entry)) at h (now (rows .entry)) (now (areas .entry)) (now (places .entry))
+        → Zeroed l (now (shapes .entry)) (now (sheet .entry)) (now (placed .entry)) (now («sheet_entries» .entry))
+        (now («placed_entries» .entry)) (now (intervals .entry)) (now (positions .entry))
+        → j .copies ≡ copies
         → reply r (now (positions .exit)) ≡ replyOf (nestJob j l)) ⌝ }
 {
     if positions.len() / 5 < copies {

@@ -4,18 +4,19 @@ ghost use Prim.Native.Nat.{ℕ, _+_, _*_, _/_, _≤_, _<_, _^_};
 ghost use lib.ListN.{length, getD, set, take};
 ghost use Rattle.index.specs.Buckets.{buckets};
 ghost use Rattle.index.specs.Listing.{Laid};
-ghost use Rattle.choose.specs.Choosing.{world};
+ghost use Rattle.tracks.specs.Tracks.{nextColumns, lookCounts, orientations, xs, ys, trackNumbers, spotNumbers};
+ghost use Rattle.choose.specs.Choosing.{worldIn};
 ghost use Rattle.place.specs.Placing.{Under, done, placeOf, numberOf, xOf, yOf};
 ghost use Rattle.place.specs.Standing.{Standing, Fixed};
+use choose::Grid;
 use index::Entry;
-use index::Index;
+use place::Copy;
 use place::Outcome;
 use place::Step;
 use place::Totals;
-use strips::Rect;
 
 // 0 for a copy without a place, else 1 + its orientation.
-fn number_of(o: Outcome, n: usize) -> usize
+pub fn number_of(o: Outcome, n: usize) -> usize
     requires { ⌜ Under n o × (n ≤ 1024) ⌝ }
     ensures { λ r. ⌜ r ≡ numberOf o ⌝ }
 {
@@ -26,7 +27,7 @@ fn number_of(o: Outcome, n: usize) -> usize
     }
 }
 
-fn x_of(o: Outcome) -> f64
+pub fn x_of(o: Outcome) -> f64
     ensures { λ r. ⌜ r ≡ xOf o ⌝ }
 {
     match o {
@@ -36,7 +37,7 @@ fn x_of(o: Outcome) -> f64
     }
 }
 
-fn y_of(o: Outcome) -> f64
+pub fn y_of(o: Outcome) -> f64
     ensures { λ r. ⌜ r ≡ yOf o ⌝ }
 {
     match o {
@@ -46,21 +47,16 @@ fn y_of(o: Outcome) -> f64
     }
 }
 
-// The copy at place `at` of the order, of the kind whose n orientations have their slots from `slot`
-// on. Only crates of ours call it: strips and entries must be those of the copies that stand.
-pub fn place_next<'a>(
-    ix: Index,
-    bounds: Rect,
-    resolution: f64,
-    area: f64,
-    slot: usize,
-    n: usize,
+// The copy at place `at` of the order. Only crates of ours call it: strips and entries must be those
+// of the copies that stand.
+pub fn place_next(
+    g: Grid,
+    copy: Copy,
     at: usize,
     t: Totals,
     inset_bounds: &[f64],
     parts: &[usize],
-    apart: &'a [f64],
-    inset: &'a [f64],
+    shapes: &[f64],
     sheet: &[f64],
     sheet_entries: &[Entry],
     sheet_starts: &[usize],
@@ -69,30 +65,32 @@ pub fn place_next<'a>(
     starts: &mut [usize],
     gains: &mut [usize],
     room: &mut [f64],
-    look_counts: &mut [usize],
-    next_column: &mut [usize],
-    orientation: &mut [usize],
-    x: &mut [f64],
-    y: &mut [f64],
+    tracks: &mut [usize],
+    spots: &mut [f64],
 ) -> Step
-    requires { ⌜ ((o : ℕ) → o < n → Fixed ix (world (length (now room) / 2) bounds resolution (now «inset_bounds») (now parts) (now apart) (now inset) (now sheet) (take (6 * t .«placed_strips») (now placed))) (now «sheet_entries») (now «sheet_starts») (slot + o)) × (slot + n ≤ length (now «look_counts»)) × (slot + n ≤ length (now «next_column»)) × ((o : ℕ) → o < n → getD (now «look_counts») (slot + o) 0 + 4000000002 < 2 ^ 64) × (slot + n ≤ 1024)
-        × Standing ix (now placed) (t .«placed_strips») (now entries) (now starts) × (length (now gains) ≡ buckets) × (at < length (now orientation)) × (at < length (now x)) × (at < length (now y)) × (at < 4096) ⌝ }
-    ensures { λ r. ⌜ (done r (now (placed .exit)) (now (entries .exit)) (now (starts .exit)) (now («look_counts» .exit)) (now («next_column» .exit)) ≡ placeOf ix (world (length (now (room .entry)) / 2) bounds resolution (now («inset_bounds» .entry)) (now (parts .entry)) (now (apart .entry)) (now (inset .entry)) (now (sheet .entry)) (take (6 * t .«placed_strips») (now (placed .entry)))) area slot n t (now (placed .entry)) (now (entries .entry)) (now (starts .entry)) (now («look_counts» .entry)) (now («next_column» .entry)))
-        × (now (orientation .exit) ≡ set (now (orientation .entry)) at (numberOf (r .outcome))) × (now (x .exit) ≡ set (now (x .entry)) at (xOf (r .outcome))) × (now (y .exit) ≡ set (now (y .entry)) at (yOf (r .outcome)))
-        × Laid ix (now (placed .exit)) (r .totals .«placed_strips») (now (entries .exit)) (now (starts .exit)) ⌝ }
+    requires { ⌜ ((o : ℕ) → o < copy .orientations → Fixed (g .index) (worldIn (length (now room) / 2) g (now «inset_bounds») (now parts) (now shapes)
+        (now sheet) (take (6 * t .«placed_strips») (now placed))) (now «sheet_entries») (now «sheet_starts») (copy .slot + o))
+        × (copy .slot + copy .orientations ≤ 1024)
+        × ((o : ℕ) → o < copy .orientations → getD (lookCounts (now tracks)) (copy .slot + o) 0 + 4000000002 < 2 ^ 64)
+        × Standing (g .index) (now placed) (t .«placed_strips») (now entries) (now starts) × (length (now gains) ≡ buckets)
+        × (6 * g .«apart_strips» ≤ length (now shapes)) × (trackNumbers ≤ length (now tracks)) × (spotNumbers ≤ length (now spots)) × (at < 4096) ⌝ }
+    ensures { λ r. ⌜ (done r (now (placed .exit)) (now (entries .exit)) (now (starts .exit)) (lookCounts (now (tracks .exit)))
+        (nextColumns (now (tracks .exit)))
+        ≡ placeOf (g .index) (worldIn (length (now (room .entry)) / 2) g (now («inset_bounds» .entry)) (now (parts .entry)) (now (shapes .entry))
+        (now (sheet .entry)) (take (6 * t .«placed_strips») (now (placed .entry)))) (copy .area) (copy .slot) (copy .orientations) t
+        (now (placed .entry)) (now (entries .entry)) (now (starts .entry)) (lookCounts (now (tracks .entry))) (nextColumns (now (tracks .entry))))
+        × (orientations (now (tracks .exit)) ≡ set (orientations (now (tracks .entry))) at (numberOf (r .outcome)))
+        × (xs (now (spots .exit)) ≡ set (xs (now (spots .entry))) at (xOf (r .outcome)))
+        × (ys (now (spots .exit)) ≡ set (ys (now (spots .entry))) at (yOf (r .outcome)))
+        × Laid (g .index) (now (placed .exit)) (r .totals .«placed_strips») (now (entries .exit)) (now (starts .exit)) ⌝ }
 {
     let step = place::place_copy(
-        ix,
-        bounds,
-        resolution,
-        area,
-        slot,
-        n,
+        g,
+        copy,
         t,
         inset_bounds,
         parts,
-        apart,
-        inset,
+        shapes,
         sheet,
         sheet_entries,
         sheet_starts,
@@ -101,12 +99,14 @@ pub fn place_next<'a>(
         starts,
         gains,
         room,
-        look_counts,
-        next_column,
+        &mut tracks[..2048],
     );
     let o = step.outcome;
-    orientation[at] = number_of(o, n);
-    x[at] = x_of(o);
-    y[at] = y_of(o);
+    let place = 2048 + at;
+    tracks[place] = number_of(o, copy.orientations);
+    let spot = 2 * at;
+    spots[spot] = x_of(o);
+    let end = spot + 1;
+    spots[end] = y_of(o);
     step
 }

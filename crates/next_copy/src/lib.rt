@@ -23,19 +23,11 @@ pub fn next_copy(
 ) -> Stepped
     ensures { λ r. ⌜ replied r (roomsWith (now (shapes .entry)) (now (sheet .entry)) (now (placed .exit)) (now («sheet_entries» .entry)) (now («placed_entries» .exit))) (now (intervals .exit)) ≡ nextCopyOf (now (bytes .entry)) state (roomsWith (now (shapes .entry)) (now (sheet .entry)) (now (placed .entry)) (now («sheet_entries» .entry)) (now («placed_entries» .entry))) (now (intervals .entry)) ⌝ }
 {
-    let mut rows = [0u64; 256];
-    let mut areas = [0.0; 64];
-    let mut places = [0u32; 2048];
-    let mut room = [0.0; 1024];
-    let mut ends = [0usize; 64];
-    match job::read_job(
-        bytes,
-        &mut rows,
-        &mut areas,
-        &mut places,
-        &mut room,
-        &mut ends,
-    ) {
+    let j = job::read(bytes);
+    let rows = j.rows;
+    let areas = j.areas;
+    let answer = j.answer;
+    match answer {
         JobRead::Good(h, _, c) => step_job::step_job(
             &rows,
             &areas,

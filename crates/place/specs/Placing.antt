@@ -2,11 +2,15 @@
 -- filling is proved in the crate filling_laws. Definitions only. Assumes nothing.
 use Prim.Native.Nat.{ℕ, zero, suc, _+_, _-_, _*_, _<_, _≤_}
 use mathlib.Core.List.{List}
-use lib.Ieee.{Float}
+use lib.ListN.{getD}
+use lib.Ieee.{Float, nan}
 use Rattle.numbers.specs.Numbers.{_⊕_, larger, posZero}
 use Rattle.trapezoid.specs.Strip.{capacity}
 use Rattle.index.specs.declared.Index.{Index}
+use Rattle.filling.specs.declared.State.{State}
 use Rattle.filling.specs.declared.Refusal.{Refusal}
+use Rattle.filling.specs.declared.Verdict.{Verdict}
+use Rattle.filling.specs.declared.Verdict.the-variants as Verdicts
 use Rattle.filling.specs.declared.Refusal.the-variants.{StripRoom, EntryRoom, IntervalRoom}
 use Rattle.choose.specs.declared.Part.{Part}
 use Rattle.choose.specs.declared.Choice.{Choice}
@@ -16,10 +20,25 @@ use Rattle.choose.specs.Choosing.{partAt, apartPart, World, Chosen, chosen, cho
 use Rattle.store.specs.declared.Stored.{Stored}
 use Rattle.store.specs.declared.Stored.the-variants.{NoStrips, NoEntries, Done}
 use Rattle.store.specs.Storing.{Left, storeOf}
+use Rattle.place.specs.declared.Copy.{Copy}
 use Rattle.place.specs.declared.Totals.{Totals}
 use Rattle.place.specs.declared.Outcome.{Outcome}
 use Rattle.place.specs.declared.Outcome.the-variants.{At, Nowhere, Refused}
 use Rattle.place.specs.declared.Step.{Step}
+
+-- the copy at place i of the order, as the tables have it
+abbrev pub copyOf : List ℕ → List ℕ → List Float → ℕ → Copy
+copyOf order rows areas i = let k = getD order i 0 in record { slot = 16 * k; orientations = getD rows (4 * k + 3) 0; area = getD areas k nan }
+
+-- a state's numbers that stand beside the rooms
+abbrev pub totalsOf : State → Totals
+totalsOf s = record { «placed_strips» = s .«placed_strips»; right = s .layout .right; «unplaced_area» = s .layout .«unplaced_area» }
+
+-- whether the copy is taken
+abbrev pub verdictOf : Outcome → Verdict
+verdictOf (At c) = Verdicts.Accepted
+verdictOf Nowhere = Verdicts.Accepted
+verdictOf (Refused k) = Verdicts.Refused k
 
 abbrev pub step : Outcome → Totals → Step
 step o t = record { outcome = o; totals = t }

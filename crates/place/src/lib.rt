@@ -3,21 +3,45 @@
 // strips and entries.
 ghost use mathlib.Core.Path.{_≡_};
 ghost use Prim.Native.Nat.{ℕ, _+_, _*_, _/_, _≤_, _<_, _^_};
-ghost use lib.ListN.{length, getD, set, take};
+ghost use lib.ListN.{length, getD, take};
 ghost use Rattle.trapezoid.specs.Strip.{capacity};
 ghost use Rattle.index.specs.Buckets.{buckets};
 ghost use Rattle.index.specs.Listing.{Laid};
-ghost use Rattle.choose.specs.Choosing.{world};
-ghost use Rattle.place.specs.Placing.{afterOf, put, putOf, withoutOf, Among, settleOf, Under, done, placeOf, numberOf, xOf, yOf};
+ghost use Rattle.tracks.specs.Tracks.{nextColumns, lookCounts, slotNumbers};
+ghost use Rattle.choose.specs.Choosing.{worldIn};
+ghost use Rattle.place.specs.Placing.{copyOf, verdictOf, afterOf, put, putOf, withoutOf, Among, settleOf, Under, done, placeOf};
 ghost use Rattle.place.specs.Standing.{Standing, Fixed};
 use choose::Choice;
+use choose::Grid;
 use choose::Part;
 use choose::Winner;
 use filling::Refusal;
+use filling::Verdict;
 use index::Entry;
 use index::Index;
 use store::Stored;
 use strips::Rect;
+
+// What the tables say of a copy: its kind's first slot, number of orientations and area.
+pub struct Copy {
+    pub slot: usize,
+    pub orientations: usize,
+    pub area: f64,
+}
+
+// The copy at place i of the order.
+pub fn copy_at(order: &[usize], rows: &[u64], areas: &[f64], i: usize) -> Copy
+    requires { ⌜ (i < length (now order)) × (getD (now order) i 0 < 64) × (256 ≤ length (now rows)) × (64 ≤ length (now areas)) ⌝ }
+    ensures { λ r. ⌜ r ≡ copyOf (now (order .entry)) (now (rows .entry)) (now (areas .entry)) i ⌝ }
+{
+    let k = order[i];
+    let n = rows[4 * k + 3] as usize;
+    Copy {
+        slot: 16 * k,
+        orientations: n,
+        area: areas[k],
+    }
+}
 
 // What stands beside the rooms: the number of the placed strips, right and the unplaced area.
 pub struct Totals {
@@ -36,6 +60,17 @@ pub enum Outcome {
 pub struct Step {
     pub outcome: Outcome,
     pub totals: Totals,
+}
+
+// Whether the copy is taken.
+pub fn verdict_of(o: Outcome) -> Verdict
+    ensures { λ r. ⌜ r ≡ verdictOf o ⌝ }
+{
+    match o {
+        Outcome::At(_) => Verdict::Accepted,
+        Outcome::Nowhere => Verdict::Accepted,
+        Outcome::Refused(r) => Verdict::Refused(r),
+    }
 }
 
 // What storing the winner, a copy of k strips, leaves.
@@ -68,25 +103,34 @@ fn after(stored: Stored, p: Choice, t: Totals, k: usize) -> Step
 }
 
 // The winner is stored.
-fn put_copy<'a>(
-    ix: Index,
+fn put_copy(
+    g: Grid,
     p: Choice,
     q: Part,
     t: Totals,
-    apart: &'a [f64],
-    inset: &'a [f64],
+    shapes: &[f64],
     placed: &mut [f64],
     entries: &mut [Entry],
     starts: &mut [usize],
     gains: &mut [usize],
 ) -> Step
-    requires { ⌜ Laid ix (now placed) (t .«placed_strips») (now entries) (now starts) × (length (now gains) ≡ buckets) ⌝ }
-    ensures { λ r. ⌜ (put r (now (placed .exit)) (now (entries .exit)) (now (starts .exit)) ≡ putOf ix p q t (now (apart .entry)) (now (placed .entry)) (now (entries .entry)) (now (starts .entry))) × Laid ix (now (placed .exit)) (r .totals .«placed_strips») (now (entries .exit)) (now (starts .exit)) ⌝ }
+    requires { ⌜ Laid (g .index) (now placed) (t .«placed_strips») (now entries) (now starts) × (length (now gains) ≡ buckets)
+        × (6 * g .«apart_strips» ≤ length (now shapes)) ⌝ }
+    ensures { λ r. ⌜ (put r (now (placed .exit)) (now (entries .exit)) (now (starts .exit))
+        ≡ putOf (g .index) p q t (take (6 * g .«apart_strips») (now (shapes .entry))) (now (placed .entry)) (now (entries .entry)) (now (starts .entry)))
+        × Laid (g .index) (now (placed .exit)) (r .totals .«placed_strips») (now (entries .exit)) (now (starts .exit)) ⌝ }
 {
-    let part = trapezoid::strips_of(apart, inset, false, q.apart_start, q.apart_count);
+    let end = 6 * g.apart_strips;
+    let part = trapezoid::strips_of(
+        &shapes[..end],
+        &shapes[end..],
+        false,
+        q.apart_start,
+        q.apart_count,
+    );
     let k = trapezoid::capacity(part);
     let stored = store::store_copy(
-        ix,
+        g.index,
         part,
         p.x,
         p.y,
@@ -114,30 +158,32 @@ fn without(t: Totals, area: f64) -> Step
 }
 
 // The winner is stored, or the copy has no place, or 22.
-fn settle<'a>(
-    ix: Index,
+fn settle(
+    g: Grid,
     winner: Winner,
-    area: f64,
-    slot: usize,
-    n: usize,
+    copy: Copy,
     t: Totals,
     parts: &[usize],
-    apart: &'a [f64],
-    inset: &'a [f64],
+    shapes: &[f64],
     placed: &mut [f64],
     entries: &mut [Entry],
     starts: &mut [usize],
     gains: &mut [usize],
 ) -> Step
-    requires { ⌜ Laid ix (now placed) (t .«placed_strips») (now entries) (now starts) × (length (now gains) ≡ buckets) × ((o : ℕ) → o < n → 4 * (slot + o) + 4 ≤ length (now parts)) × Among n winner × (slot + n ≤ 1024) ⌝ }
-    ensures { λ r. ⌜ (put r (now (placed .exit)) (now (entries .exit)) (now (starts .exit)) ≡ settleOf ix winner area slot t (now (parts .entry)) (now (apart .entry)) (now (placed .entry)) (now (entries .entry)) (now (starts .entry))) × Laid ix (now (placed .exit)) (r .totals .«placed_strips») (now (entries .exit)) (now (starts .exit)) ⌝ }
+    requires { ⌜ Laid (g .index) (now placed) (t .«placed_strips») (now entries) (now starts) × (length (now gains) ≡ buckets)
+        × ((o : ℕ) → o < copy .orientations → 4 * (copy .slot + o) + 4 ≤ length (now parts)) × Among (copy .orientations) winner
+        × (copy .slot + copy .orientations ≤ 1024) × (6 * g .«apart_strips» ≤ length (now shapes)) ⌝ }
+    ensures { λ r. ⌜ (put r (now (placed .exit)) (now (entries .exit)) (now (starts .exit))
+        ≡ settleOf (g .index) winner (copy .area) (copy .slot) t (now (parts .entry)) (take (6 * g .«apart_strips») (now (shapes .entry)))
+        (now (placed .entry)) (now (entries .entry)) (now (starts .entry)))
+        × Laid (g .index) (now (placed .exit)) (r .totals .«placed_strips») (now (entries .exit)) (now (starts .exit)) ⌝ }
 {
     match winner {
         Winner::At(p) => {
-            let q = choose::part_at(parts, slot + p.orientation);
-            put_copy(ix, p, q, t, apart, inset, placed, entries, starts, gains)
+            let q = choose::part_at(parts, copy.slot + p.orientation);
+            put_copy(g, p, q, t, shapes, placed, entries, starts, gains)
         }
-        Winner::Nowhere => without(t, area),
+        Winner::Nowhere => without(t, copy.area),
         Winner::Overflow => Step {
             outcome: Outcome::Refused(Refusal::IntervalRoom),
             totals: t,
@@ -145,20 +191,15 @@ fn settle<'a>(
     }
 }
 
-// One copy of the kind whose n orientations have their slots from `slot` on. Only crates of ours
-// call it: strips and entries must be those of the copies that stand.
-pub fn place_copy<'a>(
-    ix: Index,
-    bounds: Rect,
-    resolution: f64,
-    area: f64,
-    slot: usize,
-    n: usize,
+// One copy of the kind whose orientations have their slots from the copy's slot on. Only crates of
+// ours call it: strips and entries must be those of the copies that stand.
+pub fn place_copy(
+    g: Grid,
+    copy: Copy,
     t: Totals,
     inset_bounds: &[f64],
     parts: &[usize],
-    apart: &'a [f64],
-    inset: &'a [f64],
+    shapes: &[f64],
     sheet: &[f64],
     sheet_entries: &[Entry],
     sheet_starts: &[usize],
@@ -167,26 +208,31 @@ pub fn place_copy<'a>(
     starts: &mut [usize],
     gains: &mut [usize],
     room: &mut [f64],
-    look_counts: &mut [usize],
-    next_column: &mut [usize],
+    tracks: &mut [usize],
 ) -> Step
-    requires { ⌜ ((o : ℕ) → o < n → Fixed ix (world (length (now room) / 2) bounds resolution (now «inset_bounds») (now parts) (now apart) (now inset) (now sheet) (take (6 * t .«placed_strips») (now placed))) (now «sheet_entries») (now «sheet_starts») (slot + o)) × (slot + n ≤ length (now «look_counts»)) × (slot + n ≤ length (now «next_column»)) × ((o : ℕ) → o < n → getD (now «look_counts») (slot + o) 0 + 4000000002 < 2 ^ 64) × (slot + n ≤ 1024)
-        × Standing ix (now placed) (t .«placed_strips») (now entries) (now starts) × (length (now gains) ≡ buckets) ⌝ }
-    ensures { λ r. ⌜ (done r (now (placed .exit)) (now (entries .exit)) (now (starts .exit)) (now («look_counts» .exit)) (now («next_column» .exit)) ≡ placeOf ix (world (length (now (room .entry)) / 2) bounds resolution (now («inset_bounds» .entry)) (now (parts .entry)) (now (apart .entry)) (now (inset .entry)) (now (sheet .entry)) (take (6 * t .«placed_strips») (now (placed .entry)))) area slot n t (now (placed .entry)) (now (entries .entry)) (now (starts .entry)) (now («look_counts» .entry)) (now («next_column» .entry)))
-        × Laid ix (now (placed .exit)) (r .totals .«placed_strips») (now (entries .exit)) (now (starts .exit)) × Under n (r .outcome) ⌝ }
+    requires { ⌜ ((o : ℕ) → o < copy .orientations → Fixed (g .index) (worldIn (length (now room) / 2) g (now «inset_bounds») (now parts) (now shapes)
+        (now sheet) (take (6 * t .«placed_strips») (now placed))) (now «sheet_entries») (now «sheet_starts») (copy .slot + o))
+        × (copy .slot + copy .orientations ≤ 1024) × (slotNumbers ≤ length (now tracks))
+        × ((o : ℕ) → o < copy .orientations → getD (lookCounts (now tracks)) (copy .slot + o) 0 + 4000000002 < 2 ^ 64)
+        × Standing (g .index) (now placed) (t .«placed_strips») (now entries) (now starts) × (length (now gains) ≡ buckets)
+        × (6 * g .«apart_strips» ≤ length (now shapes)) ⌝ }
+    ensures { λ r. ⌜ (done r (now (placed .exit)) (now (entries .exit)) (now (starts .exit)) (lookCounts (now (tracks .exit)))
+        (nextColumns (now (tracks .exit)))
+        ≡ placeOf (g .index) (worldIn (length (now (room .entry)) / 2) g (now («inset_bounds» .entry)) (now (parts .entry)) (now (shapes .entry))
+        (now (sheet .entry)) (take (6 * t .«placed_strips») (now (placed .entry)))) (copy .area) (copy .slot) (copy .orientations) t
+        (now (placed .entry)) (now (entries .entry)) (now (starts .entry)) (lookCounts (now (tracks .entry))) (nextColumns (now (tracks .entry))))
+        × Laid (g .index) (now (placed .exit)) (r .totals .«placed_strips») (now (entries .exit)) (now (starts .exit))
+        × Under (copy .orientations) (r .outcome) ⌝ }
 {
     let strips = t.placed_strips;
     let end = 6 * strips;
     let winner = choose::choose(
-        ix,
-        bounds,
-        resolution,
-        slot,
-        n,
+        g,
+        copy.slot,
+        copy.orientations,
         inset_bounds,
         parts,
-        apart,
-        inset,
+        shapes,
         sheet,
         sheet_entries,
         sheet_starts,
@@ -194,19 +240,15 @@ pub fn place_copy<'a>(
         entries,
         starts,
         room,
-        look_counts,
-        next_column,
+        tracks,
     );
     settle(
-        ix,
+        g,
         winner,
-        area,
-        slot,
-        n,
+        copy,
         t,
         parts,
-        apart,
-        inset,
+        shapes,
         placed,
         entries,
         starts,

@@ -1,5 +1,5 @@
 -- What is prepared, from what the sheet and the shapes leave. Assumes nothing.
-use mathlib.Core.Path.{_≡_, refl, sym, ap, ap₂, subst, _∙_}
+use mathlib.Core.Path.{_≡_, sym, ap, subst, _∙_}
 use mathlib.Core.Bool.{Bool, true, false}
 use mathlib.Core.List.{List, [], _∷_, _++_, map, flatMap}
 use Prim.Native.Nat.{ℕ, _+_, _*_, _≤_, _<_}
@@ -13,17 +13,19 @@ use Rattle.index.specs.Buckets.{standingCapacity}
 use Rattle.index.specs.Listing.{Laid}
 use Rattle.strips.specs.declared.Rect.{Rect}
 use Rattle.sets.specs.Sets.{setAt}
+use Rattle.job.specs.declared.Header.{Header}
 use Rattle.job.specs.Jobs.{Job}
 use Rattle.filling.specs.declared.Refusal.{Refusal}
 use Rattle.filling.specs.declared.Refusal.the-variants as Why
-use Rattle.filling.specs.declared.Verdict.{Verdict}
+use Rattle.filling.specs.declared.Tables.{Tables}
 use Rattle.filling.specs.declared.Verdict.the-variants.{Accepted, Refused}
 use Rattle.filling.specs.Refusals.{refuseIf}
 use Rattle.filling.specs.Shapes.{Shape, Planner, plannerOf, setStrips, setBounds}
 use Rattle.filling.specs.Rooms.{Rooms, laid}
-use Rattle.filling.specs.State.{bySlot, slotShape, flatParts, flatBounds}
-use Rattle.filling.specs.Consistent.{sheetIndex, entriesFor}
-use Rattle.filling.specs.Start.{apartStrips, insetStrips, partsFrom, prepareVerdict}
+use Rattle.filling.specs.State.{bySlot, slotShape}
+use Rattle.filling.specs.Consistent.{entriesFor}
+use Rattle.filling.specs.Start.{apartStrips, insetStrips, tablesOf, prepareVerdict}
+use Rattle.filling.proofs.Steps.{refused≢accepted}
 use Rattle.shapes.specs.declared.ShapesLaid.{ShapesLaid}
 use Rattle.shapes.specs.declared.ShapesLaid.the-variants as Shapes
 use Rattle.slots.specs.Slots.{slotOf}
@@ -32,8 +34,7 @@ use Rattle.sheet.specs.declared.SheetLaid.{SheetLaid}
 use Rattle.sheet.specs.declared.SheetLaid.the-variants as Sheet
 use Rattle.sheet.specs.SheetRoom.{SheetIn, SheetIs}
 use Rattle.prepare.specs.declared.Prepared.{Prepared}
-use Rattle.prepare.specs.declared.Prepared.the-variants as Prepared
-use Rattle.prepare.specs.Ready.{FromTables, given, Readied, PreparedIs}
+use Rattle.prepare.specs.Ready.{FromTables, given, PreparedIs}
 use Rattle.prepare.proofs.Tabled.{slots-are, sheet-bounds-are, sheet-strips-are}
 
 -- ---- the verdict
@@ -58,6 +59,16 @@ module _ (p : Planner) (w : Rooms) where
       prepared-all h =
           rw (le-ltb (standingCapacity (w .sheet)) (capacity (p .sheet)) s, le-ltb (length (w .sheet-entries)) (length (entriesFor (p .bounds) (p .sheet))) e, le-ltb (capacity (w .shapes)) (capacity (apartStrips p ++ insetStrips p)) h)
 
+-- ---- what is answered
+not-prepared : {k : Refusal} (r : Prepared) (p : Planner) (w : Rooms) (shapes sheet : List Float) (entries : List ℕ)
+    → r .verdict ≡ Refused k → prepareVerdict p w ≡ Refused k → PreparedIs r p w shapes sheet entries
+not-prepared r p w shapes sheet entries d e = record { verdict-is = d ∙ sym e; ready = λ f. absurd (refused≢accepted (sym d ∙ f)) }
+
+tables-same : {r r′ : Float} {b b′ : Rect} {n n′ a a′ : ℕ} {x x′ : List Float} {y y′ : List ℕ} → r ≡ r′ → b ≡ b′ → n ≡ n′ → a ≡ a′ → x ≡ x′ → y ≡ y′
+    → _≡_ {A = Tables} (record { resolution = r; «sheet_bounds» = b; «sheet_strips» = n; «apart_strips» = a; «inset_bounds» = x; parts = y })
+    (record { resolution = r′; «sheet_bounds» = b′; «sheet_strips» = n′; «apart_strips» = a′; «inset_bounds» = x′; parts = y′ })
+tables-same e f g h i k = rw (e, f, g, h, i, k)
+
 -- ---- through the tables
 module _ (bytes rows places : List ℕ) (at kinds : ℕ) (j : Job) (T : FromTables bytes rows places at kinds j) where
   abbrev P : Planner
@@ -70,44 +81,49 @@ module _ (bytes rows places : List ℕ) (at kinds : ℕ) (j : Job) (T : FromTabl
   shapes-as : (r : ShapesLaid) (shapes₀ shapes bounds : List Float) (parts : List ℕ) → ShapesAre r (bySlot (slotOf bytes rows places kinds)) shapes₀ shapes bounds parts → ShapesAre r (bySlot (slotShape P)) shapes₀ shapes bounds parts
   shapes-as r shapes₀ shapes bounds parts S = subst (λ (ss : List Shape). ShapesAre r ss shapes₀ shapes bounds parts) (slots-are T) S
 
-  module _ (r : SheetLaid) (shapes₀ shapes sheet₀ sheet : List Float) (entries₀ entries starts : List ℕ) (bounds : List Float) (parts : List ℕ)
+  module _ (r : SheetLaid) (shapes₀ shapes sheet₀ sheet : List Float) (entries₀ entries starts : List ℕ)
       (S : SheetIs r (setBounds (setAt bytes at)) (setStrips true (setAt bytes at)) sheet₀ sheet entries₀ entries starts) where
+    abbrev Before : Rooms
+    Before = given shapes₀ sheet₀ entries₀
+
     told : (q : SheetLaid) → r ≡ q → SheetIs q (P .bounds) (P .sheet) sheet₀ sheet entries₀ entries starts
     told q e = subst (λ (x : SheetLaid). SheetIs x (P .bounds) (P .sheet) sheet₀ sheet entries₀ entries starts) e (sheet-as r sheet₀ sheet entries₀ entries starts S)
 
-    pub sheet-over : r ≡ Sheet.NoStrips → PreparedIs (Prepared.NotReady Why.StripRoom) P (given shapes₀ sheet₀ entries₀) shapes sheet entries starts bounds parts
-    sheet-over e = refused-strips P (given shapes₀ sheet₀ entries₀) (told Sheet.NoStrips e)
+    module _ (p : Prepared) where
+      pub sheet-over : r ≡ Sheet.NoStrips → p .verdict ≡ Refused Why.StripRoom → PreparedIs p P Before shapes sheet entries
+      sheet-over e d = not-prepared p P Before shapes sheet entries d (refused-strips P Before (told Sheet.NoStrips e))
 
-    pub entries-over : r ≡ Sheet.NoEntries → PreparedIs (Prepared.NotReady Why.EntryRoom) P (given shapes₀ sheet₀ entries₀) shapes sheet entries starts bounds parts
-    entries-over e = let t = told Sheet.NoEntries e in refused-entries P (given shapes₀ sheet₀ entries₀) (t .0) (t .1)
+      pub entries-over : r ≡ Sheet.NoEntries → p .verdict ≡ Refused Why.EntryRoom → PreparedIs p P Before shapes sheet entries
+      entries-over e d = let t = told Sheet.NoEntries e in not-prepared p P Before shapes sheet entries d (refused-entries P Before (t .0) (t .1))
 
-    module _ (b : Rect) (n : ℕ) (e : r ≡ Sheet.Strips b n) (q : ShapesLaid) (Q : ShapesAre q (bySlot (slotOf bytes rows places kinds)) shapes₀ shapes bounds parts) where
+    module _ (b : Rect) (n : ℕ) (e : r ≡ Sheet.Strips b n) (q : ShapesLaid) (bounds : List Float) (parts : List ℕ)
+        (Q : ShapesAre q (bySlot (slotOf bytes rows places kinds)) shapes₀ shapes bounds parts) where
       asked : (t : ShapesLaid) → q ≡ t → ShapesAre t (bySlot (slotShape P)) shapes₀ shapes bounds parts
       asked t d = subst (λ (x : ShapesLaid). ShapesAre x (bySlot (slotShape P)) shapes₀ shapes bounds parts) d (shapes-as q shapes₀ shapes bounds parts Q)
 
-      pub shapes-over : q ≡ Shapes.NoRoom → PreparedIs (Prepared.NotReady Why.StripRoom) P (given shapes₀ sheet₀ entries₀) shapes sheet entries starts bounds parts
+      pub shapes-over : (p : Prepared) → q ≡ Shapes.NoRoom → p .verdict ≡ Refused Why.StripRoom → PreparedIs p P Before shapes sheet entries
       unfolding apartStrips insetStrips
-      shapes-over d =
+      shapes-over p d f =
           let t = told (Sheet.Strips b n) e .1 in
-          refused-shapes P (given shapes₀ sheet₀ entries₀) (t .strips-fit) (t .entries-fit) (asked Shapes.NoRoom d)
+          not-prepared p P Before shapes sheet entries f (refused-shapes P Before (t .strips-fit) (t .entries-fit) (asked Shapes.NoRoom d))
 
-      pub all-ready : (a i : ℕ) → q ≡ Shapes.Strips a i → PreparedIs (Prepared.Ready b n a i) P (given shapes₀ sheet₀ entries₀) shapes sheet entries starts bounds parts
-      unfolding apartStrips insetStrips
-      all-ready a i d =
-          let f = told (Sheet.Strips b n) e in
-          let t = f .1 in
-          let s = asked (Shapes.Strips a i) d in (
-            prepared-all P (given shapes₀ sheet₀ entries₀) (t .strips-fit) (t .entries-fit) (s .2),
+      module _ (h : Header) (H : j .header ≡ h) (a i : ℕ) (d : q ≡ Shapes.Strips a i) where
+        abbrev Told : Tables
+        Told = record { resolution = h .resolution; «sheet_bounds» = b; «sheet_strips» = n; «apart_strips» = a; «inset_bounds» = bounds; parts = parts }
+
+        tables-told : Told ≡ tablesOf P
+        unfolding tablesOf apartStrips plannerOf
+        tables-told =
+            let f = told (Sheet.Strips b n) e in
+            let s = asked (Shapes.Strips a i) d in
+            tables-same (sym (ap (λ (x : Header). x .resolution) H)) (f .0) (f .1 .number) (s .0) (s .4) (s .5)
+
+        pub all-ready : PreparedIs (record { verdict = Accepted; tables = Told; «sheet_starts» = starts }) P Before shapes sheet entries
+        unfolding apartStrips insetStrips
+        all-ready =
+            let t = told (Sheet.Strips b n) e .1 in
+            let s = asked (Shapes.Strips a i) d in
             record {
-              sheet-bounds = f .0;
-              sheet-strips = t .number;
-              apart-strips = s .0;
-              inset-strips = s .1;
-              shapes-are = s .3;
-              sheet-is = t .strips;
-              entries-are = t .entries-are;
-              bounds-are = s .4;
-              parts-are = s .5;
-              indexed = t .indexed;
-            },
-          )
+              verdict-is = sym (prepared-all P Before (t .strips-fit) (t .entries-fit) (s .2));
+              ready = λ _. record { tables-are = tables-told; shapes-are = s .3; sheet-is = t .strips; entries-are = t .entries-are; indexed = t .indexed };
+            }

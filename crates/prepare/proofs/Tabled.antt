@@ -27,7 +27,7 @@ use Rattle.set_strips.specs.SetStrips.{stripsOf, stripsAt}
 use Rattle.slots.specs.Slots.{inUse, slotStrips, slotBounds, slotOf}
 use Rattle.prepare.specs.Ready.{FromTables}
 
--- what `read_job` answers
+-- what `job::read` answers
 pub from-tables : (bytes rows places : List ℕ) (areas : List Float) (h : Header) (s c : ℕ) (j : Job) → jobRead (Good h s c) bytes rows areas places ≡ accepted j → FromTables bytes rows places s (h .kinds) j
 from-tables bytes rows places areas h s c j e = record { areas = areas; sheet-is = (cc); kinds-are = (cc) }
 

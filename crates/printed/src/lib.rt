@@ -22,22 +22,13 @@ pub fn print_reply(
     requires { ⌜ (plan .placed ≤ 4096) × (5 * plan .placed ≤ length (now positions)) × (524288 ≤ length (now out)) ⌝ }
     ensures { λ r. ⌜ (r ≤ 524288) × ((l : Lent) → l .positions ≡ now (positions .entry) → take r (now (out .exit)) ≡ printedFor (readJob (now (bytes .entry))) (record { verdict = verdict; plan = plan; lent = l })) ⌝ }
 {
-    let mut rows = [0u64; 256];
-    let mut areas = [0.0; 64];
-    let mut places = [0u32; 2048];
-    let mut room = [0.0; 1024];
-    let mut ends = [0usize; 64];
     let placed_of = plan.placed_of;
     let unplaced_of = plan.unplaced_of;
     let look_counts = plan.look_counts;
-    match job::read_job(
-        bytes,
-        &mut rows,
-        &mut areas,
-        &mut places,
-        &mut room,
-        &mut ends,
-    ) {
+    let j = job::read(bytes);
+    let rows = j.rows;
+    let answer = j.answer;
+    match answer {
         JobRead::Good(h, _, _) => text::reply_text(
             out,
             verdict,

@@ -12,7 +12,6 @@ use Rattle.job.specs.declared.JobRead.the-variants.{Good, NoJob}
 use Rattle.job.specs.Jobs.{Job, Answer, accepted, refused, readJob}
 use Rattle.job.specs.Meaning.{jobRead}
 use Rattle.filling.specs.declared.Refusal.the-variants as Why
-use Rattle.filling.specs.Shapes.{plannerOf}
 use Rattle.filling.specs.Rooms.{Lent, zeros}
 use Rattle.filling.specs.Fill.{Planned, notPlanned}
 use Rattle.tables.proofs.Tabling.{jobIn, kinds-in, tabled}
@@ -30,9 +29,15 @@ module _ (bytes rows : List ℕ) (areas : List Float) (places : List ℕ) (a : J
     read-is : readJob bytes ≡ accepted J
     read-is = e ∙ ap (λ (z : JobRead). jobRead z bytes rows areas places) d
 
-    pub read-into : ReadInto J bytes s (h .kinds) (h .resolution) rows areas places
-    unfolding plannerOf
-    read-into = record { read = read-is; from = from-tables bytes rows places areas h s c J refl; tabled = tabled h s c bytes rows areas places read-is lr la; number = kinds-in h s c bytes rows areas places; resolution-is = refl }
+    pub read-into : ReadInto J bytes s h rows areas places
+    read-into =
+        record {
+          read = read-is;
+          from = from-tables bytes rows places areas h s c J refl;
+          tabled = tabled h s c bytes rows areas places read-is lr la;
+          number = kinds-in h s c bytes rows areas places;
+          header-is = refl;
+        }
 
     -- the reply of the job is that of the bytes
     pub job-reply : (f : Answer → Planned) (r : NestResult) (room : List Float) → reply r room ≡ replyOf (f (accepted J)) → reply r room ≡ replyOf (f (readJob bytes))

@@ -5,8 +5,8 @@ use mathlib.Core.List.{List}
 use lib.ListN.{length}
 use lib.Ieee.{Float}
 use Rattle.numbers.specs.Numbers.{posZero}
+use Rattle.job.specs.declared.Header.{Header}
 use Rattle.job.specs.Jobs.{Job, accepted, readJob}
-use Rattle.filling.specs.Shapes.{plannerOf}
 use Rattle.filling.specs.Rooms.{Lent, zeros}
 use Rattle.tables.specs.Tabled.{Tabled}
 use Rattle.prepare.specs.Ready.{FromTables}
@@ -22,9 +22,9 @@ pub record Zeroed (l : Lent) (shapes sheet placed : List Float) (sheet-entries p
   pub positions-zero : positions ≡ zeros posZero (l .positions)
 
 -- the job that was read into the tables
-pub record ReadInto (j : Job) (bytes : List ℕ) (at kinds : ℕ) (resolution : Float) (rows : List ℕ) (areas : List Float) (places : List ℕ) : Type 0 where
+pub record ReadInto (j : Job) (bytes : List ℕ) (at : ℕ) (h : Header) (rows : List ℕ) (areas : List Float) (places : List ℕ) : Type 0 where
   pub read : readJob bytes ≡ accepted j
-  pub from : FromTables bytes rows places at kinds j
+  pub from : FromTables bytes rows places at (h .kinds) j
   pub tabled : Tabled j rows areas
-  pub number : length (j .kinds) ≡ kinds
-  pub resolution-is : resolution ≡ plannerOf j .resolution
+  pub number : length (j .kinds) ≡ h .kinds
+  pub header-is : j .header ≡ h

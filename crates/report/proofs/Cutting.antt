@@ -1,17 +1,13 @@
 -- The parts of the rooms that a filling is lent, and what its report requires. Assumes nothing.
-use Prim.Native.Nat.{ℕ, _+_, _-_, _*_, _≤_, _<_}
+use Prim.Native.Nat.{ℕ, _+_, _*_, _≤_, _<_}
 use native.Mathlib.Omega.{arith}
-use mathlib.Core.Path.{_≡_, refl, sym, ap, ap₂, subst, subst₂, _∙_}
+use mathlib.Core.Path.{_≡_, refl, sym, ap, ap₂, subst, _∙_}
 use mathlib.Core.Bool.{Bool, true, false, _&&_, cond}
 use mathlib.Core.List.{List, [], _++_}
-use lib.ListN.{length, getD, take, drop, length-drop, take-append-drop}
-use lib.Seq.{take-all}
+use lib.ListN.{length, getD, take, drop, take-append-drop}
 use lib.Dec.{ltb, ltb→lt}
 use lib.Ieee.{Float}
 use Rattle.trapezoid.specs.Strip.{partOf}
-use Rattle.index.specs.declared.Index.{Index}
-use Rattle.index.specs.Buckets.{indexOf}
-use Rattle.strips.specs.declared.Rect.{Rect}
 use Rattle.job.specs.Jobs.{Job}
 use Rattle.filling.specs.declared.Verdict.{Verdict}
 use Rattle.filling.specs.declared.Verdict.the-variants.{Accepted}
@@ -19,28 +15,13 @@ use Rattle.filling.specs.Shapes.{Shape, plannerOf, noShape, shapeOf}
 use Rattle.filling.specs.State.{slotShape, partAt}
 use Rattle.filling.specs.Start.{apartStrips}
 use Rattle.filling.specs.Order.{rearranged}
-use Rattle.filling.specs.Consistent.{sheetIndex}
 use Rattle.filling.proofs.Reading.{slot-kind, slot-turn}
 use Rattle.filling.proofs.Sizes.{sized}
 use Rattle.filling.proofs.Begin.{apart-room, apart-lies, lacking, rearranged-length}
-use Rattle.fill_laws.specs.Prepared.{Given, given, Prepared}
+use Rattle.fill_laws.specs.Prepared.{Given, Prepared}
 use Rattle.fill_laws.proofs.Between.{kind-below}
 use Rattle.fill_laws.proofs.Ready.{parts-long}
 use Rattle.offcut.specs.Reaching.{apartAt, Parted}
-
-index-is : (b : Rect) (ix : Index) → ix ≡ indexOf (b .left) (b .right) → sheetIndex b ≡ ix
-unfolding sheetIndex
-index-is b ix e = sym e
-
-rest-is : (n : ℕ) (l : List Float) → drop n l ≡ take (length l - n) (drop n l)
-rest-is n l = sym (take-all (length l - n) (drop n l) (let e = length-drop n l in omega arith))
-
--- the index and the rest of the shapes room, as code has them
-pub cut : (j : Job) (b : Rect) (resolution : Float) (rows : List ℕ) (areas inset-bounds : List Float) (parts : List ℕ) (n : ℕ) (shapes sheet : List Float) (entries starts : List ℕ) (ix : Index) → ix ≡ indexOf (b .left) (b .right)
-    → Prepared j (given (sheetIndex b) b resolution rows areas inset-bounds parts (take n shapes) (drop n shapes) sheet entries starts)
-    → Prepared j (given ix b resolution rows areas inset-bounds parts (take n shapes) (take (length shapes - n) (drop n shapes)) sheet entries starts)
-cut j b resolution rows areas inset-bounds parts n shapes sheet entries starts ix e =
-    subst₂ (λ (z : Index) (w : List Float). Prepared j (given z b resolution rows areas inset-bounds parts (take n shapes) w sheet entries starts)) (index-is b ix e) (rest-is n shapes)
 
 -- the strips that a slot's part says, out of a room
 abbrev lies : ℕ → List ℕ → List Float → List Float

@@ -1,2 +1,4 @@
 pub mod Swapping
+pub mod Halves
 pub mod Rounds
+pub mod Turning

@@ -26,7 +26,8 @@ few-enough e h g = omega arith
 module _ (a b : ℕ) where
   at-second : (l : List ℕ) → b < length l → getD (swapped a b l) b 0 ≡ getD l a 0
   unfolding swapped
-  at-second l h = getD-set-same (set l a (getD l b 0)) b (getD l a 0) 0 (let e : length (set l a (getD l b 0)) ≡ length l = length-set l a (getD l b 0) in omega arith)
+  at-second l h = getD-set-same (set l a (getD l b 0)) b (getD l a 0) 0 (let e : length (set l a (getD l b 0)) ≡ length l = length-set l a (getD l b 0) in omega
+      arith)
 
   at-first : (l : List ℕ) → a < length l → b < length l → getD (swapped a b l) a 0 ≡ getD l b 0
   unfolding swapped
@@ -36,7 +37,8 @@ module _ (a b : ℕ) where
       go true e =
           let s : a ≡ b = eqb-true a b e in
           ap (λ (q : ℕ). getD (set (set l a (getD l b 0)) b (getD l a 0)) q 0) s
-          ∙ (getD-set-same (set l a (getD l b 0)) b (getD l a 0) 0 (let z : length (set l a (getD l b 0)) ≡ length l = length-set l a (getD l b 0) in omega arith)
+          ∙ (getD-set-same (set l a (getD l b 0)) b (getD l a 0) 0 (let z : length (set l a (getD l b 0)) ≡ length l = length-set l a (getD l b 0) in omega
+          arith)
           ∙ ap (λ (q : ℕ). getD l q 0) s)
       go false e = getD-set-other (set l a (getD l b 0)) b a (getD l a 0) 0 (eqb-false a b e) ∙ getD-set-same l a (getD l b 0) 0 h
 
@@ -46,7 +48,8 @@ module _ (a b : ℕ) where
 
   -- swapped back
   pub swapped-twice : (l : List ℕ) → a < length l → b < length l → swapped a b (swapped a b l) ≡ l
-  swapped-twice l h g = ext-getD 0 (swapped a b (swapped a b l)) l (length-swapped a b (swapped a b l) ∙ length-swapped a b l) (λ q w. go q (eqb q a) refl (eqb q b) refl)
+  swapped-twice l h g = ext-getD 0 (swapped a b (swapped a b l)) l (length-swapped a b (swapped a b l) ∙ length-swapped a b l)
+      (λ q w. go q (eqb q a) refl (eqb q b) refl)
     where
       s : length (swapped a b l) ≡ length l
       s = length-swapped a b l

@@ -4,6 +4,7 @@ ghost use mathlib.Core.Path.{_≡_};
 ghost use Prim.Native.Nat.{ℕ, _+_, _-_, _/_, _≤_, _<_, _^_};
 ghost use lib.ListN.{length, getD, set};
 ghost use Rattle.look.specs.Ready.{Lookable};
+ghost use Rattle.tracks.specs.Tracks.{nextColumns, lookCounts, slotNumbers};
 ghost use Rattle.columns.specs.Stands.{xOf, lastOf};
 ghost use Rattle.search.specs.Searching.{answerAt, looked, searchFrom, Within, nextOf, tracked, searchOf};
 use columns::Columns;
@@ -34,12 +35,18 @@ fn column_step(
     placed_entries: &[Entry],
     placed_starts: &[usize],
     room: &mut [f64],
-    look_counts: &mut [usize],
+    tracks: &mut [usize],
 ) -> Answer
-    requires { ⌜ Lookable ix (xOf k c) (k .«y_low») (k .«y_high») (now inset) (now apart) (now sheet) (now placed) (now «sheet_entries») (now «sheet_starts») (now «placed_entries») (now «placed_starts») × (k .count ≤ 4000000000) × (slot < length (now «look_counts»)) × (getD (now «look_counts») slot 0 + 1 < 2 ^ 64) ⌝ }
-    ensures { λ r. ⌜ (r ≡ answerAt (length (now (room .entry)) / 2) k (now (inset .entry)) (now (apart .entry)) (now (sheet .entry)) (now (placed .entry)) c) × (now («look_counts» .exit) ≡ set (now («look_counts» .entry)) slot (getD (now («look_counts» .entry)) slot 0 + 1)) ⌝ }
+    requires { ⌜ Lookable ix (xOf k c) (k .«y_low») (k .«y_high») (now inset) (now apart) (now sheet) (now placed)
+        (now «sheet_entries») (now «sheet_starts») (now «placed_entries») (now «placed_starts»)
+        × (k .count ≤ 4000000000) × (slot < 1024) × (slotNumbers ≤ length (now tracks)) × (getD (lookCounts (now tracks)) slot 0 + 1 < 2 ^ 64) ⌝ }
+    ensures { λ r. ⌜ (r ≡ answerAt (length (now (room .entry)) / 2) k (now (inset .entry)) (now (apart .entry)) (now (sheet .entry)) (now (placed .entry)) c)
+        × (lookCounts (now (tracks .exit)) ≡ set (lookCounts (now (tracks .entry))) slot (getD (lookCounts (now (tracks .entry))) slot 0 + 1))
+        × (nextColumns (now (tracks .exit)) ≡ nextColumns (now (tracks .entry))) ⌝ }
 {
-    look_counts[slot] = look_counts[slot] + 1;
+    let row = 2 * slot;
+    let at = row + 1;
+    tracks[at] = tracks[at] + 1;
     look::look_at(
         ix,
         k.x(c),
@@ -73,10 +80,16 @@ fn column_search(
     placed_entries: &[Entry],
     placed_starts: &[usize],
     room: &mut [f64],
-    look_counts: &mut [usize],
+    tracks: &mut [usize],
 ) -> Found
-    requires { ⌜ ((c : ℕ) → from ≤ c → c ≤ last → Lookable ix (xOf k c) (k .«y_low») (k .«y_high») (now inset) (now apart) (now sheet) (now placed) (now «sheet_entries») (now «sheet_starts») (now «placed_entries») (now «placed_starts»)) × (k .count ≤ 4000000000) × (last ≤ 4000000001) × (slot < length (now «look_counts»)) × (getD (now «look_counts») slot 0 + (last + 1 - from) < 2 ^ 64) ⌝ }
-    ensures { λ r. ⌜ (looked r (now («look_counts» .exit)) ≡ searchFrom (answerAt (length (now (room .entry)) / 2) k (now (inset .entry)) (now (apart .entry)) (now (sheet .entry)) (now (placed .entry))) slot (last + 1 - from) from (now («look_counts» .entry))) × Within last r ⌝ }
+    requires { ⌜ ((c : ℕ) → from ≤ c → c ≤ last → Lookable ix (xOf k c) (k .«y_low») (k .«y_high») (now inset) (now apart) (now sheet) (now placed)
+        (now «sheet_entries») (now «sheet_starts») (now «placed_entries») (now «placed_starts»))
+        × (k .count ≤ 4000000000) × (last ≤ 4000000001) × (slot < 1024) × (slotNumbers ≤ length (now tracks))
+        × (getD (lookCounts (now tracks)) slot 0 + (last + 1 - from) < 2 ^ 64) ⌝ }
+    ensures { λ r. ⌜ (looked r (lookCounts (now (tracks .exit)))
+        ≡ searchFrom (answerAt (length (now (room .entry)) / 2) k (now (inset .entry)) (now (apart .entry)) (now (sheet .entry)) (now (placed .entry)))
+        slot (last + 1 - from) from (lookCounts (now (tracks .entry))))
+        × (nextColumns (now (tracks .exit)) ≡ nextColumns (now (tracks .entry))) × Within last r ⌝ }
 {
     let mut c = from;
     let found = loop {
@@ -97,7 +110,7 @@ fn column_search(
             placed_entries,
             placed_starts,
             room,
-            look_counts,
+            tracks,
         ) {
             Answer::NoRoom => {
                 break Found::Overflow;
@@ -142,14 +155,18 @@ pub fn search(
     placed_entries: &[Entry],
     placed_starts: &[usize],
     room: &mut [f64],
-    look_counts: &mut [usize],
-    next_column: &mut [usize],
+    tracks: &mut [usize],
 ) -> Found
-    requires { ⌜ ((c : ℕ) → c ≤ lastOf k → Lookable ix (xOf k c) (k .«y_low») (k .«y_high») (now inset) (now apart) (now sheet) (now placed) (now «sheet_entries») (now «sheet_starts») (now «placed_entries») (now «placed_starts»)) × (k .count ≤ 4000000000) × (slot < length (now «look_counts»)) × (slot < length (now «next_column»)) × (getD (now «look_counts») slot 0 + 4000000002 < 2 ^ 64) ⌝ }
-    ensures { λ r. ⌜ tracked r (now («look_counts» .exit)) (now («next_column» .exit)) ≡ searchOf (answerAt (length (now (room .entry)) / 2) k (now (inset .entry)) (now (apart .entry)) (now (sheet .entry)) (now (placed .entry))) k slot (now («look_counts» .entry)) (now («next_column» .entry)) ⌝ }
+    requires { ⌜ ((c : ℕ) → c ≤ lastOf k → Lookable ix (xOf k c) (k .«y_low») (k .«y_high») (now inset) (now apart) (now sheet) (now placed)
+        (now «sheet_entries») (now «sheet_starts») (now «placed_entries») (now «placed_starts»))
+        × (k .count ≤ 4000000000) × (slot < 1024) × (slotNumbers ≤ length (now tracks)) × (getD (lookCounts (now tracks)) slot 0 + 4000000002 < 2 ^ 64) ⌝ }
+    ensures { λ r. ⌜ tracked r (lookCounts (now (tracks .exit))) (nextColumns (now (tracks .exit)))
+        ≡ searchOf (answerAt (length (now (room .entry)) / 2) k (now (inset .entry)) (now (apart .entry)) (now (sheet .entry)) (now (placed .entry)))
+        k slot (lookCounts (now (tracks .entry))) (nextColumns (now (tracks .entry))) ⌝ }
 {
     let last = k.last();
-    let from = k.start(last, next_column[slot]);
+    let at = 2 * slot;
+    let from = k.start(last, tracks[at]);
     let found = column_search(
         ix,
         k,
@@ -165,8 +182,8 @@ pub fn search(
         placed_entries,
         placed_starts,
         room,
-        look_counts,
+        tracks,
     );
-    next_column[slot] = next_of(found, last);
+    tracks[at] = next_of(found, last);
     found
 }

@@ -1,1 +1,4 @@
+pub mod Given
+pub mod Reported
+pub mod Plans
 pub mod Ordered

@@ -27,7 +27,6 @@ use Rattle.filling.specs.Start.{firstRooms, prepareVerdict, startVerdict, Start
 use Rattle.filling.proofs.Begin.{rearranged-length}
 use Rattle.tables.specs.Tabled.{Tabled}
 use Rattle.tables.proofs.Tabling.{jobIn, kinds-in, tabled}
-use Rattle.prepare.specs.declared.Prepared.the-variants as Prepared
 use Rattle.prepare.specs.Ready.{FromTables}
 use Rattle.prepare.proofs.Tabled.{from-tables}
 use Rattle.started.specs.declared.Started.{Started}

@@ -66,19 +66,11 @@ fn begin(
 ) -> Started
     ensures { λ r. ⌜ ((l : Lent) → Cleared l (now (shapes .entry)) (now (sheet .entry)) (now («sheet_entries» .entry)) → positionCapacity (l .positions) ≡ positions → Begun r (startOf (now (bytes .entry)) (now (order .entry)) l) (now (shapes .exit)) (now (sheet .exit)) (now («sheet_entries» .exit))) ⌝ }
 {
-    let mut rows = [0u64; 256];
-    let mut areas = [0.0; 64];
-    let mut places = [0u32; 2048];
-    let mut room = [0.0; 1024];
-    let mut ends = [0usize; 64];
-    match job::read_job(
-        bytes,
-        &mut rows,
-        &mut areas,
-        &mut places,
-        &mut room,
-        &mut ends,
-    ) {
+    let j = job::read(bytes);
+    let rows = j.rows;
+    let places = j.places;
+    let answer = j.answer;
+    match answer {
         JobRead::Good(h, at, copies) => begin_job(
             bytes,
             order,

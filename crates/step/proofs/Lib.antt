@@ -1,2 +1,4 @@
+pub mod After
+pub mod Allowed
 pub mod Kept
 pub mod Steps

@@ -1,16 +1,17 @@
 // A single step (document 01): the next copy of a state and its rooms.
 ghost use mathlib.Core.Path.{_≡_};
-ghost use Prim.Native.Nat.{ℕ, _+_, _*_, _≤_, _<_};
-ghost use lib.ListN.{length, getD};
+ghost use Prim.Native.Nat.{_+_, _≤_, _<_};
+ghost use lib.ListN.{length};
 ghost use Rattle.job.specs.Jobs.{Job};
 ghost use Rattle.filling.specs.NextCopy.{coreStep};
-ghost use Rattle.core_step.specs.Checked.{rooms};
-ghost use Rattle.step.specs.Going.{Going, copyOf, stepOf, verdictOf};
+ghost use Rattle.tracks.specs.Tracks.{nextColumns, lookCounts, slotNumbers};
+ghost use Rattle.place.specs.Placing.{totalsOf, verdictOf, Under};
+ghost use Rattle.step.specs.Going.{rooms, Going, takenOf, answerOf, stepOf};
 use filling::Layout;
 use filling::State;
 use filling::Verdict;
 use index::Entry;
-use place::Outcome;
+use place::Step;
 use place::Totals;
 
 // What a single step answers: its verdict, and the state after it.
@@ -19,44 +20,103 @@ pub struct Stepped {
     pub state: State,
 }
 
-fn verdict_of(o: Outcome) -> Verdict
-    ensures { λ r. ⌜ r ≡ verdictOf o ⌝ }
+// What stands beside the rooms.
+fn totals_of(state: State) -> Totals
+    ensures { λ r. ⌜ r ≡ totalsOf state ⌝ }
 {
-    match o {
-        Outcome::At(_) => Verdict::Accepted,
-        Outcome::Nowhere => Verdict::Accepted,
-        Outcome::Refused(r) => Verdict::Refused(r),
+    let layout = state.layout;
+    Totals {
+        placed_strips: state.placed_strips,
+        right: layout.right,
+        unplaced_area: layout.unplaced_area,
     }
 }
 
-// What the tables say of a copy: its kind, its number of orientations and its area.
-struct Copy {
-    kind: usize,
-    orientations: usize,
-    area: f64,
+// A table for the slots' numbers.
+fn no_tracks() -> [usize; 2048]
+    ensures { λ r. ⌜ length r ≡ slotNumbers ⌝ }
+{
+    [0usize; 2048]
 }
 
-// The copy at place i of the order.
-fn copy_at(order: &[usize], rows: &[u64], areas: &[f64], i: usize) -> Copy
-    requires { ⌜ (i < length (now order)) × (getD (now order) i 0 < 64) × (256 ≤ length (now rows)) × (64 ≤ length (now areas)) ⌝ }
-    ensures { λ r. ⌜ r ≡ copyOf (now (order .entry)) (now (rows .entry)) (now (areas .entry)) i ⌝ }
+// The slots' numbers of the state in one table.
+fn tracks_of(state: State) -> [usize; 2048]
+    ensures { λ r. ⌜ (length r ≡ slotNumbers) × (nextColumns r ≡ state .«next_column») × (lookCounts r ≡ state .«look_counts») ⌝ }
 {
-    let k = order[i];
-    let n = rows[4 * k + 3] as usize;
-    Copy {
-        kind: k,
-        orientations: n,
-        area: areas[k],
+    let next_column = state.next_column;
+    let look_counts = state.look_counts;
+    let mut tracks = no_tracks();
+    tracks::join(&next_column, &look_counts, &mut tracks);
+    tracks
+}
+
+// The state after a copy that is taken, one of n orientations.
+fn taken(state: State, n: usize, step: Step, tracks: &[usize]) -> State
+    requires { ⌜ (state .taken < 4096) × Under n (step .outcome) × (n ≤ 1024) × (slotNumbers ≤ length (now tracks)) ⌝ }
+    ensures { λ r. ⌜ r ≡ takenOf (state .taken + 1) state step (now (tracks .entry)) ⌝ }
+{
+    let tables = state.tables;
+    let order = state.order;
+    let mut next_column = state.next_column;
+    let mut look_counts = state.look_counts;
+    tracks::read_numbers(tracks, 2, 0, &mut next_column);
+    tracks::read_numbers(tracks, 2, 1, &mut look_counts);
+    let at = state.taken;
+    let o = step.outcome;
+    let layout = state.layout;
+    let mut orientation = layout.orientation;
+    let mut x = layout.x;
+    let mut y = layout.y;
+    orientation[at] = next::number_of(o, n);
+    x[at] = next::x_of(o);
+    y[at] = next::y_of(o);
+    let after = at + 1;
+    let t = step.totals;
+    State {
+        tables: tables,
+        order: order,
+        taken: after,
+        next_column: next_column,
+        look_counts: look_counts,
+        placed_strips: t.placed_strips,
+        layout: Layout {
+            orientation: orientation,
+            x: x,
+            y: y,
+            unplaced_area: t.unplaced_area,
+            right: t.right,
+        },
+    }
+}
+
+// The answer: the state after the copy, or the old one where it is refused.
+fn answer(state: State, n: usize, step: Step, tracks: &[usize]) -> Stepped
+    requires { ⌜ (state .taken < 4096) × Under n (step .outcome) × (n ≤ 1024) × (slotNumbers ≤ length (now tracks)) ⌝ }
+    ensures { λ r. ⌜ r ≡ answerOf state step (now (tracks .entry)) (verdictOf (step .outcome)) ⌝ }
+{
+    let o = step.outcome;
+    match place::verdict_of(o) {
+        Verdict::Accepted => {
+            let after = taken(state, n, step, tracks);
+            Stepped {
+                verdict: Verdict::Accepted,
+                state: after,
+            }
+        }
+        Verdict::Refused(r) => Stepped {
+            verdict: Verdict::Refused(r),
+            state: state,
+        },
     }
 }
 
 // The next copy, of a job whose tables are given. Only crates of ours call it: state and rooms must
 // have passed refusal 31's tests, with a copy to come.
-pub fn step_copy<'a>(
+pub fn step_copy(
     rows: &[u64],
     areas: &[f64],
     state: State,
-    shapes: &'a [f64],
+    shapes: &[f64],
     sheet: &[f64],
     sheet_entries: &[Entry],
     sheet_starts: &[usize],
@@ -65,46 +125,32 @@ pub fn step_copy<'a>(
     starts: &mut [usize],
     intervals: &mut [f64],
 ) -> Stepped
-    requires { ⌜ ((j : Job) × Going j state (rooms (now shapes) (now sheet) (now placed) (now «sheet_entries») (now entries)) (now rows) (now areas) (now «sheet_starts») (now starts)) ⌝ }
-    ensures { λ r. ⌜ ((j : Job) → Going j state (rooms (now (shapes .entry)) (now (sheet .entry)) (now (placed .entry)) (now («sheet_entries» .entry)) (now (entries .entry))) (now (rows .entry)) (now (areas .entry)) (now («sheet_starts» .entry)) (now (starts .entry))
-        → stepOf r (rooms (now (shapes .entry)) (now (sheet .entry)) (now (placed .exit)) (now («sheet_entries» .entry)) (now (entries .exit))) (now (intervals .exit)) ≡ coreStep j state (rooms (now (shapes .entry)) (now (sheet .entry)) (now (placed .entry)) (now («sheet_entries» .entry)) (now (entries .entry))) (now (intervals .entry))) ⌝ }
+    requires { ⌜ ((j : Job) × Going j state (rooms (now shapes) (now sheet) (now placed) (now «sheet_entries») (now entries))
+        (now rows) (now areas) (now «sheet_starts») (now starts)) ⌝ }
+    ensures { λ r. ⌜ ((j : Job) → Going j state (rooms (now (shapes .entry)) (now (sheet .entry)) (now (placed .entry)) (now («sheet_entries» .entry))
+        (now (entries .entry))) (now (rows .entry)) (now (areas .entry)) (now («sheet_starts» .entry)) (now (starts .entry))
+        → stepOf r (rooms (now (shapes .entry)) (now (sheet .entry)) (now (placed .exit)) (now («sheet_entries» .entry)) (now (entries .exit)))
+        (now (intervals .exit)) ≡ coreStep j state (rooms (now (shapes .entry)) (now (sheet .entry)) (now (placed .entry)) (now («sheet_entries» .entry))
+        (now (entries .entry))) (now (intervals .entry))) ⌝ }
 {
-    let at = state.taken;
     let order = state.order;
-    let copy = copy_at(&order, rows, areas, at);
+    let copy = place::copy_at(&order, rows, areas, state.taken);
     let tables = state.tables;
+    let g = choose::grid_of(tables);
+    let t = totals_of(state);
     let inset_bounds = tables.inset_bounds;
     let parts = tables.parts;
-    let b = tables.sheet_bounds;
-    let mut next_column = state.next_column;
-    let mut look_counts = state.look_counts;
-    let layout = state.layout;
-    let mut orientation = layout.orientation;
-    let mut x = layout.x;
-    let mut y = layout.y;
-    let t = Totals {
-        placed_strips: state.placed_strips,
-        right: layout.right,
-        unplaced_area: layout.unplaced_area,
-    };
+    let end = 6 * tables.sheet_strips;
     let mut gains = [0usize; 512];
-    let step = core_step::core_step(
-        b.left,
-        b.bottom,
-        b.right,
-        b.top,
-        tables.resolution,
-        tables.sheet_strips,
-        tables.apart_strips,
-        copy.area,
-        copy.kind,
-        copy.orientations,
-        at,
+    let mut tracks = tracks_of(state);
+    let step = place::place_copy(
+        g,
+        copy,
         t,
         &inset_bounds,
         &parts,
         shapes,
-        sheet,
+        &sheet[..end],
         sheet_entries,
         sheet_starts,
         placed,
@@ -112,37 +158,8 @@ pub fn step_copy<'a>(
         starts,
         &mut gains,
         intervals,
-        &mut look_counts,
-        &mut next_column,
-        &mut orientation,
-        &mut x,
-        &mut y,
+        &mut tracks,
     );
     rooms::zero(intervals);
-    let taken = at + 1;
-    let o = step.outcome;
-    match verdict_of(o) {
-        Verdict::Accepted => Stepped {
-            verdict: Verdict::Accepted,
-            state: State {
-                tables: tables,
-                order: order,
-                taken: taken,
-                next_column: next_column,
-                look_counts: look_counts,
-                placed_strips: step.totals.placed_strips,
-                layout: Layout {
-                    orientation: orientation,
-                    x: x,
-                    y: y,
-                    unplaced_area: step.totals.unplaced_area,
-                    right: step.totals.right,
-                },
-            },
-        },
-        Verdict::Refused(r) => Stepped {
-            verdict: Verdict::Refused(r),
-            state: state,
-        },
-    }
+    answer(state, copy.orientations, step, &tracks)
 }

@@ -4,18 +4,19 @@
 // answers (oracle/sample-swaps.py); oracle/compare-swaps.sh compares many jobs.
 ghost use mathlib.Core.Path.{_≡_};
 ghost use Prim.Native.Nat.{_*_, _≤_};
-ghost use lib.ListN.{length, take, drop};
+ghost use lib.ListN.{length};
 ghost use Rattle.job.specs.Jobs.{Job};
-ghost use Rattle.filling.specs.Consistent.{sheetIndex};
-ghost use Rattle.fill_laws.specs.Prepared.{given, Prepared};
+ghost use Rattle.fill_laws.specs.Prepared.{Prepared};
 ghost use Rattle.readied.specs.Zeroed.{ReadInto};
+ghost use Rattle.search_plan.specs.Tabled.{givenBy};
 use better::Round;
 use filling::Refusal;
+use filling::Tables;
 use filling::Verdict;
 use index::Entry;
+use job::Header;
 use job::JobRead;
 use records::Part;
-use strips::Rect;
 
 fn print_refusal(r: Refusal) {
     io::write_all(1, b"no ");
@@ -59,46 +60,35 @@ fn print_round(r: Round, order: &[usize], n: usize) {
 
 // The copies in their order, and what their swap search ends with.
 fn search(
-    bounds: Rect,
-    resolution: f64,
-    seed: u64,
-    rounds: usize,
-    kinds: usize,
-    sheet_strips: usize,
-    apart_strips: usize,
+    tables: Tables,
+    h: Header,
     rows: &[u64],
     areas: &[f64],
-    inset_bounds: &[f64],
-    parts: &[usize],
     shapes: &[f64],
     sheet: &[f64],
     sheet_entries: &[Entry],
     sheet_starts: &[usize],
 )
-    requires { ⌜ ((j : Job) × Prepared j (given (sheetIndex bounds) bounds resolution (now rows) (now areas) (now «inset_bounds») (now parts) (take (6 * «apart_strips») (now shapes)) (drop (6 * «apart_strips») (now shapes)) (take (6 * «sheet_strips») (now sheet)) (now «sheet_entries») (now «sheet_starts»)) × (length (j .kinds) ≡ kinds))
-        × (6 * «sheet_strips» ≤ length (now sheet)) × (6 * «apart_strips» ≤ length (now shapes)) ⌝ }
+    requires { ⌜ ((j : Job) × Prepared j (givenBy tables (now rows) (now areas) (now shapes) (now sheet) (now «sheet_entries») (now «sheet_starts»))
+        × (j .header ≡ h) × (length (j .kinds) ≡ h .kinds))
+        × (6 * tables .«sheet_strips» ≤ length (now sheet)) × (6 * tables .«apart_strips» ≤ length (now shapes)) ⌝ }
 {
+    let kinds = h.kinds as usize;
+    let rounds = h.rounds as usize;
     let mut placed = [0.0; 8190];
     let mut placed_entries = [0u16; 16384];
     let mut intervals = [0.0; 8192];
-    let mut look_counts = [0usize; 1024];
-    let mut orientation = [0usize; 4096];
-    let mut x = [0.0; 4096];
-    let mut y = [0.0; 4096];
+    let mut tracks = search_plan::two_tracks();
+    let mut spots = search_plan::two_spots();
     let mut order = [0usize; 4096];
     let n = copy_order::copy_order(rows, areas, kinds, &mut order);
-    let r = search_plan::search_plan(
-        bounds,
-        resolution,
-        seed,
+    let r = search_plan::search(
+        tables,
+        h.seed,
         rounds,
-        sheet_strips,
-        apart_strips,
         &mut order[..n],
         rows,
         areas,
-        inset_bounds,
-        parts,
         shapes,
         sheet,
         sheet_entries,
@@ -106,100 +96,56 @@ fn search(
         &mut placed,
         &mut placed_entries,
         &mut intervals,
-        &mut look_counts,
-        &mut orientation,
-        &mut x,
-        &mut y,
+        &mut tracks,
+        &mut spots,
     );
     print_round(r, &order, n);
 }
 
 // What is prepared of the job in the tables, with the rooms that `plan` lends, then its search.
-fn prepare_job(
-    bytes: &[u8],
-    at: u32,
-    kinds: usize,
-    seed: u64,
-    rounds: usize,
-    resolution: f64,
-    rows: &[u64],
-    areas: &[f64],
-    places: &[u32],
-)
-    requires { ⌜ ((j : Job) × ReadInto j (now bytes) at kinds resolution (now rows) (now areas) (now places)) × (2048 ≤ length (now places)) ⌝ }
+fn prepare_job(bytes: &[u8], at: u32, h: Header, rows: &[u64], areas: &[f64], places: &[u32])
+    requires { ⌜ ((j : Job) × ReadInto j (now bytes) at h (now rows) (now areas) (now places)) × (2048 ≤ length (now places)) ⌝ }
 {
     let mut shapes = [0.0; 8190];
     let mut sheet = [0.0; 8190];
     let mut sheet_entries = [0u16; 16384];
-    let mut sheet_starts = [0usize; 513];
-    let mut gains = [0usize; 512];
-    let mut inset_bounds = [0.0; 4096];
-    let mut parts = [0usize; 4096];
-    match prepare::prepare(
+    let p = prepare::prepare(
         bytes,
         at,
-        kinds,
+        h,
         rows,
         places,
         &mut shapes,
         &mut sheet,
         &mut sheet_entries,
-        &mut sheet_starts,
-        &mut gains,
-        &mut inset_bounds,
-        &mut parts,
-    ) {
-        prepare::Prepared::Ready(bounds, n, a, _) => search(
-            bounds,
-            resolution,
-            seed,
-            rounds,
-            kinds,
-            n,
-            a,
+    );
+    let tables = p.tables;
+    let sheet_starts = p.sheet_starts;
+    let verdict = p.verdict;
+    match verdict {
+        Verdict::Accepted => search(
+            tables,
+            h,
             rows,
             areas,
-            &inset_bounds,
-            &parts,
             &shapes,
             &sheet,
             &sheet_entries,
             &sheet_starts,
         ),
-        prepare::Prepared::NotReady(k) => print_refusal(k),
+        Verdict::Refused(k) => print_refusal(k),
     }
 }
 
 // Answers the job that the bytes are.
 fn answer_job(bytes: &[u8]) {
-    let mut rows = [0u64; 256];
-    let mut areas = [0.0; 64];
-    let mut places = [0u32; 2048];
-    let mut points = [0.0; 1024];
-    let mut ends = [0usize; 64];
-    match job::read_job(
-        bytes,
-        &mut rows,
-        &mut areas,
-        &mut places,
-        &mut points,
-        &mut ends,
-    ) {
-        JobRead::Good(h, at, _) => {
-            let kinds = h.kinds as usize;
-            let rounds = h.rounds as usize;
-            prepare_job(
-                bytes,
-                at,
-                kinds,
-                h.seed,
-                rounds,
-                h.resolution,
-                &rows,
-                &areas,
-                &places,
-            )
-        }
+    let j = job::read(bytes);
+    let rows = j.rows;
+    let areas = j.areas;
+    let places = j.places;
+    let answer = j.answer;
+    match answer {
+        JobRead::Good(h, at, _) => prepare_job(bytes, at, h, &rows, &areas, &places),
         JobRead::NoJob(k) => print_refusal(Refusal::Job(k)),
     }
 }

@@ -7,31 +7,24 @@ use Rattle.choose.proofs.against.Reads as reads
 use Rattle.choose.proofs.against.Lts as lts
 use Rattle.choose.proofs.first_of.Reads as first-of-reads
 
--- src/lib.rt:260:21
 enum-known-next : tie.Need-enum-known-next
 enum-known-next c = search needs
 
--- src/lib.rt:260:27
 first-of-requires : tie.Need-first-of-requires
 first-of-requires c κs = search needs
 
--- src/lib.rt:261:28
 enum-told : tie.Need-enum-told
 enum-told c = search needs
 
--- src/lib.rt:262:27
 enum-told-2 : tie.Need-enum-told-2
 enum-told-2 c = search needs
 
--- src/lib.rt:256:1
 returns : tie.Need-returns
 returns c = c .first-of .ensures ∙ sym (ap (againstOf (c .before .before .before .before .args .a)) (c .before .before .next .given .1))
 
--- src/lib.rt:256:1
 returns-2 : tie.Need-returns-2
 returns-2 c = sym (ap (againstOf (c .before .before .args .a)) (c .enum-told .given .1))
 
--- src/lib.rt:256:1
 returns-3 : tie.Need-returns-3
 returns-3 c = sym (ap (againstOf (c .before .before .args .a)) (c .enum-told2 .given .1))
 

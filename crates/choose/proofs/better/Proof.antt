@@ -8,31 +8,24 @@ use Rattle.choose.proofs.better.Reads as reads
 use Rattle.choose.proofs.better.Lts as lts
 use Rattle.choose.proofs.against.Reads as against-reads
 
--- src/lib.rt:271:21
 enum-known-best : tie.Need-enum-known-best
 enum-known-best c = search needs
 
--- src/lib.rt:271:27
 against-requires : tie.Need-against-requires
 against-requires c κs = search needs
 
--- src/lib.rt:272:28
 enum-told : tie.Need-enum-told
 enum-told c = search needs
 
--- src/lib.rt:273:27
 enum-told-2 : tie.Need-enum-told-2
 enum-told-2 c = search needs
 
--- src/lib.rt:267:1
 returns : tie.Need-returns
 returns c = c .against .ensures ∙ sym (ap (λ (z : Winner). betterOf z (c .before .before .before .before .args .next)) (c .before .before .best .given .1))
 
--- src/lib.rt:267:1
 returns-2 : tie.Need-returns-2
 returns-2 c = search needs
 
--- src/lib.rt:267:1
 returns-3 : tie.Need-returns-3
 returns-3 c = search needs
 

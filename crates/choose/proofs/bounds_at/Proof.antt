@@ -5,55 +5,42 @@ use Rattle.choose.proofs.bounds_at.Tie as tie
 use Rattle.choose.proofs.bounds_at.Reads as reads
 use Rattle.choose.proofs.bounds_at.Lts as lts
 
--- src/lib.rt:201:14
 mul-at : tie.Need-mul-at
 mul-at c = search needs
 
--- src/lib.rt:202:20
 mul-t4 : tie.Need-mul-t4
 mul-t4 c = search needs
 
--- src/lib.rt:202:20
 shared-slice-read-t6 : tie.Need-shared-slice-read-t6
 shared-slice-read-t6 c = search needs
 
--- src/lib.rt:202:45
 add-t7 : tie.Need-add-t7
 add-t7 c = search needs
 
--- src/lib.rt:202:39
 mul-t8 : tie.Need-mul-t8
 mul-t8 c = search needs
 
--- src/lib.rt:202:39
 shared-slice-read-t10 : tie.Need-shared-slice-read-t10
 shared-slice-read-t10 c = search needs
 
--- src/lib.rt:202:67
 add-t11 : tie.Need-add-t11
 add-t11 c = search needs
 
--- src/lib.rt:202:61
 mul-t12 : tie.Need-mul-t12
 mul-t12 c = search needs
 
--- src/lib.rt:202:61
 shared-slice-read-t14 : tie.Need-shared-slice-read-t14
 shared-slice-read-t14 c = search needs
 
--- src/lib.rt:202:87
 add-t15 : tie.Need-add-t15
 add-t15 c = search needs
 
--- src/lib.rt:202:81
 mul-t16 : tie.Need-mul-t16
 mul-t16 c = search needs
 
--- src/lib.rt:202:81
 shared-slice-read-t18 : tie.Need-shared-slice-read-t18
 shared-slice-read-t18 c = search needs
 
--- src/lib.rt:197:1
 returns : tie.Need-returns
 unfolding boundsAt
 returns c = search needs

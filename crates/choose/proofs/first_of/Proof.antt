@@ -7,15 +7,12 @@ use Rattle.choose.proofs.first_of.Reads as reads
 use Rattle.choose.proofs.first_of.Lts as lts
 use Rattle.choose.proofs.wins.Reads as wins-reads
 
--- src/lib.rt:250:8
 wins-requires : tie.Need-wins-requires
 wins-requires c κs = search needs
 
--- src/lib.rt:251:9
 returns : tie.Need-returns
 returns c = sym (first-true _ _ (sym (c .before .wins .ensures) ∙ c .if1 .taken))
 
--- src/lib.rt:247:1
 returns-2 : tie.Need-returns-2
 returns-2 c = sym (first-false _ _ (sym (c .before .wins .ensures) ∙ c .if1 .left))
 

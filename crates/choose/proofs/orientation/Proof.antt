@@ -1,9 +1,9 @@
-use Rattle.columns.specs.declared.Columns.{Columns}
+-- `orientation`: the search of one orientation, out of the tables by slot. Assumes nothing.
 use Rattle.choose.proofs.Turns.{ready-parts, ready-few, orient-is}
-use Rattle.choose.specs.Choosing.{world}
+use Rattle.choose.specs.Choosing.{worldIn}
+use Rattle.tracks.specs.Tracks.{nextColumns, lookCounts}
 use lib.ListN.{length}
-use Prim.Native.Nat.{ℕ, _/_, _+_, _-_, _*_, _≤_, _<_, _^_}
-use mathlib.Core.Path.{_≡_, sym, ap, _∙_, refl, subst}
+use Prim.Native.Nat.{_/_, _-_}
 use borrow.Author.Needs.{needs}
 use Rattle.choose.proofs.orientation.Statement.{statement}
 use Rattle.choose.proofs.orientation.Tie as tie
@@ -15,46 +15,60 @@ use Rattle.choose.proofs.winner_of.Reads as winner-of-reads
 use Rattle.choose.proofs.search_part.Reads as search-part-reads
 use Rattle.choose.proofs.part_at.Reads as part-at-reads
 
--- src/lib.rt:294:9
 bounds-at-requires : tie.Need-bounds-at-requires
 bounds-at-requires c κs = search needs
 
--- src/lib.rt:295:9
 part-at-requires : tie.Need-part-at-requires
 part-at-requires c κs = search needs
 
--- src/lib.rt:296:9
 new-requires : tie.Need-new-requires
 new-requires c κs = search needs
 
--- src/lib.rt:297:9
 search-part-requires : tie.Need-search-part-requires
-search-part-requires c κs = let a = c .before .before .before .before .before .before .before .before .before .before .before .before .before .before .before .before .before .before .before .args in
-    let p = c .before .before .before .before .before .before .before .before .before .before .before .before .before .before .before .before .before .before .before .pre in
-    let r = ready-parts (a .ix) (world (length (a .room .now) / 2) (a .bounds) (a .resolution) (a .inset-bounds .now) (a .parts .now) (a .apart .now) (a .inset .now) (a .sheet .now) (a .placed .now)) (a .sheet-entries .now) (a .sheet-starts .now) (a .placed-entries .now) (a .placed-starts .now) (a .slot) (c .before .before .before .before .before .bounds-at .result) (c .before .before .before .before .part-at .result) (c .before .before .before .new .result) (p .0) (c .before .before .before .before .before .bounds-at .ensures) (c .before .before .before .before .part-at .ensures) (c .before .before .before .new .ensures) in
-    (r .0, r .1, p .1, p .2, p .3)
+search-part-requires c κs =
+    let c2 = c .before .before in
+    let c3 = c2 .before in
+    let c4 = c3 .before in
+    let c16 = c4 .before .before .before .before .before .before .before .before .before .before .before .before in
+    let a = c16 .args in
+    let p = c16 .pre in
+    let r = ready-parts (a .g .index) (worldIn (length (a .room .now) / 2) (a .g) (a .inset-bounds .now) (a .parts .now) (a .shapes .now) (a .sheet .now)
+    (a .placed .now))
+    (a .sheet-entries .now) (a .sheet-starts .now) (a .placed-entries .now) (a .placed-starts .now) (a .slot) (c4 .bounds-at .result)
+    (c3 .part-at .result) (c2 .new .result)
+    (p .0) (c4 .bounds-at .ensures) (c3 .part-at .ensures) (c2 .new .ensures) in
+    (r .0, r .1, p .1, p .2, p .3, p .4)
 
--- src/lib.rt:298:5
 winner-of-requires : tie.Need-winner-of-requires
-winner-of-requires c κs = let a = c .before .before .before .before .before .before .before .before .before .before .before .before .before .before .before .before .before .before .before .before .before .before .before .before .before .before .args in
-    ready-few (a .ix) (world (length (a .room .now) / 2) (a .bounds) (a .resolution) (a .inset-bounds .now) (a .parts .now) (a .apart .now) (a .inset .now) (a .sheet .now) (a .placed .now)) (a .sheet-entries .now) (a .sheet-starts .now) (a .placed-entries .now) (a .placed-starts .now) (a .slot) (c .before .before .before .before .before .before .before .before .before .before .before .before .bounds-at .result) (c .before .before .before .before .before .before .before .before .before .before .new .result) (c .before .before .before .before .before .before .before .before .before .before .before .before .before .before .before .before .before .before .before .before .before .before .before .before .before .before .pre .0) (c .before .before .before .before .before .before .before .before .before .before .before .before .bounds-at .ensures) (c .before .before .before .before .before .before .before .before .before .before .new .ensures)
+winner-of-requires c κs =
+    let c7 = c .before .before .before .before .before .before .before in
+    let c9 = c7 .before .before in
+    let c21 = c9 .before .before .before .before .before .before .before .before .before .before .before .before in
+    let a = c21 .args in
+    ready-few (a .g .index) (worldIn (length (a .room .now) / 2) (a .g) (a .inset-bounds .now) (a .parts .now) (a .shapes .now) (a .sheet .now)
+    (a .placed .now))
+    (a .sheet-entries .now) (a .sheet-starts .now) (a .placed-entries .now) (a .placed-starts .now) (a .slot) (c9 .bounds-at .result) (c7 .new .result)
+    (c21 .pre .0) (c9 .bounds-at .ensures) (c7 .new .ensures)
 
--- src/lib.rt:290:1
 same-length : tie.Need-same-length
 same-length c = search needs
 
--- src/lib.rt:290:1
 same-length-2 : tie.Need-same-length-2
 same-length-2 c = search needs
 
--- src/lib.rt:290:1
-same-length-3 : tie.Need-same-length-3
-same-length-3 c = search needs
-
--- src/lib.rt:290:1
 returns : tie.Need-returns
-returns c = let a = c .before .before .before .before .before .before .before .before .before .before .before .before .before .before .before .before .before .before .before .before .before .before .before .before .before .before .before .args in
-    orient-is (world (length (a .room .now) / 2) (a .bounds) (a .resolution) (a .inset-bounds .now) (a .parts .now) (a .apart .now) (a .inset .now) (a .sheet .now) (a .placed .now)) (a .slot) (a .o) (a .look-counts .now) (a .next-column .now) _ _ (c .before .before .before .before .before .before .before .before .before .before .before .before .before .bounds-at .result) (c .before .before .before .before .before .before .before .before .before .before .before .before .part-at .result) (c .before .before .before .before .before .before .before .before .before .before .before .new .result) (c .before .before .before .before .before .before .before .search-part .result) (c .winner-of .result) (c .before .before .before .before .before .before .before .before .before .before .before .before .before .bounds-at .ensures) (c .before .before .before .before .before .before .before .before .before .before .before .before .part-at .ensures) (c .before .before .before .before .before .before .before .before .before .before .before .new .ensures) (c .winner-of .ensures) (c .before .before .before .before .before .before .before .search-part .ensures)
+returns c =
+    let c5 = c .before .before .before .before .before in
+    let c8 = c5 .before .before .before in
+    let c9 = c8 .before in
+    let c10 = c9 .before in
+    let c22 = c10 .before .before .before .before .before .before .before .before .before .before .before .before in
+    let a = c22 .args in
+    orient-is (worldIn (length (a .room .now) / 2) (a .g) (a .inset-bounds .now) (a .parts .now) (a .shapes .now) (a .sheet .now) (a .placed .now)) (a .slot)
+    (a .o)
+    (lookCounts (a .tracks .now)) (nextColumns (a .tracks .now)) _ _ (c10 .bounds-at .result) (c9 .part-at .result) (c8 .new .result) (c5 .search-part .result)
+    (c .winner-of .result)
+    (c10 .bounds-at .ensures) (c9 .part-at .ensures) (c8 .new .ensures) (c .winner-of .ensures) (c5 .search-part .ensures)
 
 pub orientation-spec : {M : Type 1} → statement M
 orientation-spec =
@@ -67,5 +81,4 @@ orientation-spec =
     winner-of-requires
     same-length
     same-length-2
-    same-length-3
     returns)

@@ -6,31 +6,24 @@ use Rattle.choose.proofs.winner_of.Reads as reads
 use Rattle.choose.proofs.winner_of.Lts as lts
 use Rattle.columns.proofs.Columns.x.Reads as x-reads
 
--- src/lib.rt:224:19
 enum-known-found : tie.Need-enum-known-found
 enum-known-found c = search needs
 
--- src/lib.rt:225:17
 x-requires : tie.Need-x-requires
 x-requires c κs = search needs
 
--- src/lib.rt:228:27
 enum-told : tie.Need-enum-told
 enum-told c = search needs
 
--- src/lib.rt:229:25
 enum-told-2 : tie.Need-enum-told-2
 enum-told-2 c = search needs
 
--- src/lib.rt:219:1
 returns : tie.Need-returns
 returns c = rw (c .before .before .before .before .found .given .1, c .before .before .x .ensures)
 
--- src/lib.rt:219:1
 returns-2 : tie.Need-returns-2
 returns-2 c = search needs
 
--- src/lib.rt:219:1
 returns-3 : tie.Need-returns-3
 returns-3 c = search needs
 

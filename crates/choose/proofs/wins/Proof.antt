@@ -4,17 +4,14 @@ use Rattle.choose.proofs.wins.Tie as tie
 use Rattle.choose.proofs.wins.Reads as reads
 use Rattle.choose.proofs.wins.Lts as lts
 
--- src/lib.rt:238:9
 returns : tie.Need-returns
 unfolding winsOf
 returns c = rw (c .if1 .taken)
 
--- src/lib.rt:241:9
 returns-2 : tie.Need-returns-2
 unfolding winsOf
 returns-2 c = rw (c .before .before .before .before .before .if1 .left, c .before .before .if2 .taken)
 
--- src/lib.rt:234:1
 returns-3 : tie.Need-returns-3
 unfolding winsOf
 returns-3 c = rw (c .before .before .before .if1 .left, c .if2 .left)

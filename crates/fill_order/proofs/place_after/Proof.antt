@@ -7,23 +7,18 @@ use Rattle.fill_order.proofs.place_after.Tie as tie
 use Rattle.fill_order.proofs.place_after.Reads as reads
 use Rattle.fill_order.proofs.place_after.Lts as lts
 
--- src/lib.rt:65:30
 enum-told : tie.Need-enum-told
 enum-told c = search needs
 
--- src/lib.rt:65:30
 add-result : tie.Need-add-result
 add-result c = search needs
 
--- src/lib.rt:66:32
 enum-told-2 : tie.Need-enum-told-2
 enum-told-2 c = search needs
 
--- src/lib.rt:60:1
 returns : tie.Need-returns
 returns c = ap (λ (v : Verdict). placeAfter v (c .before .before .args .i) (c .before .before .args .n)) (sym (c .enum-told .given .1))
 
--- src/lib.rt:60:1
 returns-2 : tie.Need-returns-2
 returns-2 c = search needs
 

@@ -1,52 +1,35 @@
 -- `job::judge` meets its contract. Assumes nothing.
-use mathlib.Core.Path.{sym, ap, _∙_}
-use Rattle.job.specs.declared.JobRead.{JobRead}
-use Rattle.job.specs.Meaning.{jobRead, verdictOf}
-use borrow.Author.Needs.{needs}
+use mathlib.Core.Path.{sym, ap}
+use Rattle.job.specs.Meaning.{verdictOf}
+use Rattle.job.proofs.Whole.{read-as}
 use Rattle.job.proofs.judge.Statement.{statement}
 use Rattle.job.proofs.judge.Tie as tie
 
-slice-aggregate-read-job : tie.Need-slice-aggregate-read-job
-slice-aggregate-read-job c = search needs
+read-requires : tie.Need-read-requires
+read-requires c κs = tt
 
-slice-aggregate-read-job-2 : tie.Need-slice-aggregate-read-job-2
-slice-aggregate-read-job-2 c = search needs
+enum-known-answer : tie.Need-enum-known-answer
+enum-known-answer c = c .match .keys1
 
-slice-aggregate-read-job-3 : tie.Need-slice-aggregate-read-job-3
-slice-aggregate-read-job-3 c = search needs
-
-slice-aggregate-read-job-4 : tie.Need-slice-aggregate-read-job-4
-slice-aggregate-read-job-4 c = search needs
-
-slice-aggregate-read-job-5 : tie.Need-slice-aggregate-read-job-5
-slice-aggregate-read-job-5 c = search needs
-
-read-job-requires : tie.Need-read-job-requires
-read-job-requires c κs = search needs
-
-enum-known-h : tie.Need-enum-known-h
-enum-known-h c = search needs
-
-enum-known-k : tie.Need-enum-known-k
-enum-known-k c = search needs
+enum-known-answer-2 : tie.Need-enum-known-answer-2
+enum-known-answer-2 c = c .match .keys2
 
 returns : tie.Need-returns
-returns c = sym (ap verdictOf (c .before .before .before .before .before .before .before .before .read-job .ensures ∙ ap (λ (t : JobRead). jobRead t (c .before .before .before .before .before .before .before .before .before .before .before .before .before .before .before .args .bytes .now) (c .before .before .before .before .before .before .before .before .read-job .last .1 .0) (c .before .before .before .before .before .before .before .before .read-job .last .1 .1 .0) (c .before .before .before .before .before .before .before .before .read-job .last .1 .1 .1 .0)) (c .before .h .given .1)))
+returns c =
+    let c3 = c .before .before .before in
+    sym (ap verdictOf (read-as _ (c3 .read .result) (c3 .read .ensures .0) (c .before .answer .given .1)))
 
 returns-2 : tie.Need-returns-2
-returns-2 c = sym (ap verdictOf (c .before .before .before .before .before .before .before .before .read-job .ensures ∙ ap (λ (t : JobRead). jobRead t (c .before .before .before .before .before .before .before .before .before .before .before .before .before .before .before .args .bytes .now) (c .before .before .before .before .before .before .before .before .read-job .last .1 .0) (c .before .before .before .before .before .before .before .before .read-job .last .1 .1 .0) (c .before .before .before .before .before .before .before .before .read-job .last .1 .1 .1 .0)) (c .before .k .given .1)))
+returns-2 c =
+    let c3 = c .before .before .before in
+    sym (ap verdictOf (read-as _ (c3 .read .result) (c3 .read .ensures .0) (c .before .answer2 .given .1)))
 
 pub judge-spec : {M : Type 1} → statement M
 judge-spec =
     tie.close
     (tie.spec
-    slice-aggregate-read-job
-    slice-aggregate-read-job-2
-    slice-aggregate-read-job-3
-    slice-aggregate-read-job-4
-    slice-aggregate-read-job-5
-    read-job-requires
-    enum-known-h
-    enum-known-k
+    read-requires
+    enum-known-answer
+    enum-known-answer-2
     returns
     returns-2)

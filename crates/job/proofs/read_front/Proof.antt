@@ -24,7 +24,12 @@ enum-known-k : tie.Need-enum-known-k
 enum-known-k c = search needs
 
 returns : tie.Need-returns
-returns c = (front-1 (c .before .before .before .before .before .args .bytes .now) (c .before .before .before .before .before .args .at) (c .before .before .before .before .before .args .version) (c .before .before .before .read-count .ensures .0 ∙ ap (λ (t : Counted). counted t (c .before .before .before .before .before .args .at + 7)) (c .before .k .given .1)), tt)
+returns c =
+    let c5 = c .before .before .before .before .before in (
+      front-1 (c5 .args .bytes .now) (c5 .args .at) (c5 .args .version) (c .before .before .before .read-count .ensures .0 ∙ ap
+          (λ (t : Counted). counted t (c5 .args .at + 7)) (c .before .k .given .1)),
+      tt,
+    )
 
 add-at-rounds : tie.Need-add-at-rounds
 add-at-rounds c = search needs
@@ -39,7 +44,13 @@ enum-told : tie.Need-enum-told
 enum-told c = search needs
 
 returns-2 : tie.Need-returns-2
-returns-2 c = (front-2 (c .before .before .before .before .before .before .before .before .args .bytes .now) (c .before .before .before .before .before .before .before .before .args .at) (c .before .before .before .before .before .before .before .before .args .version) (c .before .before .before .before .before .before .read-count .ensures .0 ∙ ap (λ (t : Counted). counted t (c .before .before .before .before .before .before .before .before .args .at + 7)) (c .before .before .before .before .n .given .1)) (c .before .before .read-field .ensures ∙ ap (λ (t : Taken). taken t (c .before .before .before .before .before .before .before .before .args .at + 7 + 12)) (c .enum-told .given .1)), tt)
+returns-2 c =
+    let c8 = c .before .before .before .before .before .before .before .before in (
+      front-2 (c8 .args .bytes .now) (c8 .args .at) (c8 .args .version) (c .before .before .before .before .before .before .read-count .ensures .0 ∙ ap
+          (λ (t : Counted). counted t (c8 .args .at + 7)) (c .before .before .before .before .n .given .1))
+          (c .before .before .read-field .ensures ∙ ap (λ (t : Taken). taken t (c8 .args .at + 7 + 12)) (c .enum-told .given .1)),
+      tt,
+    )
 
 add-at-seed : tie.Need-add-at-seed
 add-at-seed c = search needs
@@ -54,7 +65,16 @@ enum-told-2 : tie.Need-enum-told-2
 enum-told-2 c = search needs
 
 returns-3 : tie.Need-returns-3
-returns-3 c = (front-3 (c .before .before .before .before .before .before .before .before .before .before .before .before .args .bytes .now) (c .before .before .before .before .before .before .before .before .before .before .before .before .args .at) (c .before .before .before .before .before .before .before .before .before .before .before .before .args .version) (c .before .before .before .before .before .before .before .before .before .before .read-count .ensures .0 ∙ ap (λ (t : Counted). counted t (c .before .before .before .before .before .before .before .before .before .before .before .before .args .at + 7)) (c .before .before .before .before .before .before .before .before .n .given .1)) (c .before .before .before .before .before .before .read-field .ensures ∙ ap (λ (t : Taken). taken t (c .before .before .before .before .before .before .before .before .before .before .before .before .args .at + 7 + 12)) (c .before .before .before .before .rounds .given .1)) (c .before .before .read-field2 .ensures ∙ ap (λ (t : Taken). taken t (c .before .before .before .before .before .before .before .before .before .before .before .before .args .at + 7 + 12 + 64)) (c .enum-told2 .given .1)), tt)
+returns-3 c =
+    let c8 = c .before .before .before .before .before .before .before .before in
+    let c10 = c8 .before .before in
+    let c12 = c10 .before .before in (
+      front-3 (c12 .args .bytes .now) (c12 .args .at) (c12 .args .version) (c10 .read-count .ensures .0 ∙ ap (λ (t : Counted). counted t (c12 .args .at + 7))
+          (c8 .n .given .1)) (c .before .before .before .before .before .before .read-field .ensures ∙ ap (λ (t : Taken). taken t (c12 .args .at + 7 + 12))
+          (c .before .before .before .before .rounds .given .1)) (c .before .before .read-field2 .ensures ∙ ap
+          (λ (t : Taken). taken t (c12 .args .at + 7 + 12 + 64)) (c .enum-told2 .given .1)),
+      tt,
+    )
 
 add-at-resolution : tie.Need-add-at-resolution
 add-at-resolution c = search needs
@@ -73,11 +93,36 @@ enum-known-k-2 c = search needs
 
 returns-4 : tie.Need-returns-4
 unfolding ofInt ofBits div
-returns-4 c = (front-in (c .before .before .before .before .before .before .before .before .before .before .before .before .before .before .before .before .before .args .bytes .now) (c .before .before .before .before .before .before .before .before .before .before .before .before .before .before .before .before .before .args .at) (c .before .before .before .before .before .before .before .before .before .before .before .before .before .before .before .before .before .args .version) (c .before .before .before .before .before .before .before .before .before .before .before .before .before .before .before .read-count .ensures .0 ∙ ap (λ (t : Counted). counted t (c .before .before .before .before .before .before .before .before .before .before .before .before .before .before .before .before .before .args .at + 7)) (c .before .before .before .before .before .before .before .before .before .before .before .before .before .n .given .1)) (c .before .before .before .before .before .before .before .before .before .before .before .read-field .ensures ∙ ap (λ (t : Taken). taken t (c .before .before .before .before .before .before .before .before .before .before .before .before .before .before .before .before .before .args .at + 7 + 12)) (c .before .before .before .before .before .before .before .before .before .rounds .given .1)) (c .before .before .before .before .before .before .before .read-field2 .ensures ∙ ap (λ (t : Taken). taken t (c .before .before .before .before .before .before .before .before .before .before .before .before .before .before .before .before .before .args .at + 7 + 12 + 64)) (c .before .before .before .before .before .seed .given .1)) (c .before .before .before .read-number .ensures ∙ ap (λ (t : Measured). measured t (c .before .before .before .before .before .before .before .before .before .before .before .before .before .before .before .before .before .args .at + 7 + 12 + 64 + 64)) (c .before .resolution .given .1)), (subst (λ (t : Counted). countOf t ≤ 64) (c .before .before .before .before .before .before .before .before .before .before .before .before .before .n .given .1) (c .before .before .before .before .before .before .before .before .before .before .before .before .before .before .before .read-count .ensures .1), omega arith))
+returns-4 c =
+    let c7 = c .before .before .before .before .before .before .before in
+    let c9 = c7 .before .before in
+    let c11 = c9 .before .before in
+    let c13 = c11 .before .before in
+    let c15 = c13 .before .before in
+    let c17 = c15 .before .before in (
+      front-in (c17 .args .bytes .now) (c17 .args .at) (c17 .args .version) (c15 .read-count .ensures .0 ∙ ap (λ (t : Counted). counted t (c17 .args .at + 7))
+          (c13 .n .given .1)) (c11 .read-field .ensures ∙ ap (λ (t : Taken). taken t (c17 .args .at + 7 + 12)) (c9 .rounds .given .1))
+          (c7 .read-field2 .ensures ∙ ap (λ (t : Taken). taken t (c17 .args .at + 7 + 12 + 64)) (c .before .before .before .before .before .seed .given .1))
+          (c .before .before .before .read-number .ensures ∙ ap (λ (t : Measured). measured t (c17 .args .at + 7 + 12 + 64 + 64))
+          (c .before .resolution .given .1)),
+      (subst (λ (t : Counted). countOf t ≤ 64) (c13 .n .given .1) (c15 .read-count .ensures .1), omega arith),
+    )
 
 returns-5 : tie.Need-returns-5
 unfolding ofInt ofBits div
-returns-5 c = (front-4 (c .before .before .before .before .before .before .before .before .before .before .before .before .before .before .before .before .before .args .bytes .now) (c .before .before .before .before .before .before .before .before .before .before .before .before .before .before .before .before .before .args .at) (c .before .before .before .before .before .before .before .before .before .before .before .before .before .before .before .before .before .args .version) (c .before .before .before .before .before .before .before .before .before .before .before .before .before .before .before .read-count .ensures .0 ∙ ap (λ (t : Counted). counted t (c .before .before .before .before .before .before .before .before .before .before .before .before .before .before .before .before .before .args .at + 7)) (c .before .before .before .before .before .before .before .before .before .before .before .before .before .n .given .1)) (c .before .before .before .before .before .before .before .before .before .before .before .read-field .ensures ∙ ap (λ (t : Taken). taken t (c .before .before .before .before .before .before .before .before .before .before .before .before .before .before .before .before .before .args .at + 7 + 12)) (c .before .before .before .before .before .before .before .before .before .rounds .given .1)) (c .before .before .before .before .before .before .before .read-field2 .ensures ∙ ap (λ (t : Taken). taken t (c .before .before .before .before .before .before .before .before .before .before .before .before .before .before .before .before .before .args .at + 7 + 12 + 64)) (c .before .before .before .before .before .seed .given .1)) (c .before .before .before .read-number .ensures ∙ ap (λ (t : Measured). measured t (c .before .before .before .before .before .before .before .before .before .before .before .before .before .before .before .before .before .args .at + 7 + 12 + 64 + 64)) (c .before .k2 .given .1)), tt)
+returns-5 c =
+    let c7 = c .before .before .before .before .before .before .before in
+    let c9 = c7 .before .before in
+    let c11 = c9 .before .before in
+    let c13 = c11 .before .before in
+    let c15 = c13 .before .before in
+    let c17 = c15 .before .before in (
+      front-4 (c17 .args .bytes .now) (c17 .args .at) (c17 .args .version) (c15 .read-count .ensures .0 ∙ ap (λ (t : Counted). counted t (c17 .args .at + 7))
+          (c13 .n .given .1)) (c11 .read-field .ensures ∙ ap (λ (t : Taken). taken t (c17 .args .at + 7 + 12)) (c9 .rounds .given .1))
+          (c7 .read-field2 .ensures ∙ ap (λ (t : Taken). taken t (c17 .args .at + 7 + 12 + 64)) (c .before .before .before .before .before .seed .given .1))
+          (c .before .before .before .read-number .ensures ∙ ap (λ (t : Measured). measured t (c17 .args .at + 7 + 12 + 64 + 64)) (c .before .k2 .given .1)),
+      tt,
+    )
 
 pub read-front-spec : {M : Type 1} → statement M
 read-front-spec =

@@ -33,21 +33,48 @@ enum-known-m : tie.Need-enum-known-m
 enum-known-m c = search needs
 
 width-of-requires : tie.Need-width-of-requires
-width-of-requires c κs = let d = subst (λ (t : SetRead). setFits t (c .before .before .before .before .before .before .before .before .before .before .before .before .h .given .0 .1 .0 + 66183)) (c .before .before .m .given .1) (c .before .before .before .before .before .before .before .before .read-set .ensures .1) in
-    (omega (arith, c .before .before .before .before .before .before .before .before .read-set .kept .1 .1 .0, c .before .before .before .before .before .before .before .before .before .before .before .before .before .before .before .before .before .before .before .before .before .pre .3), d .1)
+width-of-requires c κs =
+    let c8 = c .before .before .before .before .before .before .before .before in
+    let c12 = c8 .before .before .before .before in
+    let c21 = c12 .before .before .before .before .before .before .before .before .before in
+    let d = subst (λ (t : SetRead). setFits t (c12 .h .given .0 .1 .0 + 66183)) (c .before .before .m .given .1) (c8 .read-set .ensures .1) in
+    (omega (arith, c8 .read-set .kept .1 .1 .0, c21 .pre .3), d .1)
 
 read-kinds-requires : tie.Need-read-kinds-requires
-read-kinds-requires c κs = let b = subst (λ (t : HeaderRead). headerFits t) (c .before .before .before .before .before .before .before .before .before .before .before .before .before .before .before .before .before .before .h .given .1) (c .before .before .before .before .before .before .before .before .before .before .before .before .before .before .before .before .before .before .before .before .read-header .ensures .1) in
-    let d = subst (λ (t : SetRead). setFits t (c .before .before .before .before .before .before .before .before .before .before .before .before .before .before .before .before .before .before .h .given .0 .1 .0 + 66183)) (c .before .before .before .before .before .before .before .before .m .given .1) (c .before .before .before .before .before .before .before .before .before .before .before .before .before .before .read-set .ensures .1) in
-    (omega (arith, b .1, d .2), b .0, c .before .before .before .before .before .before .before .before .before .before .before .before .before .before .before .before .before .before .before .before .before .before .before .before .before .before .before .pre .0, c .before .before .before .before .before .before .before .before .before .before .before .before .before .before .before .before .before .before .before .before .before .before .before .before .before .before .before .pre .1, c .before .before .before .before .before .before .before .before .before .before .before .before .before .before .before .before .before .before .before .before .before .before .before .before .before .before .before .pre .2, omega (arith, c .before .before .before .before .before .before .before .before .before .before .before .before .before .before .read-set .kept .1 .1 .0, c .before .before .before .before .before .before .before .before .before .before .before .before .before .before .before .before .before .before .before .before .before .before .before .before .before .before .before .pre .3), omega (arith, c .before .before .before .before .before .before .before .before .before .before .before .before .before .before .read-set .kept .1 .1 .1 .0, c .before .before .before .before .before .before .before .before .before .before .before .before .before .before .before .before .before .before .before .before .before .before .before .before .before .before .before .pre .4))
+read-kinds-requires c κs =
+    let c8 = c .before .before .before .before .before .before .before .before in
+    let c14 = c8 .before .before .before .before .before .before in
+    let c18 = c14 .before .before .before .before in
+    let c20 = c18 .before .before in
+    let c27 = c20 .before .before .before .before .before .before .before in
+    let b = subst (λ (t : HeaderRead). headerFits t) (c18 .h .given .1) (c20 .read-header .ensures .1) in
+    let d = subst (λ (t : SetRead). setFits t (c18 .h .given .0 .1 .0 + 66183)) (c8 .m .given .1) (c14 .read-set .ensures .1) in (
+      omega (arith, b .1, d .2),
+      b .0,
+      c27 .pre .0,
+      c27 .pre .1,
+      c27 .pre .2,
+      omega (arith, c14 .read-set .kept .1 .1 .0, c27 .pre .3),
+      omega
+          (arith, c14 .read-set .kept .1 .1 .1 .0, c27 .pre .4),
+    )
 
 enum-known-c : tie.Need-enum-known-c
 enum-known-c c = search needs
 
 judge-end-requires : tie.Need-judge-end-requires
-judge-end-requires c κs = let b = subst (λ (t : HeaderRead). headerFits t) (c .before .before .before .before .before .before .before .before .before .before .before .before .before .before .before .before .before .before .before .before .before .before .before .before .before .before .before .before .before .before .before .before .h .given .1) (c .before .before .before .before .before .before .before .before .before .before .before .before .before .before .before .before .before .before .before .before .before .before .before .before .before .before .before .before .before .before .before .before .before .before .read-header .ensures .1) in
-    let d = subst (λ (t : SetRead). setFits t (c .before .before .before .before .before .before .before .before .before .before .before .before .before .before .before .before .before .before .before .before .before .before .before .before .before .before .before .before .before .before .before .before .h .given .0 .1 .0 + 66183)) (c .before .before .before .before .before .before .before .before .before .before .before .before .before .before .before .before .before .before .before .before .before .before .m .given .1) (c .before .before .before .before .before .before .before .before .before .before .before .before .before .before .before .before .before .before .before .before .before .before .before .before .before .before .before .before .read-set .ensures .1) in
-    let k = subst (λ (t : KindsRead). kindsFit t (c .before .before .before .before .before .before .before .before .before .before .before .before .before .before .before .before .before .before .before .before .before .before .m .given .0 .1 .1 .0 + 2117970 * c .before .before .before .before .before .before .before .before .before .before .before .before .before .before .before .before .before .before .before .before .before .before .before .before .before .before .before .before .before .before .before .before .h .given .0 .0 .kinds) (c .before .before .before .before .before .before .before .before .before .before .before .before .before .before .before .before .before .before .before .before .before .before .before .before .before .before .before .before .before .before .before .before .before .before .before .before .before .before .before .before .before .args .bytes .now) (c .before .before .before .before .before .before .before .before .before .before .before .before .before .before .before .before .before .before .before .before .before .before .before .before .before .before .before .before .before .before .before .before .h .given .0 .0 .kinds) (c .before .before .before .before .before .before .before .before .before .before .before .before .before .read-kinds .last .1 .1 .1 .0) (c .before .before .before .before .before .before .before .before .before .before .before .before .before .read-kinds .last .1 .1 .1 .1 .0) (c .before .before .before .before .before .before .before .before .before .before .before .before .before .read-kinds .last .1 .1 .1 .1 .1 .0)) (c .before .c .given .1) (c .before .before .before .before .before .before .before .before .before .before .before .before .before .read-kinds .ensures .1) in
+judge-end-requires c κs =
+    let c13 = c .before .before .before .before .before .before .before .before .before .before .before .before .before in
+    let c22 = c13 .before .before .before .before .before .before .before .before .before in
+    let c28 = c22 .before .before .before .before .before .before in
+    let c32 = c28 .before .before .before .before in
+    let c34 = c32 .before .before in
+    let c41 = c34 .before .before .before .before .before .before .before in
+    let b = subst (λ (t : HeaderRead). headerFits t) (c32 .h .given .1) (c34 .read-header .ensures .1) in
+    let d = subst (λ (t : SetRead). setFits t (c32 .h .given .0 .1 .0 + 66183)) (c22 .m .given .1) (c28 .read-set .ensures .1) in
+    let k = subst (λ (t : KindsRead). kindsFit t (c22 .m .given .0 .1 .1 .0 + 2117970 * c32 .h .given .0 .0 .kinds) (c41 .args .bytes .now)
+    (c32 .h .given .0 .0 .kinds) (c13 .read-kinds .last .1 .1 .1 .0) (c13 .read-kinds .last .1 .1 .1 .1 .0) (c13 .read-kinds .last .1 .1 .1 .1 .1 .0))
+    (c .before .c .given .1) (c13 .read-kinds .ensures .1) in
     omega (arith, b .0, b .1, d .2, k .1)
 
 answer-requires : tie.Need-answer-requires
@@ -72,16 +99,41 @@ same-length-3 : tie.Need-same-length-3
 same-length-3 c = search needs
 
 same-length-4 : tie.Need-same-length-4
-same-length-4 c = c .before .before .before .before .before .before .before .before .before .before .before .before .before .before .before .read-kinds .kept .1 .1 .1 .1 .1 .1 .0 ∙ c .before .before .before .before .before .before .before .before .before .before .before .before .before .before .before .before .before .before .before .before .before .before .before .before .before .before .before .before .before .before .read-set .kept .1 .1 .0
+same-length-4 c =
+    let c15 = c .before .before .before .before .before .before .before .before .before .before .before .before .before .before .before in
+    let c30 = c15 .before .before .before .before .before .before .before .before .before .before .before .before .before .before .before in
+    c15 .read-kinds .kept .1 .1 .1 .1 .1 .1 .0 ∙ c30 .read-set .kept .1 .1 .0
 
 same-length-5 : tie.Need-same-length-5
-same-length-5 c = c .before .before .before .before .before .before .before .before .before .before .before .before .before .before .before .read-kinds .kept .1 .1 .1 .1 .1 .1 .1 .0 ∙ c .before .before .before .before .before .before .before .before .before .before .before .before .before .before .before .before .before .before .before .before .before .before .before .before .before .before .before .before .before .before .read-set .kept .1 .1 .1 .0
+same-length-5 c =
+    let c15 = c .before .before .before .before .before .before .before .before .before .before .before .before .before .before .before in
+    let c30 = c15 .before .before .before .before .before .before .before .before .before .before .before .before .before .before .before in
+    c15 .read-kinds .kept .1 .1 .1 .1 .1 .1 .1 .0 ∙ c30 .read-set .kept .1 .1 .1 .0
 
 returns : tie.Need-returns
-returns c = let d = subst (λ (t : SetRead). setFits t (c .before .before .before .before .before .before .before .before .before .before .before .before .before .before .before .before .before .before .before .before .before .before .before .before .before .before .before .before .before .before .before .before .before .before .h .given .0 .1 .0 + 66183)) (c .before .before .before .before .before .before .before .before .before .before .before .before .before .before .before .before .before .before .before .before .before .before .before .before .m .given .1) (c .before .before .before .before .before .before .before .before .before .before .before .before .before .before .before .before .before .before .before .before .before .before .before .before .before .before .before .before .before .before .read-set .ensures .1) in
-    let k = subst (λ (t : KindsRead). kindsFit t (c .before .before .before .before .before .before .before .before .before .before .before .before .before .before .before .before .before .before .before .before .before .before .before .before .m .given .0 .1 .1 .0 + 2117970 * c .before .before .before .before .before .before .before .before .before .before .before .before .before .before .before .before .before .before .before .before .before .before .before .before .before .before .before .before .before .before .before .before .before .before .h .given .0 .0 .kinds) (c .before .before .before .before .before .before .before .before .before .before .before .before .before .before .before .before .before .before .before .before .before .before .before .before .before .before .before .before .before .before .before .before .before .before .before .before .before .before .before .before .before .before .before .args .bytes .now) (c .before .before .before .before .before .before .before .before .before .before .before .before .before .before .before .before .before .before .before .before .before .before .before .before .before .before .before .before .before .before .before .before .before .before .h .given .0 .0 .kinds) (c .before .before .before .before .before .before .before .before .before .before .before .before .before .before .before .read-kinds .last .1 .1 .1 .0) (c .before .before .before .before .before .before .before .before .before .before .before .before .before .before .before .read-kinds .last .1 .1 .1 .1 .0) (c .before .before .before .before .before .before .before .before .before .before .before .before .before .before .before .read-kinds .last .1 .1 .1 .1 .1 .0)) (c .before .before .before .c .given .1) (c .before .before .before .before .before .before .before .before .before .before .before .before .before .before .before .read-kinds .ensures .1) in
-    job-answer (c .before .before .before .before .before .before .before .before .before .before .before .before .before .before .before .before .before .before .before .before .before .before .before .before .before .before .before .before .before .before .before .before .before .before .before .before .before .before .before .before .before .before .before .args .bytes .now) (c .before .before .before .before .before .before .before .before .before .before .before .before .before .before .before .read-kinds .last .1 .1 .1 .0) (c .before .before .before .before .before .before .before .before .before .before .before .before .before .before .before .read-kinds .last .1 .1 .1 .1 .0) (c .before .before .before .before .before .before .before .before .before .before .before .before .before .before .before .read-kinds .last .1 .1 .1 .1 .1 .0) (c .before .before .before .before .before .before .before .before .before .before .before .before .before .before .before .before .before .before .before .before .before .before .before .before .before .before .before .before .before .before .before .before .before .before .h .given .0 .0) (c .before .before .before .before .before .before .before .before .before .before .before .before .before .before .before .before .before .before .before .before .before .before .before .before .before .before .before .before .before .before .before .before .before .before .h .given .0 .1 .0) (c .before .before .before .c .given .0 .0) (c .before .before .before .c .given .0 .1 .0) (c .before .before .before .before .before .before .before .before .before .before .before .before .before .before .before .before .before .before .before .before .before .width-of .result) (job-in (c .before .before .before .before .before .before .before .before .before .before .before .before .before .before .before .before .before .before .before .before .before .before .before .before .before .before .before .before .before .before .before .before .before .before .before .before .before .before .before .before .before .before .before .args .bytes .now) (c .before .before .before .before .before .before .before .before .before .before .before .before .before .before .before .before .before .before .before .before .before .before .before .before .before .before .before .before .before .before .before .before .before .before .before .before .read-header .ensures .0 ∙ ap headerRead (c .before .before .before .before .before .before .before .before .before .before .before .before .before .before .before .before .before .before .before .before .before .before .before .before .before .before .before .before .before .before .before .before .before .before .h .given .1)) (c .before .before .before .before .before .before .before .before .before .before .before .before .before .before .before .before .before .before .before .before .before .before .before .before .before .before .before .before .before .before .read-set .ensures .0 ∙ ap (λ (t : SetRead). setRead t (c .before .before .before .before .before .before .before .before .before .before .before .before .before .before .before .before .before .before .before .before .before .before .before .before .before .before .before .before .before .before .read-set .last .1 .1 .0) (c .before .before .before .before .before .before .before .before .before .before .before .before .before .before .before .before .before .before .before .before .before .before .before .before .before .before .before .before .before .before .read-set .last .1 .1 .1 .0)) (c .before .before .before .before .before .before .before .before .before .before .before .before .before .before .before .before .before .before .before .before .before .before .before .before .m .given .1)) (c .before .before .before .before .before .before .before .before .before .before .before .before .before .before .before .read-kinds .ensures .0 ∙ ap (λ (t : KindsRead). kindsRead t (c .before .before .before .before .before .before .before .before .before .before .before .before .before .before .before .before .before .before .before .before .before .before .before .before .before .before .before .before .before .before .before .before .before .before .before .before .before .before .before .before .before .before .before .args .bytes .now) (c .before .before .before .before .before .before .before .before .before .before .before .before .before .before .before .before .before .before .before .before .before .before .before .before .before .before .before .before .before .before .before .before .before .before .h .given .0 .0 .kinds) (c .before .before .before .before .before .before .before .before .before .before .before .before .before .before .before .read-kinds .last .1 .1 .1 .0) (c .before .before .before .before .before .before .before .before .before .before .before .before .before .before .before .read-kinds .last .1 .1 .1 .1 .0) (c .before .before .before .before .before .before .before .before .before .before .before .before .before .before .before .read-kinds .last .1 .1 .1 .1 .1 .0)) (c .before .before .before .c .given .1))) (found-is (c .before .before .before .before .before .before .before .before .before .before .before .before .before .before .before .before .before .before .before .before .before .before .before .before .before .before .before .before .before .before .before .before .before .before .before .before .before .before .before .before .before .before .before .args .bytes .now) (c .before .before .before .before .before .before .before .before .before .before .before .before .before .before .before .before .before .before .before .before .before .before .before .before .before .before .before .before .before .before .before .before .before .before .h .given .0 .1 .0) (c .before .before .before .before .before .before .before .before .before .before .before .before .before .before .before .before .before .before .before .before .before .before .before .before .before .before .before .before .before .before .read-set .ensures .0 ∙ ap (λ (t : SetRead). setRead t (c .before .before .before .before .before .before .before .before .before .before .before .before .before .before .before .before .before .before .before .before .before .before .before .before .before .before .before .before .before .before .read-set .last .1 .1 .0) (c .before .before .before .before .before .before .before .before .before .before .before .before .before .before .before .before .before .before .before .before .before .before .before .before .before .before .before .before .before .before .read-set .last .1 .1 .1 .0)) (c .before .before .before .before .before .before .before .before .before .before .before .before .before .before .before .before .before .before .before .before .before .before .before .before .m .given .1))) (k .0)
-    (c .before .before .before .before .before .before .before .before .before .before .before .before .before .before .before .before .before .before .before .before .before .width-of .ensures ∙ width-is (c .before .before .before .before .before .before .before .before .before .before .before .before .before .before .before .before .before .before .before .before .before .before .before .before .before .before .before .before .before .before .read-set .last .1 .1 .0) (take (c .before .before .before .before .before .before .before .before .before .before .before .before .before .before .before .before .before .before .before .before .before .before .before .before .m .given .0 .0) (c .before .before .before .before .before .before .before .before .before .before .before .before .before .before .before .before .before .before .before .before .before .before .before .before .before .before .before .before .before .before .read-set .last .1 .1 .1 .0)) (c .before .before .before .before .before .before .before .before .before .before .before .before .before .before .before .before .before .before .before .before .before .before .before .before .m .given .0 .1 .0) (omega (arith, d .1, c .before .before .before .before .before .before .before .before .before .before .before .before .before .before .before .before .before .before .before .before .before .before .before .before .before .before .before .before .before .before .read-set .kept .1 .1 .0, c .before .before .before .before .before .before .before .before .before .before .before .before .before .before .before .before .before .before .before .before .before .before .before .before .before .before .before .before .before .before .before .before .before .before .before .before .before .before .before .before .before .before .before .pre .3)))
+returns c =
+    let c3 = c .before .before .before in
+    let c15 = c3 .before .before .before .before .before .before .before .before .before .before .before .before in
+    let c21 = c15 .before .before .before .before .before .before in
+    let c24 = c21 .before .before .before in
+    let c30 = c24 .before .before .before .before .before .before in
+    let c34 = c30 .before .before .before .before in
+    let c36 = c34 .before .before in
+    let c43 = c36 .before .before .before .before .before .before .before in
+    let d = subst (λ (t : SetRead). setFits t (c34 .h .given .0 .1 .0 + 66183)) (c24 .m .given .1) (c30 .read-set .ensures .1) in
+    let k = subst (λ (t : KindsRead). kindsFit t (c24 .m .given .0 .1 .1 .0 + 2117970 * c34 .h .given .0 .0 .kinds) (c43 .args .bytes .now)
+    (c34 .h .given .0 .0 .kinds) (c15 .read-kinds .last .1 .1 .1 .0) (c15 .read-kinds .last .1 .1 .1 .1 .0) (c15 .read-kinds .last .1 .1 .1 .1 .1 .0))
+    (c3 .c .given .1) (c15 .read-kinds .ensures .1) in
+    job-answer (c43 .args .bytes .now) (c15 .read-kinds .last .1 .1 .1 .0) (c15 .read-kinds .last .1 .1 .1 .1 .0) (c15 .read-kinds .last .1 .1 .1 .1 .1 .0)
+    (c34 .h .given .0 .0) (c34 .h .given .0 .1 .0) (c3 .c .given .0 .0) (c3 .c .given .0 .1 .0) (c21 .width-of .result)
+    (job-in (c43 .args .bytes .now) (c36 .read-header .ensures .0 ∙ ap headerRead (c34 .h .given .1))
+    (c30 .read-set .ensures .0 ∙ ap (λ (t : SetRead). setRead t (c30 .read-set .last .1 .1 .0) (c30 .read-set .last .1 .1 .1 .0)) (c24 .m .given .1))
+    (c15 .read-kinds .ensures .0 ∙ ap (λ (t : KindsRead). kindsRead t (c43 .args .bytes .now) (c34 .h .given .0 .0 .kinds)
+    (c15 .read-kinds .last .1 .1 .1 .0) (c15 .read-kinds .last .1 .1 .1 .1 .0) (c15 .read-kinds .last .1 .1 .1 .1 .1 .0)) (c3 .c .given .1)))
+    (found-is (c43 .args .bytes .now) (c34 .h .given .0 .1 .0) (c30 .read-set .ensures .0 ∙ ap
+    (λ (t : SetRead). setRead t (c30 .read-set .last .1 .1 .0) (c30 .read-set .last .1 .1 .1 .0)) (c24 .m .given .1))) (k .0)
+    (c21 .width-of .ensures ∙ width-is (c30 .read-set .last .1 .1 .0) (take (c24 .m .given .0 .0) (c30 .read-set .last .1 .1 .1 .0)) (c24 .m .given .0 .1 .0)
+    (omega (arith, d .1, c30 .read-set .kept .1 .1 .0, c43 .pre .3)))
     (c .before .judge-end .ensures) (c .answer .ensures)
 
 same-length-6 : tie.Need-same-length-6
@@ -94,13 +146,29 @@ same-length-8 : tie.Need-same-length-8
 same-length-8 c = search needs
 
 same-length-9 : tie.Need-same-length-9
-same-length-9 c = c .before .before .before .before .before .before .before .before .before .before .before .before .before .read-kinds .kept .1 .1 .1 .1 .1 .1 .0 ∙ c .before .before .before .before .before .before .before .before .before .before .before .before .before .before .before .before .before .before .before .before .before .before .before .before .before .before .before .before .read-set .kept .1 .1 .0
+same-length-9 c =
+    let c13 = c .before .before .before .before .before .before .before .before .before .before .before .before .before in
+    let c28 = c13 .before .before .before .before .before .before .before .before .before .before .before .before .before .before .before in
+    c13 .read-kinds .kept .1 .1 .1 .1 .1 .1 .0 ∙ c28 .read-set .kept .1 .1 .0
 
 same-length-10 : tie.Need-same-length-10
-same-length-10 c = c .before .before .before .before .before .before .before .before .before .before .before .before .before .read-kinds .kept .1 .1 .1 .1 .1 .1 .1 .0 ∙ c .before .before .before .before .before .before .before .before .before .before .before .before .before .before .before .before .before .before .before .before .before .before .before .before .before .before .before .before .read-set .kept .1 .1 .1 .0
+same-length-10 c =
+    let c13 = c .before .before .before .before .before .before .before .before .before .before .before .before .before in
+    let c28 = c13 .before .before .before .before .before .before .before .before .before .before .before .before .before .before .before in
+    c13 .read-kinds .kept .1 .1 .1 .1 .1 .1 .1 .0 ∙ c28 .read-set .kept .1 .1 .1 .0
 
 returns-2 : tie.Need-returns-2
-returns-2 c = job-kinds (c .before .before .before .before .before .before .before .before .before .before .before .before .before .before .before .before .before .before .before .before .before .before .before .before .before .before .before .before .before .before .before .before .before .before .before .before .before .before .before .before .before .args .bytes .now) (c .before .before .before .before .before .before .before .before .before .before .before .before .before .before .before .before .before .before .before .before .before .before .before .before .before .before .before .before .before .before .before .before .before .before .read-header .ensures .0 ∙ ap headerRead (c .before .before .before .before .before .before .before .before .before .before .before .before .before .before .before .before .before .before .before .before .before .before .before .before .before .before .before .before .before .before .before .before .h .given .1)) (c .before .before .before .before .before .before .before .before .before .before .before .before .before .before .before .before .before .before .before .before .before .before .before .before .before .before .before .before .read-set .ensures .0 ∙ ap (λ (t : SetRead). setRead t (c .before .before .before .before .before .before .before .before .before .before .before .before .before .before .before .before .before .before .before .before .before .before .before .before .before .before .before .before .read-set .last .1 .1 .0) (c .before .before .before .before .before .before .before .before .before .before .before .before .before .before .before .before .before .before .before .before .before .before .before .before .before .before .before .before .read-set .last .1 .1 .1 .0)) (c .before .before .before .before .before .before .before .before .before .before .before .before .before .before .before .before .before .before .before .before .before .before .m .given .1)) (c .before .before .before .before .before .before .before .before .before .before .before .before .before .read-kinds .ensures .0 ∙ ap (λ (t : KindsRead). kindsRead t (c .before .before .before .before .before .before .before .before .before .before .before .before .before .before .before .before .before .before .before .before .before .before .before .before .before .before .before .before .before .before .before .before .before .before .before .before .before .before .before .before .before .args .bytes .now) (c .before .before .before .before .before .before .before .before .before .before .before .before .before .before .before .before .before .before .before .before .before .before .before .before .before .before .before .before .before .before .before .before .h .given .0 .0 .kinds) (c .before .before .before .before .before .before .before .before .before .before .before .before .before .read-kinds .last .1 .1 .1 .0) (c .before .before .before .before .before .before .before .before .before .before .before .before .before .read-kinds .last .1 .1 .1 .1 .0) (c .before .before .before .before .before .before .before .before .before .before .before .before .before .read-kinds .last .1 .1 .1 .1 .1 .0)) (c .before .k .given .1))
+returns-2 c =
+    let c13 = c .before .before .before .before .before .before .before .before .before .before .before .before .before in
+    let c22 = c13 .before .before .before .before .before .before .before .before .before in
+    let c28 = c22 .before .before .before .before .before .before in
+    let c32 = c28 .before .before .before .before in
+    let c34 = c32 .before .before in
+    let c41 = c34 .before .before .before .before .before .before .before in
+    job-kinds (c41 .args .bytes .now) (c34 .read-header .ensures .0 ∙ ap headerRead (c32 .h .given .1))
+    (c28 .read-set .ensures .0 ∙ ap (λ (t : SetRead). setRead t (c28 .read-set .last .1 .1 .0) (c28 .read-set .last .1 .1 .1 .0)) (c22 .m .given .1))
+    (c13 .read-kinds .ensures .0 ∙ ap (λ (t : KindsRead). kindsRead t (c41 .args .bytes .now) (c32 .h .given .0 .0 .kinds)
+    (c13 .read-kinds .last .1 .1 .1 .0) (c13 .read-kinds .last .1 .1 .1 .1 .0) (c13 .read-kinds .last .1 .1 .1 .1 .1 .0)) (c .before .k .given .1))
 
 same-length-11 : tie.Need-same-length-11
 same-length-11 c = search needs
@@ -109,10 +177,18 @@ same-length-12 : tie.Need-same-length-12
 same-length-12 c = search needs
 
 returns-3 : tie.Need-returns-3
-returns-3 c = job-sheet (c .before .before .before .before .before .before .before .before .before .before .before .before .before .before .before .before .before .before .before .before .args .bytes .now) (c .before .before .before .before .before .before .before .before .before .before .before .before .before .read-header .ensures .0 ∙ ap headerRead (c .before .before .before .before .before .before .before .before .before .before .before .h .given .1)) (c .before .before .before .before .before .before .before .read-set .ensures .0 ∙ ap (λ (t : SetRead). setRead t (c .before .before .before .before .before .before .before .read-set .last .1 .1 .0) (c .before .before .before .before .before .before .before .read-set .last .1 .1 .1 .0)) (c .before .k2 .given .1))
+returns-3 c =
+    let c7 = c .before .before .before .before .before .before .before in
+    let c11 = c7 .before .before .before .before in
+    let c13 = c11 .before .before in
+    let c20 = c13 .before .before .before .before .before .before .before in
+    job-sheet (c20 .args .bytes .now) (c13 .read-header .ensures .0 ∙ ap headerRead (c11 .h .given .1))
+    (c7 .read-set .ensures .0 ∙ ap (λ (t : SetRead). setRead t (c7 .read-set .last .1 .1 .0) (c7 .read-set .last .1 .1 .1 .0)) (c .before .k2 .given .1))
 
 returns-4 : tie.Need-returns-4
-returns-4 c = job-header (c .before .before .before .before .before .before .before .before .before .before .args .bytes .now) (c .before .before .before .read-header .ensures .0 ∙ ap headerRead (c .before .k3 .given .1))
+returns-4 c =
+    let c10 = c .before .before .before .before .before .before .before .before .before .before in
+    job-header (c10 .args .bytes .now) (c .before .before .before .read-header .ensures .0 ∙ ap headerRead (c .before .k3 .given .1))
 
 pub read-job-spec : {M : Type 1} → statement M
 read-job-spec =

@@ -14,31 +14,28 @@ use Rattle.next.proofs.number_of.Lts as lts
 below : (o n : ℕ) → o < n → n ≤ 1024 → o + 1 < 18446744073709551616
 below o n h k = omega arith
 
--- src/lib.rt:23:21
 enum-known-o : tie.Need-enum-known-o
 enum-known-o c = search needs
 
--- src/lib.rt:23:27
 add-result : tie.Need-add-result
-add-result c = record { fits = below _ (c .before .before .before .before .args .n) (subst (Under (c .before .before .before .before .args .n)) (c .before .before .o .given .1) (c .before .before .before .before .pre .0)) (c .before .before .before .before .pre .1) }
+add-result c = record {
+  fits = below _ (c .before .before .before .before .args .n)
+      (subst (Under (c .before .before .before .before .args .n)) (c .before .before .o .given .1) (c .before .before .before .before .pre .0))
+      (c .before .before .before .before .pre .1);
+}
 
--- src/lib.rt:24:29
 enum-told : tie.Need-enum-told
 enum-told c = search needs
 
--- src/lib.rt:25:32
 enum-told-2 : tie.Need-enum-told-2
 enum-told-2 c = search needs
 
--- src/lib.rt:18:1
 returns : tie.Need-returns
 returns c = sym (ap numberOf (c .before .before .o .given .1))
 
--- src/lib.rt:18:1
 returns-2 : tie.Need-returns-2
 returns-2 c = search needs
 
--- src/lib.rt:18:1
 returns-3 : tie.Need-returns-3
 returns-3 c = search needs
 

@@ -10,28 +10,22 @@ use Rattle.next.proofs.x_of.Tie as tie
 use Rattle.next.proofs.x_of.Reads as reads
 use Rattle.next.proofs.x_of.Lts as lts
 
--- src/lib.rt:33:21
 enum-known-o : tie.Need-enum-known-o
 enum-known-o c = search needs
 
--- src/lib.rt:34:29
 enum-told : tie.Need-enum-told
 enum-told c = search needs
 
--- src/lib.rt:35:32
 enum-told-2 : tie.Need-enum-told-2
 enum-told-2 c = search needs
 
--- src/lib.rt:29:1
 returns : tie.Need-returns
 returns c = search needs
 
--- src/lib.rt:29:1
 returns-2 : tie.Need-returns-2
 unfolding lib.Ieee.ofBits
 returns-2 c = sym (ap xOf (c .enum-told .given .1))
 
--- src/lib.rt:29:1
 returns-3 : tie.Need-returns-3
 unfolding lib.Ieee.ofBits
 returns-3 c = sym (ap xOf (c .enum-told2 .given .1))

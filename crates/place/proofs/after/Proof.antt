@@ -8,35 +8,28 @@ use Rattle.place.proofs.after.Reads as reads
 use Rattle.place.proofs.after.Lts as lts
 use Rattle.numbers.proofs.larger.Reads as larger-reads
 
--- src/lib.rt:346:45
 enum-told : tie.Need-enum-told
 enum-told c = search needs
 
--- src/lib.rt:347:46
 enum-told-2 : tie.Need-enum-told-2
 enum-told-2 c = search needs
 
--- src/lib.rt:349:17
 enum-told-3 : tie.Need-enum-told-3
 enum-told-3 c = search needs
 
--- src/lib.rt:349:17
 larger-requires : tie.Need-larger-requires
 larger-requires c κs = search needs
 
--- src/lib.rt:352:42
 add-strips : tie.Need-add-strips
 add-strips c = search needs
 
--- src/lib.rt:341:1
 returns : tie.Need-returns
 returns c = sym (ap (λ (z : Stored). afterOf z (c .before .before .args .p) (c .before .before .args .t) (c .before .before .args .k)) (c .enum-told .given .1))
 
--- src/lib.rt:341:1
 returns-2 : tie.Need-returns-2
-returns-2 c = sym (ap (λ (z : Stored). afterOf z (c .before .before .args .p) (c .before .before .args .t) (c .before .before .args .k)) (c .enum-told2 .given .1))
+returns-2 c = sym (ap (λ (z : Stored). afterOf z (c .before .before .args .p) (c .before .before .args .t) (c .before .before .args .k))
+    (c .enum-told2 .given .1))
 
--- src/lib.rt:341:1
 returns-3 : tie.Need-returns-3
 returns-3 c = rw (c .before .before .enum-told3 .given .1, c .before .larger .ensures)
 

@@ -1,7 +1,8 @@
-use mathlib.Core.Path.{_≡_, sym, ap, _∙_, refl, subst}
-use native.Mathlib.Omega.{arith}
-use Prim.Native.Nat.{ℕ, _/_, _+_, _-_, _*_, _≤_, _<_, _^_}
-use lib.ListN.{length, take}
+-- `put_copy`: the winner's apart strips are stored. Assumes nothing.
+use mathlib.Core.Path.{sym}
+use Prim.Native.Nat.{_-_, _*_}
+use lib.ListN.{take}
+use lib.Seq.{length-take-le}
 use Rattle.place.proofs.Putting.{put-is, put-laid}
 use Rattle.store.proofs.Whole.{sum-fits}
 use borrow.Author.Needs.{needs}
@@ -14,52 +15,85 @@ use Rattle.store.proofs.store_copy.Reads as store-copy-reads
 use Rattle.trapezoid.proofs.capacity.Reads as capacity-reads
 use Rattle.trapezoid.proofs.strips_of.Reads as strips-of-reads
 
--- src/lib.rt:76:9
+mul-end : tie.Need-mul-end
+mul-end c = search needs
+
+slice-aggregate-strips-of : tie.Need-slice-aggregate-strips-of
+slice-aggregate-strips-of c =
+    let c7 = c .before .before .before .before .before .before .before in
+    sym (length-take-le (6 * c7 .args .g .«apart_strips») (c7 .args .shapes .now) (c7 .pre .2))
+
+mul-strips-of : tie.Need-mul-strips-of
+mul-strips-of c = search needs
+
+sub-strips-of : tie.Need-sub-strips-of
+sub-strips-of c = search needs
+
+part-strips-of-start : tie.Need-part-strips-of-start
+part-strips-of-start c = search needs
+
+part-strips-of-end : tie.Need-part-strips-of-end
+part-strips-of-end c = search needs
+
 strips-of-requires : tie.Need-strips-of-requires
 strips-of-requires c κs = search needs
 
--- src/lib.rt:77:9
 capacity-requires : tie.Need-capacity-requires
 capacity-requires c κs = search needs
 
--- src/lib.rt:78:9
 store-copy-requires : tie.Need-store-copy-requires
-store-copy-requires c κs = let p = c .before .before .before .before .before .before .before .before .before .before .before .before .pre in (p .0, p .1)
+store-copy-requires c κs =
+    let c14 = c .before .before .before .before .before .before .before .before .before .before .before .before .before .before in
+    let p = c14 .pre in (p .0, p .1)
 
--- src/lib.rt:79:5
 after-requires : tie.Need-after-requires
-after-requires c κs = let a = c .before .before .before .before .before .before .before .before .before .before .before .before .before .before .before .before .before .before .before .before .before .args in
-    let p = c .before .before .before .before .before .before .before .before .before .before .before .before .before .before .before .before .before .before .before .before .before .pre in
-    sum-fits (a .placed .now) (c .before .before .before .before .before .before .before .before .before .before .before .before .before .before .strips-of .result .now) (a .t .«placed_strips») _ (p .0 .room) (c .before .before .before .before .before .before .before .before .before .before .before .before .before .before .before .before .before .before .before .before .before .good .1 .1 .1 .1 .1 .1 .0 .0) (c .before .before .before .before .before .before .before .before .before .before .before .before .before .capacity .ensures) (c .before .before .before .before .before .before .before .before .before .before .before .before .before .before .strips-of .ok .0)
+after-requires c κs =
+    let c13 = c .before .before .before .before .before .before .before .before .before .before .before .before .before in
+    let c14 = c13 .before in
+    let c23 = c14 .before .before .before .before .before .before .before .before .before in
+    let a = c23 .args in
+    sum-fits (a .placed .now) (c14 .strips-of .result .now) (a .t .«placed_strips») _ (c23 .pre .0 .room) (c23 .good .1 .1 .1 .1 .1 .0 .0)
+    (c13 .capacity .ensures) (c14 .strips-of .ok .0)
 
--- src/lib.rt:61:1
 same-length : tie.Need-same-length
 same-length c = search needs
 
--- src/lib.rt:61:1
 same-length-2 : tie.Need-same-length-2
 same-length-2 c = search needs
 
--- src/lib.rt:61:1
 same-length-3 : tie.Need-same-length-3
 same-length-3 c = search needs
 
--- src/lib.rt:61:1
 same-length-4 : tie.Need-same-length-4
 same-length-4 c = search needs
 
--- src/lib.rt:61:1
 returns : tie.Need-returns
-returns c = let a = c .before .before .before .before .before .before .before .before .before .before .before .before .before .before .before .before .before .before .before .before .before .before .args in
-    let E = c .before .before .before .before .before .before .before .before .before .store-copy .ensures in (
-      put-is (a .ix) (a .p) (a .q) (a .t) (a .apart .now) (a .placed .now) (a .entries .now) (a .starts .now) (c .before .before .before .before .before .before .before .before .before .before .before .before .before .before .before .strips-of .result .now) (c .before .before .before .before .before .before .before .before .before .before .before .before .before .before .capacity .result) (c .before .before .before .before .before .before .before .before .before .store-copy .result) _ _ _ (c .after .result) (c .before .before .before .before .before .before .before .before .before .before .before .before .before .before .before .strips-of .ensures) (c .before .before .before .before .before .before .before .before .before .before .before .before .before .before .capacity .ensures) (c .after .ensures) (E .0),
-      put-laid (a .ix) (a .p) (a .q) (a .t) (a .apart .now) (a .placed .now) (a .entries .now) (a .starts .now) (c .before .before .before .before .before .before .before .before .before .before .before .before .before .before .before .strips-of .result .now) (c .before .before .before .before .before .before .before .before .before .before .before .before .before .before .capacity .result) (c .before .before .before .before .before .before .before .before .before .store-copy .result) _ _ _ (c .after .result) (c .before .before .before .before .before .before .before .before .before .before .before .before .before .before .before .strips-of .ensures) (c .before .before .before .before .before .before .before .before .before .before .before .before .before .before .capacity .ensures) (c .after .ensures) (E .1),
+returns c =
+    let c9 = c .before .before .before .before .before .before .before .before .before in
+    let c14 = c9 .before .before .before .before .before in
+    let c15 = c14 .before in
+    let c24 = c15 .before .before .before .before .before .before .before .before .before in
+    let a = c24 .args in
+    let n = 6 * a .g .«apart_strips» in
+    let E = c9 .store-copy .ensures in (
+      put-is (a .g .index) (a .p) (a .q) (a .t) (take n (a .shapes .now)) (a .placed .now) (a .entries .now) (a .starts .now) (c15 .strips-of .result .now)
+          (c14 .capacity .result) (c9 .store-copy .result) _ _ _ (c .after .result) (c15 .strips-of .ensures) (c14 .capacity .ensures) (c .after .ensures)
+          (E .0),
+      put-laid (a .g .index) (a .p) (a .q) (a .t) (take n (a .shapes .now)) (a .placed .now) (a .entries .now) (a .starts .now) (c15 .strips-of .result .now)
+          (c14 .capacity .result) (c9 .store-copy .result) _ _ _ (c .after .result) (c15 .strips-of .ensures) (c14 .capacity .ensures) (c .after .ensures)
+          (E .1),
     )
 
 pub put-copy-spec : {M : Type 1} → statement M
 put-copy-spec =
     tie.close
     (tie.spec
+    mul-end
+    slice-aggregate-strips-of
+    mul-strips-of
+    sub-strips-of
+    part-strips-of-start
+    part-strips-of-end
     strips-of-requires
     capacity-requires
     store-copy-requires

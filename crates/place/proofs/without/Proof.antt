@@ -5,7 +5,6 @@ use Rattle.place.proofs.without.Tie as tie
 use Rattle.place.proofs.without.Reads as reads
 use Rattle.place.proofs.without.Lts as lts
 
--- src/lib.rt:372:1
 returns : tie.Need-returns
 unfolding withoutOf
 returns c = search needs

@@ -1,179 +1,186 @@
 -- `prepare::prepare` meets its contract. Assumes nothing.
+use mathlib.Core.Path.{_≡_, refl}
+use Prim.Native.Nat.{ℕ, zero, suc}
+use lib.ListN.{getD, replicate}
 use Rattle.prepare.proofs.Preparing.{sheet-over, entries-over, shapes-over, all-ready}
 use borrow.Author.Needs.{needs}
 use Rattle.prepare.proofs.prepare.Statement.{statement}
 use Rattle.prepare.proofs.prepare.Tie as tie
-use Rattle.prepare.proofs.prepare.Reads as reads
-use Rattle.prepare.proofs.prepare.Lts as lts
-use Rattle.shapes.proofs.lay_shapes.Reads as lay-shapes-reads
-use Rattle.sheet.proofs.lay_sheet.Reads as lay-sheet-reads
 
--- src/lib.rt:43:11
+zero-at : (n b : ℕ) → getD {A = ℕ} (replicate n 0) b 0 ≡ 0
+zero-at zero b = refl
+zero-at (suc n) zero = refl
+zero-at (suc n) (suc b) = zero-at n b
+
+slice-aggregate-lay-sheet : tie.Need-slice-aggregate-lay-sheet
+slice-aggregate-lay-sheet c = refl
+
+slice-aggregate-lay-sheet-2 : tie.Need-slice-aggregate-lay-sheet-2
+slice-aggregate-lay-sheet-2 c = refl
+
 lay-sheet-requires : tie.Need-lay-sheet-requires
-lay-sheet-requires c κs = (c .before .before .before .before .before .before .before .before .before .before .before .before .before .before .pre .2, c .before .before .before .before .before .before .before .before .before .before .before .before .before .before .pre .3, c .before .before .before .before .before .before .before .before .before .before .before .before .before .before .pre .4)
+lay-sheet-requires c κs = (refl, zero-at 513, refl)
 
--- src/lib.rt:44:27
-enum-known-bounds : tie.Need-enum-known-bounds
-enum-known-bounds c = search needs
+enum-known-sheet-bounds : tie.Need-enum-known-sheet-bounds
+enum-known-sheet-bounds c = search needs
 
--- src/lib.rt:45:19
+slice-aggregate-lay-shapes : tie.Need-slice-aggregate-lay-shapes
+slice-aggregate-lay-shapes c = refl
+
+slice-aggregate-lay-shapes-2 : tie.Need-slice-aggregate-lay-shapes-2
+slice-aggregate-lay-shapes-2 c = refl
+
 lay-shapes-requires : tie.Need-lay-shapes-requires
-lay-shapes-requires c κs = (c .before .before .before .before .before .before .before .before .before .before .before .before .before .before .before .before .before .before .before .before .before .before .before .before .before .before .before .before .before .pre .0, c .before .before .before .before .before .before .before .before .before .before .before .before .before .before .before .before .before .before .before .before .before .before .before .before .before .before .before .before .before .pre .1, c .before .before .before .before .before .before .before .before .before .before .before .before .before .before .before .before .before .before .before .before .before .before .before .before .before .before .before .before .before .pre .5, c .before .before .before .before .before .before .before .before .before .before .before .before .before .before .before .before .before .before .before .before .before .before .before .before .before .before .before .before .before .pre .6)
+lay-shapes-requires c κs =
+    let c16 = c .before .before .before .before .before .before .before .before .before .before .before .before .before .before .before .before in
+    let c23 = c16 .before .before .before .before .before .before .before in
+    (c23 .pre .0, c23 .pre .1, refl, refl)
 
--- src/lib.rt:46:36
-enum-known-apart : tie.Need-enum-known-apart
-enum-known-apart c = search needs
+enum-known-apart-strips : tie.Need-enum-known-apart-strips
+enum-known-apart-strips c = search needs
 
--- src/lib.rt:47:58
 enum-told : tie.Need-enum-told
 enum-told c = search needs
 
--- src/lib.rt:50:51
+refused-requires : tie.Need-refused-requires
+refused-requires c κs = tt
+
 enum-told-2 : tie.Need-enum-told-2
 enum-told-2 c = search needs
 
--- src/lib.rt:51:52
+refused-requires-2 : tie.Need-refused-requires-2
+refused-requires-2 c κs = tt
+
 enum-told-3 : tie.Need-enum-told-3
 enum-told-3 c = search needs
 
--- src/lib.rt:26:1
+refused-requires-3 : tie.Need-refused-requires-3
+refused-requires-3 c κs = tt
+
 same-length : tie.Need-same-length
-same-length c = c .before .before .before .before .before .before .before .before .before .lay-shapes .kept .1 .1 .1 .1 .0
+same-length c =
+    let c7 = c .before .before .before .before .before .before .before in
+    c7 .lay-shapes .kept .1 .1 .1 .1 .0
 
--- src/lib.rt:26:1
 same-length-2 : tie.Need-same-length-2
-same-length-2 c = c .before .before .before .before .before .before .before .before .before .before .before .before .before .before .before .before .before .before .before .before .before .before .before .before .lay-sheet .kept .1 .1 .0
+same-length-2 c =
+    let c16 = c .before .before .before .before .before .before .before .before .before .before .before .before .before .before .before .before in
+    let c20 = c16 .before .before .before .before in
+    c20 .lay-sheet .kept .1 .1 .0
 
--- src/lib.rt:26:1
 same-length-3 : tie.Need-same-length-3
-same-length-3 c = c .before .before .before .before .before .before .before .before .before .before .before .before .before .before .before .before .before .before .before .before .before .before .before .before .lay-sheet .kept .1 .1 .1 .0
+same-length-3 c =
+    let c16 = c .before .before .before .before .before .before .before .before .before .before .before .before .before .before .before .before in
+    let c20 = c16 .before .before .before .before in
+    c20 .lay-sheet .kept .1 .1 .1 .0
 
--- src/lib.rt:26:1
-same-length-4 : tie.Need-same-length-4
-same-length-4 c = c .before .before .before .before .before .before .before .before .before .before .before .before .before .before .before .before .before .before .before .before .before .before .before .before .lay-sheet .kept .1 .1 .1 .1 .0
-
--- src/lib.rt:26:1
-same-length-5 : tie.Need-same-length-5
-same-length-5 c = c .before .before .before .before .before .before .before .before .before .before .before .before .before .before .before .before .before .before .before .before .before .before .before .before .lay-sheet .kept .1 .1 .1 .1 .1 .0
-
--- src/lib.rt:26:1
-same-length-6 : tie.Need-same-length-6
-same-length-6 c = c .before .before .before .before .before .before .before .before .before .lay-shapes .kept .1 .1 .1 .1 .1 .0
-
--- src/lib.rt:26:1
-same-length-7 : tie.Need-same-length-7
-same-length-7 c = c .before .before .before .before .before .before .before .before .before .lay-shapes .kept .1 .1 .1 .1 .1 .1 .0
-
--- src/lib.rt:26:1
 returns : tie.Need-returns
-returns c = λ j T. all-ready (c .before .before .before .before .before .before .before .before .before .before .before .before .before .before .before .before .before .before .before .before .before .before .before .before .before .before .before .before .before .before .before .before .before .before .before .before .before .before .before .args .bytes .now) (c .before .before .before .before .before .before .before .before .before .before .before .before .before .before .before .before .before .before .before .before .before .before .before .before .before .before .before .before .before .before .before .before .before .before .before .before .before .before .before .args .rows .now) (c .before .before .before .before .before .before .before .before .before .before .before .before .before .before .before .before .before .before .before .before .before .before .before .before .before .before .before .before .before .before .before .before .before .before .before .before .before .before .before .args .places .now) (c .before .before .before .before .before .before .before .before .before .before .before .before .before .before .before .before .before .before .before .before .before .before .before .before .before .before .before .before .before .before .before .before .before .before .before .before .before .before .before .args .at) (c .before .before .before .before .before .before .before .before .before .before .before .before .before .before .before .before .before .before .before .before .before .before .before .before .before .before .before .before .before .before .before .before .before .before .before .before .before .before .before .args .kinds) j T (c .before .before .before .before .before .before .before .before .before .before .before .before .before .before .before .before .before .before .before .before .before .before .before .before .lay-sheet .result) (c .before .before .before .before .before .before .before .before .before .before .before .before .before .before .before .before .before .before .before .before .before .before .before .before .before .before .before .before .before .before .before .before .before .before .before .before .before .before .before .args .shapes .now) (c .before .before .before .before .before .before .before .before .before .lay-shapes .last .1 .1 .1 .1 .0) (c .before .before .before .before .before .before .before .before .before .before .before .before .before .before .before .before .before .before .before .before .before .before .before .before .before .before .before .before .before .before .before .before .before .before .before .before .before .before .before .args .sheet .now) (c .before .before .before .before .before .before .before .before .before .before .before .before .before .before .before .before .before .before .before .before .before .before .before .before .lay-sheet .last .1 .1 .0) (c .before .before .before .before .before .before .before .before .before .before .before .before .before .before .before .before .before .before .before .before .before .before .before .before .before .before .before .before .before .before .before .before .before .before .before .before .before .before .before .args .sheet-entries .now) (c .before .before .before .before .before .before .before .before .before .before .before .before .before .before .before .before .before .before .before .before .before .before .before .before .lay-sheet .last .1 .1 .1 .0) (c .before .before .before .before .before .before .before .before .before .before .before .before .before .before .before .before .before .before .before .before .before .before .before .before .lay-sheet .last .1 .1 .1 .1 .0) (c .before .before .before .before .before .before .before .before .before .lay-shapes .last .1 .1 .1 .1 .1 .0) (c .before .before .before .before .before .before .before .before .before .lay-shapes .last .1 .1 .1 .1 .1 .1 .0) (c .before .before .before .before .before .before .before .before .before .before .before .before .before .before .before .before .before .before .before .before .before .before .before .before .lay-sheet .ensures) _ _ (c .before .before .before .before .before .before .before .before .before .before .before .before .before .before .bounds .given .1) (c .before .before .before .before .before .before .before .before .before .lay-shapes .result) (c .before .before .before .before .before .before .before .before .before .lay-shapes .ensures) _ _ (c .before .apart .given .1)
+returns c =
+    let c7 = c .before .before .before .before .before .before .before in
+    let c12 = c7 .before .before .before .before .before in
+    let c20 = c12 .before .before .before .before .before .before .before .before in
+    let c31 = c20 .before .before .before .before .before .before .before .before .before .before .before in
+    let a = c31 .args in
+    λ j T H. all-ready (a .bytes .now) (a .rows .now) (a .places .now) (a .at) (a .h .kinds) j T (c20 .lay-sheet .result)
+    (a .shapes .now) _ (a .sheet .now) _ (a .sheet-entries .now) _ _ (c20 .lay-sheet .ensures)
+    _ _ (c12 .sheet-bounds .given .1) (c7 .lay-shapes .result) _ _ (c7 .lay-shapes .ensures) (a .h) H _ _ (c .before .apart-strips .given .1)
 
--- src/lib.rt:26:1
-same-length-8 : tie.Need-same-length-8
-same-length-8 c = c .before .before .before .before .before .before .before .before .lay-shapes .kept .1 .1 .1 .1 .0
+same-length-4 : tie.Need-same-length-4
+same-length-4 c =
+    let c7 = c .before .before .before .before .before .before .before in
+    c7 .lay-shapes .kept .1 .1 .1 .1 .0
 
--- src/lib.rt:26:1
-same-length-9 : tie.Need-same-length-9
-same-length-9 c = c .before .before .before .before .before .before .before .before .before .before .before .before .before .before .before .before .before .before .before .before .before .before .before .lay-sheet .kept .1 .1 .0
+same-length-5 : tie.Need-same-length-5
+same-length-5 c =
+    let c16 = c .before .before .before .before .before .before .before .before .before .before .before .before .before .before .before .before in
+    let c20 = c16 .before .before .before .before in
+    c20 .lay-sheet .kept .1 .1 .0
 
--- src/lib.rt:26:1
-same-length-10 : tie.Need-same-length-10
-same-length-10 c = c .before .before .before .before .before .before .before .before .before .before .before .before .before .before .before .before .before .before .before .before .before .before .before .lay-sheet .kept .1 .1 .1 .0
+same-length-6 : tie.Need-same-length-6
+same-length-6 c =
+    let c16 = c .before .before .before .before .before .before .before .before .before .before .before .before .before .before .before .before in
+    let c20 = c16 .before .before .before .before in
+    c20 .lay-sheet .kept .1 .1 .1 .0
 
--- src/lib.rt:26:1
-same-length-11 : tie.Need-same-length-11
-same-length-11 c = c .before .before .before .before .before .before .before .before .before .before .before .before .before .before .before .before .before .before .before .before .before .before .before .lay-sheet .kept .1 .1 .1 .1 .0
-
--- src/lib.rt:26:1
-same-length-12 : tie.Need-same-length-12
-same-length-12 c = c .before .before .before .before .before .before .before .before .before .before .before .before .before .before .before .before .before .before .before .before .before .before .before .lay-sheet .kept .1 .1 .1 .1 .1 .0
-
--- src/lib.rt:26:1
-same-length-13 : tie.Need-same-length-13
-same-length-13 c = c .before .before .before .before .before .before .before .before .lay-shapes .kept .1 .1 .1 .1 .1 .0
-
--- src/lib.rt:26:1
-same-length-14 : tie.Need-same-length-14
-same-length-14 c = c .before .before .before .before .before .before .before .before .lay-shapes .kept .1 .1 .1 .1 .1 .1 .0
-
--- src/lib.rt:26:1
 returns-2 : tie.Need-returns-2
-returns-2 c = λ j T. shapes-over (c .before .before .before .before .before .before .before .before .before .before .before .before .before .before .before .before .before .before .before .before .before .before .before .before .before .before .before .before .before .before .before .before .before .before .before .before .before .before .args .bytes .now) (c .before .before .before .before .before .before .before .before .before .before .before .before .before .before .before .before .before .before .before .before .before .before .before .before .before .before .before .before .before .before .before .before .before .before .before .before .before .before .args .rows .now) (c .before .before .before .before .before .before .before .before .before .before .before .before .before .before .before .before .before .before .before .before .before .before .before .before .before .before .before .before .before .before .before .before .before .before .before .before .before .before .args .places .now) (c .before .before .before .before .before .before .before .before .before .before .before .before .before .before .before .before .before .before .before .before .before .before .before .before .before .before .before .before .before .before .before .before .before .before .before .before .before .before .args .at) (c .before .before .before .before .before .before .before .before .before .before .before .before .before .before .before .before .before .before .before .before .before .before .before .before .before .before .before .before .before .before .before .before .before .before .before .before .before .before .args .kinds) j T (c .before .before .before .before .before .before .before .before .before .before .before .before .before .before .before .before .before .before .before .before .before .before .before .lay-sheet .result) (c .before .before .before .before .before .before .before .before .before .before .before .before .before .before .before .before .before .before .before .before .before .before .before .before .before .before .before .before .before .before .before .before .before .before .before .before .before .before .args .shapes .now) (c .before .before .before .before .before .before .before .before .lay-shapes .last .1 .1 .1 .1 .0) (c .before .before .before .before .before .before .before .before .before .before .before .before .before .before .before .before .before .before .before .before .before .before .before .before .before .before .before .before .before .before .before .before .before .before .before .before .before .before .args .sheet .now) (c .before .before .before .before .before .before .before .before .before .before .before .before .before .before .before .before .before .before .before .before .before .before .before .lay-sheet .last .1 .1 .0) (c .before .before .before .before .before .before .before .before .before .before .before .before .before .before .before .before .before .before .before .before .before .before .before .before .before .before .before .before .before .before .before .before .before .before .before .before .before .before .args .sheet-entries .now) (c .before .before .before .before .before .before .before .before .before .before .before .before .before .before .before .before .before .before .before .before .before .before .before .lay-sheet .last .1 .1 .1 .0) (c .before .before .before .before .before .before .before .before .before .before .before .before .before .before .before .before .before .before .before .before .before .before .before .lay-sheet .last .1 .1 .1 .1 .0) (c .before .before .before .before .before .before .before .before .lay-shapes .last .1 .1 .1 .1 .1 .0) (c .before .before .before .before .before .before .before .before .lay-shapes .last .1 .1 .1 .1 .1 .1 .0) (c .before .before .before .before .before .before .before .before .before .before .before .before .before .before .before .before .before .before .before .before .before .before .before .lay-sheet .ensures) _ _ (c .before .before .before .before .before .before .before .before .before .before .before .before .before .bounds .given .1) (c .before .before .before .before .before .before .before .before .lay-shapes .result) (c .before .before .before .before .before .before .before .before .lay-shapes .ensures) (c .enum-told .given .1)
+returns-2 c =
+    let c7 = c .before .before .before .before .before .before .before in
+    let c12 = c7 .before .before .before .before .before in
+    let c20 = c12 .before .before .before .before .before .before .before .before in
+    let c31 = c20 .before .before .before .before .before .before .before .before .before .before .before in
+    let a = c31 .args in
+    λ j T H. shapes-over (a .bytes .now) (a .rows .now) (a .places .now) (a .at) (a .h .kinds) j T (c20 .lay-sheet .result)
+    (a .shapes .now) _ (a .sheet .now) _ (a .sheet-entries .now) _ _ (c20 .lay-sheet .ensures)
+    _ _ (c12 .sheet-bounds .given .1) (c7 .lay-shapes .result) _ _ (c7 .lay-shapes .ensures)
+    (c .refused .result) (c .before .enum-told .given .1) (c .refused .ensures)
 
--- src/lib.rt:26:1
-same-length-15 : tie.Need-same-length-15
-same-length-15 c = c .before .before .before .before .before .before .before .before .before .before .lay-sheet .kept .1 .1 .0
+same-length-7 : tie.Need-same-length-7
+same-length-7 c =
+    let c9 = c .before .before .before .before .before .before .before .before .before in
+    c9 .lay-sheet .kept .1 .1 .0
 
--- src/lib.rt:26:1
-same-length-16 : tie.Need-same-length-16
-same-length-16 c = c .before .before .before .before .before .before .before .before .before .before .lay-sheet .kept .1 .1 .1 .0
+same-length-8 : tie.Need-same-length-8
+same-length-8 c =
+    let c9 = c .before .before .before .before .before .before .before .before .before in
+    c9 .lay-sheet .kept .1 .1 .1 .0
 
--- src/lib.rt:26:1
-same-length-17 : tie.Need-same-length-17
-same-length-17 c = c .before .before .before .before .before .before .before .before .before .before .lay-sheet .kept .1 .1 .1 .1 .0
-
--- src/lib.rt:26:1
-same-length-18 : tie.Need-same-length-18
-same-length-18 c = c .before .before .before .before .before .before .before .before .before .before .lay-sheet .kept .1 .1 .1 .1 .1 .0
-
--- src/lib.rt:26:1
 returns-3 : tie.Need-returns-3
-returns-3 c = λ j T. sheet-over (c .before .before .before .before .before .before .before .before .before .before .before .before .before .before .before .before .before .before .before .before .before .before .before .before .before .args .bytes .now) (c .before .before .before .before .before .before .before .before .before .before .before .before .before .before .before .before .before .before .before .before .before .before .before .before .before .args .rows .now) (c .before .before .before .before .before .before .before .before .before .before .before .before .before .before .before .before .before .before .before .before .before .before .before .before .before .args .places .now) (c .before .before .before .before .before .before .before .before .before .before .before .before .before .before .before .before .before .before .before .before .before .before .before .before .before .args .at) (c .before .before .before .before .before .before .before .before .before .before .before .before .before .before .before .before .before .before .before .before .before .before .before .before .before .args .kinds) j T (c .before .before .before .before .before .before .before .before .before .before .lay-sheet .result) (c .before .before .before .before .before .before .before .before .before .before .before .before .before .before .before .before .before .before .before .before .before .before .before .before .before .args .shapes .now) (c .before .before .before .before .before .before .before .before .before .before .before .before .before .before .before .before .before .before .before .before .before .before .before .before .before .args .shapes .now) (c .before .before .before .before .before .before .before .before .before .before .before .before .before .before .before .before .before .before .before .before .before .before .before .before .before .args .sheet .now) (c .before .before .before .before .before .before .before .before .before .before .lay-sheet .last .1 .1 .0) (c .before .before .before .before .before .before .before .before .before .before .before .before .before .before .before .before .before .before .before .before .before .before .before .before .before .args .sheet-entries .now) (c .before .before .before .before .before .before .before .before .before .before .lay-sheet .last .1 .1 .1 .0) (c .before .before .before .before .before .before .before .before .before .before .lay-sheet .last .1 .1 .1 .1 .0) (c .before .before .before .before .before .before .before .before .before .before .before .before .before .before .before .before .before .before .before .before .before .before .before .before .before .args .inset-bounds .now) (c .before .before .before .before .before .before .before .before .before .before .before .before .before .before .before .before .before .before .before .before .before .before .before .before .before .args .parts .now) (c .before .before .before .before .before .before .before .before .before .before .lay-sheet .ensures) (c .enum-told2 .given .1)
+returns-3 c =
+    let c9 = c .before .before .before .before .before .before .before .before .before in
+    let c20 = c9 .before .before .before .before .before .before .before .before .before .before .before in
+    let a = c20 .args in
+    λ j T H. sheet-over (a .bytes .now) (a .rows .now) (a .places .now) (a .at) (a .h .kinds) j T (c9 .lay-sheet .result)
+    (a .shapes .now) (a .shapes .now) (a .sheet .now) _ (a .sheet-entries .now) _ _ (c9 .lay-sheet .ensures)
+    (c .refused2 .result) (c .before .enum-told2 .given .1) (c .refused2 .ensures)
 
--- src/lib.rt:26:1
-same-length-19 : tie.Need-same-length-19
-same-length-19 c = c .before .before .before .before .before .before .before .before .before .before .lay-sheet .kept .1 .1 .0
+same-length-9 : tie.Need-same-length-9
+same-length-9 c =
+    let c9 = c .before .before .before .before .before .before .before .before .before in
+    c9 .lay-sheet .kept .1 .1 .0
 
--- src/lib.rt:26:1
-same-length-20 : tie.Need-same-length-20
-same-length-20 c = c .before .before .before .before .before .before .before .before .before .before .lay-sheet .kept .1 .1 .1 .0
+same-length-10 : tie.Need-same-length-10
+same-length-10 c =
+    let c9 = c .before .before .before .before .before .before .before .before .before in
+    c9 .lay-sheet .kept .1 .1 .1 .0
 
--- src/lib.rt:26:1
-same-length-21 : tie.Need-same-length-21
-same-length-21 c = c .before .before .before .before .before .before .before .before .before .before .lay-sheet .kept .1 .1 .1 .1 .0
-
--- src/lib.rt:26:1
-same-length-22 : tie.Need-same-length-22
-same-length-22 c = c .before .before .before .before .before .before .before .before .before .before .lay-sheet .kept .1 .1 .1 .1 .1 .0
-
--- src/lib.rt:26:1
 returns-4 : tie.Need-returns-4
-returns-4 c = λ j T. entries-over (c .before .before .before .before .before .before .before .before .before .before .before .before .before .before .before .before .before .before .before .before .before .before .before .before .before .args .bytes .now) (c .before .before .before .before .before .before .before .before .before .before .before .before .before .before .before .before .before .before .before .before .before .before .before .before .before .args .rows .now) (c .before .before .before .before .before .before .before .before .before .before .before .before .before .before .before .before .before .before .before .before .before .before .before .before .before .args .places .now) (c .before .before .before .before .before .before .before .before .before .before .before .before .before .before .before .before .before .before .before .before .before .before .before .before .before .args .at) (c .before .before .before .before .before .before .before .before .before .before .before .before .before .before .before .before .before .before .before .before .before .before .before .before .before .args .kinds) j T (c .before .before .before .before .before .before .before .before .before .before .lay-sheet .result) (c .before .before .before .before .before .before .before .before .before .before .before .before .before .before .before .before .before .before .before .before .before .before .before .before .before .args .shapes .now) (c .before .before .before .before .before .before .before .before .before .before .before .before .before .before .before .before .before .before .before .before .before .before .before .before .before .args .shapes .now) (c .before .before .before .before .before .before .before .before .before .before .before .before .before .before .before .before .before .before .before .before .before .before .before .before .before .args .sheet .now) (c .before .before .before .before .before .before .before .before .before .before .lay-sheet .last .1 .1 .0) (c .before .before .before .before .before .before .before .before .before .before .before .before .before .before .before .before .before .before .before .before .before .before .before .before .before .args .sheet-entries .now) (c .before .before .before .before .before .before .before .before .before .before .lay-sheet .last .1 .1 .1 .0) (c .before .before .before .before .before .before .before .before .before .before .lay-sheet .last .1 .1 .1 .1 .0) (c .before .before .before .before .before .before .before .before .before .before .before .before .before .before .before .before .before .before .before .before .before .before .before .before .before .args .inset-bounds .now) (c .before .before .before .before .before .before .before .before .before .before .before .before .before .before .before .before .before .before .before .before .before .before .before .before .before .args .parts .now) (c .before .before .before .before .before .before .before .before .before .before .lay-sheet .ensures) (c .enum-told3 .given .1)
+returns-4 c =
+    let c9 = c .before .before .before .before .before .before .before .before .before in
+    let c20 = c9 .before .before .before .before .before .before .before .before .before .before .before in
+    let a = c20 .args in
+    λ j T H. entries-over (a .bytes .now) (a .rows .now) (a .places .now) (a .at) (a .h .kinds) j T (c9 .lay-sheet .result)
+    (a .shapes .now) (a .shapes .now) (a .sheet .now) _ (a .sheet-entries .now) _ _ (c9 .lay-sheet .ensures)
+    (c .refused3 .result) (c .before .enum-told3 .given .1) (c .refused3 .ensures)
 
 pub prepare-spec : {M : Type 1} → statement M
 prepare-spec =
     tie.close
     (tie.spec
+    slice-aggregate-lay-sheet
+    slice-aggregate-lay-sheet-2
     lay-sheet-requires
-    enum-known-bounds
+    enum-known-sheet-bounds
+    slice-aggregate-lay-shapes
+    slice-aggregate-lay-shapes-2
     lay-shapes-requires
-    enum-known-apart
+    enum-known-apart-strips
     enum-told
+    refused-requires
     enum-told-2
+    refused-requires-2
     enum-told-3
+    refused-requires-3
     same-length
     same-length-2
     same-length-3
+    returns
     same-length-4
     same-length-5
     same-length-6
+    returns-2
     same-length-7
-    returns
     same-length-8
+    returns-3
     same-length-9
     same-length-10
-    same-length-11
-    same-length-12
-    same-length-13
-    same-length-14
-    returns-2
-    same-length-15
-    same-length-16
-    same-length-17
-    same-length-18
-    returns-3
-    same-length-19
-    same-length-20
-    same-length-21
-    same-length-22
     returns-4)

@@ -1,11 +1,13 @@
+-- `column_step`: one look, and one more in its orientation's look count. Assumes nothing.
 use Rattle.search.specs.Searching.{answerAt}
-use Rattle.columns.specs.Stands.{xOf}
+use Rattle.search.proofs.Turns.{counted-in}
+use Rattle.tracks.proofs.Fields.{field-at, first-kept}
 use Rattle.look.specs.Looking.{lookOf}
 use Rattle.look.specs.Ready.{Lookable}
 use lib.Ieee.{Float}
 use lib.ListN.{length}
-use Prim.Native.Nat.{ℕ, _/_}
-use mathlib.Core.Path.{_≡_, sym, ap, _∙_, refl, subst, subst⁻¹}
+use Prim.Native.Nat.{ℕ, _/_, _+_, _<_, _^_}
+use mathlib.Core.Path.{ap, _∙_, subst, subst⁻¹}
 use borrow.Author.Needs.{needs}
 use Rattle.search.proofs.column_step.Statement.{statement}
 use Rattle.search.proofs.column_step.Tie as tie
@@ -14,58 +16,71 @@ use Rattle.search.proofs.column_step.Lts as lts
 use Rattle.columns.proofs.Columns.x.Reads as x-reads
 use Rattle.look.proofs.look_at.Reads as look-at-reads
 
--- src/lib.rt:118:19
-mul-look-counts : tie.Need-mul-look-counts
-mul-look-counts c = search needs
+mul-row : tie.Need-mul-row
+mul-row c = search needs
 
--- src/lib.rt:118:19
-slice-read-look-counts : tie.Need-slice-read-look-counts
-slice-read-look-counts c = search needs
+add-at : tie.Need-add-at
+add-at c = search needs
 
--- src/lib.rt:118:19
-add-look-counts : tie.Need-add-look-counts
-add-look-counts c = search needs
+mul-tracks : tie.Need-mul-tracks
+mul-tracks c = search needs
 
--- src/lib.rt:118:5
-mul-look-counts-2 : tie.Need-mul-look-counts-2
-mul-look-counts-2 c = search needs
+slice-read-tracks : tie.Need-slice-read-tracks
+slice-read-tracks c = search needs
 
--- src/lib.rt:118:5
-slice-write-look-counts : tie.Need-slice-write-look-counts
-slice-write-look-counts c = search needs
+add-tracks : tie.Need-add-tracks
+add-tracks c =
+    let c11 = c .before .before .before .before .before .before .before .before .before .before .before in
+    let p = c11 .pre in
+    record { fits = subst (λ (n : ℕ). n + 1 < 2 ^ 64) (field-at 0 2 1 1024 (c11 .args .tracks .now) (c11 .args .slot) 0 (p .2)) (p .4) }
 
--- src/lib.rt:119:23
+mul-tracks-2 : tie.Need-mul-tracks-2
+mul-tracks-2 c = search needs
+
+slice-write-tracks : tie.Need-slice-write-tracks
+slice-write-tracks c = search needs
+
 x-requires : tie.Need-x-requires
 x-requires c κs = search needs
 
--- src/lib.rt:119:5
 look-at-requires : tie.Need-look-at-requires
-look-at-requires c κs = let g = c .before .before .before .before .before .before .before .before .before .before .before .before .before .args in
-    subst⁻¹ (λ (x : Float). Lookable (g .ix) x (g .k .«y_low») (g .k .«y_high») (g .inset .now) (g .apart .now) (g .sheet .now) (g .placed .now) (g .sheet-entries .now) (g .sheet-starts .now) (g .placed-entries .now) (g .placed-starts .now)) (c .before .x .ensures) (c .before .before .before .before .before .before .before .before .before .before .before .before .before .pre .0)
+look-at-requires c κs =
+    let c13 = c .before .before .before .before .before .before .before .before .before .before .before .before .before in
+    let g = c13 .args in
+    subst⁻¹ (λ (x : Float). Lookable (g .ix) x (g .k .«y_low») (g .k .«y_high») (g .inset .now) (g .apart .now) (g .sheet .now) (g .placed .now)
+    (g .sheet-entries .now) (g .sheet-starts .now) (g .placed-entries .now) (g .placed-starts .now)) (c .before .x .ensures) (c13 .pre .0)
 
--- src/lib.rt:114:1
 same-length : tie.Need-same-length
 same-length c = search needs
 
--- src/lib.rt:114:1
 same-length-2 : tie.Need-same-length-2
 same-length-2 c = search needs
 
--- src/lib.rt:114:1
 returns : tie.Need-returns
 unfolding answerAt
-returns c = let g = c .before .before .before .before .before .before .before .before .before .before .before .before .before .before .before .before .args in
-    (c .before .before .look-at .ensures ∙ ap (λ (x : Float). lookOf (length (g .room .now) / 2) x (g .k .«y_low») (g .k .«y_high») (g .inset .now) (g .apart .now) (g .sheet .now) (g .placed .now)) (c .before .before .before .before .x .ensures), refl)
+returns c =
+    let c16 = c .before .before .before .before .before .before .before .before .before .before .before .before .before .before .before .before in
+    let g = c16 .args in
+    let p = c16 .pre in (
+      c .before .before .look-at .ensures
+          ∙ ap (λ (x : Float). lookOf (length (g .room .now) / 2) x (g .k .«y_low») (g .k .«y_high») (g .inset .now) (g .apart .now) (g .sheet .now)
+          (g .placed .now))
+          (c .before .before .before .before .x .ensures),
+      counted-in (g .tracks .now) (g .slot) (p .2) (p .3),
+      first-kept 0 (g .tracks .now) 1024 (g .slot) _,
+    )
 
 pub column-step-spec : {M : Type 1} → statement M
 column-step-spec =
     tie.close
     (tie.spec
-    mul-look-counts
-    slice-read-look-counts
-    add-look-counts
-    mul-look-counts-2
-    slice-write-look-counts
+    mul-row
+    add-at
+    mul-tracks
+    slice-read-tracks
+    add-tracks
+    mul-tracks-2
+    slice-write-tracks
     x-requires
     look-at-requires
     same-length

@@ -12,31 +12,24 @@ use Rattle.search.proofs.next_of.Lts as lts
 at-most : (c : tie.After-known-told) → c .before .found .given .0 .0 ≤ c .before .before .before .args .last
 at-most c = subst (λ (f : Found). Within (c .before .before .before .args .last) f) (c .before .found .given .1) (c .before .before .before .pre .0)
 
--- src/lib.rt:155:19
 enum-known-found : tie.Need-enum-known-found
 enum-known-found c = search needs
 
--- src/lib.rt:155:29
 add-result : tie.Need-add-result
 add-result c = omega (arith, at-most c, c .before .before .before .pre .1)
 
--- src/lib.rt:156:27
 enum-told : tie.Need-enum-told
 enum-told c = search needs
 
--- src/lib.rt:157:25
 enum-told-2 : tie.Need-enum-told-2
 enum-told-2 c = search needs
 
--- src/lib.rt:150:1
 returns : tie.Need-returns
 returns c = rw (c .before .found .given .1)
 
--- src/lib.rt:150:1
 returns-2 : tie.Need-returns-2
 returns-2 c = search needs
 
--- src/lib.rt:150:1
 returns-3 : tie.Need-returns-3
 returns-3 c = search needs
 

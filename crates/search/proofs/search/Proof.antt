@@ -1,9 +1,11 @@
-use Rattle.search.proofs.Turns.{search-is}
+-- `search`: one orientation, from its remembered column. Assumes nothing.
+use Rattle.search.proofs.Turns.{search-in}
 use Rattle.search.specs.Searching.{answerAt}
-use lib.ListN.{length, getD}
+use Rattle.tracks.specs.Tracks.{slotNumbers}
+use lib.ListN.{length}
 use native.Mathlib.Omega.{arith}
-use Prim.Native.Nat.{ℕ, _/_, _+_, _-_, _*_, _≤_, _<_, _^_}
-use mathlib.Core.Path.{_≡_, sym, ap, _∙_, refl, subst, subst⁻¹}
+use Prim.Native.Nat.{ℕ, _/_, _+_, _-_, _≤_, _<_, _^_}
+use mathlib.Core.Path.{sym, subst}
 use borrow.Author.Needs.{needs}
 use Rattle.search.proofs.search.Statement.{statement}
 use Rattle.search.proofs.search.Tie as tie
@@ -17,70 +19,69 @@ use Rattle.search.proofs.next_of.Reads as next-of-reads
 few : (n last s : ℕ) → n + 4000000002 < 2 ^ 64 → last ≤ 4000000001 → n + (last + 1 - s) < 2 ^ 64
 few n last s h g = omega arith
 
--- src/lib.rt:166:9
 last-requires : tie.Need-last-requires
 last-requires c κs = search needs
 
--- src/lib.rt:167:30
+mul-at : tie.Need-mul-at
+mul-at c = search needs
+
 mul-start : tie.Need-mul-start
 mul-start c = search needs
 
--- src/lib.rt:167:30
 slice-read-start : tie.Need-slice-read-start
 slice-read-start c = search needs
 
--- src/lib.rt:167:9
 start-requires : tie.Need-start-requires
 start-requires c κs = search needs
 
--- src/lib.rt:168:9
 column-search-requires : tie.Need-column-search-requires
-column-search-requires c κs = let p = c .before .before .before .before .before .before .before .before .before .before .before .before .before .before .before .before .pre in
+column-search-requires c κs =
+    let c15 = c .before .before .before .before .before .before .before .before .before .before .before .before .before .before .before in
+    let p = c15 .pre in
     let l = c .before .before .before .before .last .ensures in
-    ((λ d g h. p .0 d (subst (λ (n : ℕ). d ≤ n) (l .0) h)), p .1, l .1, p .2, few _ _ _ (p .4) (l .1))
+    ((λ d g h. p .0 d (subst (λ (n : ℕ). d ≤ n) (l .0) h)), p .1, l .1, p .2, p .3, few _ _ _ (p .4) (l .1))
 
--- src/lib.rt:169:19
 next-of-requires : tie.Need-next-of-requires
 next-of-requires c κs = search needs
 
--- src/lib.rt:169:5
-mul-next-column : tie.Need-mul-next-column
-mul-next-column c = record { fits = mul-start (c .before .before .before .before .before .before .before .before .before .before) .fits }
+mul-tracks : tie.Need-mul-tracks
+mul-tracks c = search needs
 
--- src/lib.rt:169:5
-slice-write-next-column : tie.Need-slice-write-next-column
-slice-write-next-column c = search needs
+slice-write-tracks : tie.Need-slice-write-tracks
+slice-write-tracks c = search needs
 
--- src/lib.rt:162:1
 same-length : tie.Need-same-length
 same-length c = search needs
 
--- src/lib.rt:162:1
 same-length-2 : tie.Need-same-length-2
 same-length-2 c = search needs
 
--- src/lib.rt:162:1
-same-length-3 : tie.Need-same-length-3
-same-length-3 c = search needs
-
--- src/lib.rt:162:1
 returns : tie.Need-returns
-returns c = let a = c .before .before .before .before .before .before .before .before .before .before .before .before .before .before .before .before .before .before .before .before .before .before .args in
-    search-is (answerAt (length (a .room .now) / 2) (a .k) (a .inset .now) (a .apart .now) (a .sheet .now) (a .placed .now)) (a .k) (a .slot) (a .look-counts .now) _ (a .next-column .now) (c .before .before .before .before .before .column-search .result) (c .before .before .before .before .before .before .before .before .before .before .last .result) (c .before .before .before .before .before .before .before .before .start .result) (c .next-of .result) (c .before .before .before .before .before .before .before .before .before .before .last .ensures .0) (c .before .before .before .before .before .before .before .before .start .ensures) (c .before .before .before .before .before .column-search .ensures .0) (c .next-of .ensures)
+returns c =
+    let c8 = c .before .before .before .before .before .before .before .before in
+    let c10 = c8 .before .before in
+    let c21 = c10 .before .before .before .before .before .before .before .before .before .before .before in
+    let a = c21 .args in
+    let p = c21 .pre in
+    let s = c .before .before .before .before .before .column-search in
+    search-in (answerAt (length (a .room .now) / 2) (a .k) (a .inset .now) (a .apart .now) (a .sheet .now) (a .placed .now)) (a .k) (a .slot) (a .tracks .now) _
+    (s .result) (c10 .last .result) (c8 .start .result) (c .next-of .result) (p .2)
+    (subst (λ (n : ℕ). slotNumbers ≤ n) (sym (s .kept .1 .1 .1 .1 .1 .1 .1 .1 .1 .1 .1 .1 .1 .1 .0)) (p .3))
+    (c10 .last .ensures .0) (c8 .start .ensures) (s .ensures .0) (s .ensures .1) (c .next-of .ensures)
 
 pub search-spec : {M : Type 1} → statement M
 search-spec =
     tie.close
     (tie.spec
     last-requires
+    mul-at
     mul-start
     slice-read-start
     start-requires
     column-search-requires
     next-of-requires
-    mul-next-column
-    slice-write-next-column
+    mul-tracks
+    slice-write-tracks
     same-length
     same-length-2
-    same-length-3
     returns)

@@ -1,136 +1,156 @@
--- `search_plan`: the work tables, and the search. Assumes nothing.
-use Prim.Native.Nat.{ℕ, _*_, _≤_, _<_}
-use mathlib.Core.Path.{refl, sym}
+-- `search_plan::search_plan`: the two tables, the search, and its plan. Assumes nothing.
+use Prim.Native.Nat.{ℕ, _*_, _≤_}
+use mathlib.Core.Path.{_≡_, refl, sym, ap, _∙_}
 use native.Mathlib.Omega.{arith}
-use lib.ListN.{length, take, drop}
-use lib.Seq.{length-take-le}
-use Rattle.filling.specs.Consistent.{sheetIndex}
-use Rattle.fill_laws.specs.Prepared.{Given, given}
-use Rattle.report.proofs.Cutting.{cut, order-few}
-use Rattle.search_plan.proofs.Ordered.{order-arranged}
+use lib.ListN.{length}
+use denote.Ref.{now}
+use Rattle.strips.specs.declared.Rect.{Rect}
+use Rattle.nesting.specs.Rounds.{Swaps}
+use Rattle.nesting.specs.Nest.{nested}
+use Rattle.report.specs.Replies.{replyOf}
+use Rattle.report.proofs.Cutting.{parted, order-few, report-ready}
+use borrow.Author.Needs.{length-unmapped}
 use Rattle.search_plan.proofs.search_plan.Statement.{statement}
 use Rattle.search_plan.proofs.search_plan.Tie as tie
 
-fitting : (n m : ℕ) → n ≤ m → m < 18446744073709551616 → n < 18446744073709551616
-fitting n m h k = omega arith
+as-few : {m n : ℕ} → m ≡ n → n ≤ 4096 → m ≤ 4096
+as-few e h = omega arith
 
-eight : (n m : ℕ) → n ≤ m → m * 8 < 9223372036854775808 → n * 8 < 18446744073709551616
-eight n m h k = omega arith
+as-many : {m n room : ℕ} → m ≡ n → 5 * n ≤ room → 5 * m ≤ room
+as-many e h = omega arith
 
-all : (n : ℕ) → n ≤ n
-all n = omega arith
+two-of : (w m n : ℕ) → m ≡ n → n ≡ 2 * w → 2 * w ≤ m
+two-of w m n e f = omega arith
 
-new-requires : tie.Need-new-requires
-new-requires c κs = tt
+two-tracks-requires : tie.Need-two-tracks-requires
+two-tracks-requires c κs = tt
 
-mul-end : tie.Need-mul-end
-mul-end c = record { fits = fitting (6 * c .before .before .before .before .before .before .before .before .before .before .before .before .before .before .before .before .before .args .apart-strips) (length (c .before .before .before .before .before .before .before .before .before .before .before .before .before .before .before .before .before .args .shapes .now)) (c .before .before .before .before .before .before .before .before .before .before .before .before .before .before .before .before .before .pre .2) (c .before .before .before .before .before .before .before .before .before .before .before .before .before .before .before .before .before .good .1 .1 .1 .1 .1 .1 .1 .1 .1 .1 .1 .0 .0) }
+two-spots-requires : tie.Need-two-spots-requires
+two-spots-requires c κs = tt
 
-mul-sheet-end : tie.Need-mul-sheet-end
-mul-sheet-end c = record { fits = fitting (6 * c .before .before .before .before .before .before .before .before .before .before .before .before .before .before .before .before .before .args .sheet-strips) (length (c .before .before .before .before .before .before .before .before .before .before .before .before .before .before .before .before .before .args .sheet .now)) (c .before .before .before .before .before .before .before .before .before .before .before .before .before .before .before .before .before .pre .1) (c .before .before .before .before .before .before .before .before .before .before .before .before .before .before .before .before .before .good .1 .1 .1 .1 .1 .1 .1 .1 .1 .1 .1 .1 .0 .0) }
+slice-aggregate-search : tie.Need-slice-aggregate-search
+slice-aggregate-search c =
+    let c8 = c .before .before .before .before .before .before .before .before in
+    sym (c8 .two-tracks .ensures)
 
-slice-aggregate-swap-search : tie.Need-slice-aggregate-swap-search
-slice-aggregate-swap-search c = sym (length-take-le (6 * c .before .before .before .before .before .before .before .before .before .before .before .before .before .before .before .before .before .before .before .args .apart-strips) (c .before .before .before .before .before .before .before .before .before .before .before .before .before .before .before .before .before .before .before .args .shapes .now) (c .before .before .before .before .before .before .before .before .before .before .before .before .before .before .before .before .before .before .before .pre .2))
+slice-aggregate-search-2 : tie.Need-slice-aggregate-search-2
+slice-aggregate-search-2 c =
+    let c8 = c .before .before .before .before .before .before .before .before in
+    sym (c8 .two-spots .ensures)
 
-mul-swap-search : tie.Need-mul-swap-search
-mul-swap-search c = record { fits = eight (6 * c .before .before .before .before .before .before .before .before .before .before .before .before .before .before .before .before .before .before .before .args .apart-strips) (length (c .before .before .before .before .before .before .before .before .before .before .before .before .before .before .before .before .before .before .before .args .shapes .now)) (c .before .before .before .before .before .before .before .before .before .before .before .before .before .before .before .before .before .before .before .pre .2) (c .before .before .before .before .before .before .before .before .before .before .before .before .before .before .before .before .before .before .before .good .1 .1 .1 .1 .1 .1 .1 .1 .1 .1 .1 .0 .1) }
+search-requires : tie.Need-search-requires
+search-requires c κs =
+    let c8 = c .before .before .before .before .before .before .before .before in
+    let c9 = c8 .before in
+    let c21 = c9 .before .before .before .before .before .before .before .before .before .before .before .before in
+    let p = c21 .pre in (
+      (p .0 .0, p .0 .1, p .0 .2),
+      p .1,
+      p .2,
+      two-of 6144 (length (c9 .two-tracks .result)) (length (c9 .two-tracks .result)) refl (c9 .two-tracks .ensures),
+      two-of 8192 (length (c8 .two-spots .result)) (length (c8 .two-spots .result)) refl (c8 .two-spots .ensures),
+      p .4,
+    )
 
-sub-swap-search : tie.Need-sub-swap-search
-sub-swap-search c = c .before .before .before .before .before .before .before .before .before .before .before .before .before .before .before .before .before .before .before .pre .2
+slice-aggregate-report-kept : tie.Need-slice-aggregate-report-kept
+slice-aggregate-report-kept c =
+    let c16 = c .before .before .before .before .before .before .before .before .before .before .before .before .before .before .before .before in
+    let c32 = c16 .before .before .before .before .before .before .before .before .before .before .before .before .before .before .before .before in
+    let c34 = c32 .before .before in
+    sym (length-unmapped _ (c34 .args .tables .parts) 4096 (c34 .good .0 .1 .1 .1 .1 .1 .1 .1 .0 .1 .0 .1))
 
-part-swap-search-start : tie.Need-part-swap-search-start
-part-swap-search-start c = c .before .before .before .before .before .before .before .before .before .before .before .before .before .before .before .before .before .before .before .pre .2
+slice-aggregate-report-kept-2 : tie.Need-slice-aggregate-report-kept-2
+slice-aggregate-report-kept-2 c =
+    let c13 = c .before .before .before .before .before .before .before .before .before .before .before .before .before in
+    let c23 = c13 .before .before .before .before .before .before .before .before .before .before in
+    sym (c13 .search .kept .1 .1 .1 .1 .1 .1 .1 .1 .1 .1 .1 .1 .1 .0 ∙ c23 .two-tracks .ensures)
 
-part-swap-search-end : tie.Need-part-swap-search-end
-part-swap-search-end c = all (length (c .before .before .before .before .before .before .before .before .before .before .before .before .before .before .before .before .before .before .before .args .shapes .now))
+slice-aggregate-report-kept-3 : tie.Need-slice-aggregate-report-kept-3
+slice-aggregate-report-kept-3 c =
+    let c14 = c .before .before .before .before .before .before .before .before .before .before .before .before .before .before in
+    let c23 = c14 .before .before .before .before .before .before .before .before .before in
+    sym (c14 .search .kept .1 .1 .1 .1 .1 .1 .1 .1 .1 .1 .1 .1 .1 .1 .0 ∙ c23 .two-spots .ensures)
 
-slice-aggregate-swap-search-2 : tie.Need-slice-aggregate-swap-search-2
-slice-aggregate-swap-search-2 c = sym (length-take-le (6 * c .before .before .before .before .before .before .before .before .before .before .before .before .before .before .before .before .before .before .before .before .before .args .sheet-strips) (c .before .before .before .before .before .before .before .before .before .before .before .before .before .before .before .before .before .before .before .before .before .args .sheet .now) (c .before .before .before .before .before .before .before .before .before .before .before .before .before .before .before .before .before .before .before .before .before .pre .1))
-
-slice-aggregate-swap-search-3 : tie.Need-slice-aggregate-swap-search-3
-slice-aggregate-swap-search-3 c = refl
-
-slice-aggregate-swap-search-4 : tie.Need-slice-aggregate-swap-search-4
-slice-aggregate-swap-search-4 c = refl
-
-slice-aggregate-swap-search-5 : tie.Need-slice-aggregate-swap-search-5
-slice-aggregate-swap-search-5 c = refl
-
-slice-aggregate-swap-search-6 : tie.Need-slice-aggregate-swap-search-6
-slice-aggregate-swap-search-6 c = refl
-
-slice-aggregate-swap-search-7 : tie.Need-slice-aggregate-swap-search-7
-slice-aggregate-swap-search-7 c = refl
-
-slice-aggregate-swap-search-8 : tie.Need-slice-aggregate-swap-search-8
-slice-aggregate-swap-search-8 c = refl
-
-slice-aggregate-swap-search-9 : tie.Need-slice-aggregate-swap-search-9
-slice-aggregate-swap-search-9 c = refl
-
-slice-aggregate-swap-search-10 : tie.Need-slice-aggregate-swap-search-10
-slice-aggregate-swap-search-10 c = refl
-
-swap-search-requires : tie.Need-swap-search-requires
-swap-search-requires c κs = let a = c .before .before .before .before .before .before .before .before .before .before .before .before .before .before .before .before .before .before .before .before .before .before .before .before .before .before .before .before .before .before .before .before .before .before .before .before .args in let p = c .before .before .before .before .before .before .before .before .before .before .before .before .before .before .before .before .before .before .before .before .before .before .before .before .before .before .before .before .before .before .before .before .before .before .before .before .pre in let g : Given = given (sheetIndex (a .bounds)) (a .bounds) (a .resolution) (a .rows .now) (a .areas .now) (a .inset-bounds .now) (a .parts .now) (take (6 * a .apart-strips) (a .shapes .now)) (drop (6 * a .apart-strips) (a .shapes .now)) (take (6 * a .sheet-strips) (a .sheet .now)) (a .sheet-entries .now) (a .sheet-starts .now) in let r = order-arranged (p .0 .0) g (p .0 .1) (a .order .now) (p .0 .2) in let few = order-few (p .0 .0) g (p .0 .1) (a .order .now) r in
-    ((p .0 .0, (cut (p .0 .0) (a .bounds) (a .resolution) (a .rows .now) (a .areas .now) (a .inset-bounds .now) (a .parts .now) (6 * a .apart-strips) (a .shapes .now) (take (6 * a .sheet-strips) (a .sheet .now)) (a .sheet-entries .now) (a .sheet-starts .now) (c .before .before .before .before .before .before .before .before .before .before .before .before .before .before .before .before .before .before .before .new .result) (c .before .before .before .before .before .before .before .before .before .before .before .before .before .before .before .before .before .before .before .new .ensures) (p .0 .1)), r), refl, refl, refl, refl, few, few, few, refl, p .3, p .4, p .5, p .6)
+report-kept-requires : tie.Need-report-kept-requires
+report-kept-requires c κs =
+    let c15 = c .before .before .before .before .before .before .before .before .before .before .before .before .before .before .before in
+    let c24 = c15 .before .before .before .before .before .before .before .before .before in
+    let c25 = c24 .before in
+    let c37 = c25 .before .before .before .before .before .before .before .before .before .before .before .before in
+    let a = c37 .args in
+    let p = c37 .pre in
+    let s = c15 .search in
+    let few = order-few (p .0 .0) _ (p .0 .1) (now (a .order)) (p .0 .2) in
+    let q = report-ready (p .0 .0) _ (p .0 .1) (s .last .1 .1 .1 .0) (as-few (s .kept .1 .1 .1 .0) few) (a .kinds) (p .0 .3) (s .result .verdict)
+    (λ _. s .ensures .1 (p .0 .0) (p .0 .2)) 4096 4096 4096 1024 (length (now (a .positions))) refl refl refl refl (as-many (s .kept .1 .1 .1 .0) (p .3)) in (
+      q .0,
+      q .1,
+      q .6,
+      q .7,
+      q .8,
+      q .9,
+      s .ensures .2,
+      two-of 6144 (length (s .last .1 .1 .1 .1 .1 .1 .1 .1 .1 .1 .1 .1 .1 .0)) (length (c25 .two-tracks .result))
+          (s .kept .1 .1 .1 .1 .1 .1 .1 .1 .1 .1 .1 .1 .1 .0) (c25 .two-tracks .ensures),
+      two-of 8192 (length (s .last .1 .1 .1 .1 .1 .1 .1 .1 .1 .1 .1 .1 .1 .1 .0)) (length (c24 .two-spots .result))
+          (s .kept .1 .1 .1 .1 .1 .1 .1 .1 .1 .1 .1 .1 .1 .1 .0) (c24 .two-spots .ensures),
+    )
 
 same-length : tie.Need-same-length
-same-length c = c .before .before .before .before .before .before .before .before .before .before .before .before .before .before .before .before .before .before .before .before .before .before .before .before .swap-search .kept .1 .1 .1 .1 .1 .0
+same-length c =
+    let c16 = c .before .before .before .before .before .before .before .before .before .before .before .before .before .before .before .before in
+    let c18 = c16 .before .before in
+    c18 .search .kept .1 .1 .1 .0
 
 same-length-2 : tie.Need-same-length-2
-same-length-2 c = c .before .before .before .before .before .before .before .before .before .before .before .before .before .before .before .before .before .before .before .before .before .before .before .before .swap-search .kept .1 .1 .1 .1 .1 .1 .1 .1 .1 .1 .1 .1 .1 .1 .1 .0
+same-length-2 c =
+    let c16 = c .before .before .before .before .before .before .before .before .before .before .before .before .before .before .before .before in
+    let c18 = c16 .before .before in
+    c18 .search .kept .1 .1 .1 .1 .1 .1 .1 .1 .1 .1 .0
 
 same-length-3 : tie.Need-same-length-3
-same-length-3 c = c .before .before .before .before .before .before .before .before .before .before .before .before .before .before .before .before .before .before .before .before .before .before .before .before .swap-search .kept .1 .1 .1 .1 .1 .1 .1 .1 .1 .1 .1 .1 .1 .1 .1 .1 .0
+same-length-3 c =
+    let c16 = c .before .before .before .before .before .before .before .before .before .before .before .before .before .before .before .before in
+    let c18 = c16 .before .before in
+    c18 .search .kept .1 .1 .1 .1 .1 .1 .1 .1 .1 .1 .1 .0
 
 same-length-4 : tie.Need-same-length-4
-same-length-4 c = c .before .before .before .before .before .before .before .before .before .before .before .before .before .before .before .before .before .before .before .before .before .before .before .before .swap-search .kept .1 .1 .1 .1 .1 .1 .1 .1 .1 .1 .1 .1 .1 .1 .1 .1 .1 .1 .1 .0
+same-length-4 c =
+    let c16 = c .before .before .before .before .before .before .before .before .before .before .before .before .before .before .before .before in
+    let c18 = c16 .before .before in
+    c18 .search .kept .1 .1 .1 .1 .1 .1 .1 .1 .1 .1 .1 .1 .0
 
 same-length-5 : tie.Need-same-length-5
-same-length-5 c = c .before .before .before .before .before .before .before .before .before .before .before .before .before .before .before .before .before .before .before .before .before .before .before .before .swap-search .kept .1 .1 .1 .1 .1 .1 .1 .1 .1 .1 .1 .1 .1 .1 .1 .1 .1 .1 .1 .1 .1 .1 .1 .1 .1 .1 .0
-
-same-length-6 : tie.Need-same-length-6
-same-length-6 c = c .before .before .before .before .before .before .before .before .before .before .before .before .before .before .before .before .before .before .before .before .before .before .before .before .swap-search .kept .1 .1 .1 .1 .1 .1 .1 .1 .1 .1 .1 .1 .1 .1 .1 .1 .1 .1 .1 .1 .1 .1 .1 .1 .1 .1 .1 .0
-
-same-length-7 : tie.Need-same-length-7
-same-length-7 c = c .before .before .before .before .before .before .before .before .before .before .before .before .before .before .before .before .before .before .before .before .before .before .before .before .swap-search .kept .1 .1 .1 .1 .1 .1 .1 .1 .1 .1 .1 .1 .1 .1 .1 .1 .1 .1 .1 .1 .1 .1 .1 .1 .1 .1 .1 .1 .0
-
-same-length-8 : tie.Need-same-length-8
-same-length-8 c = c .before .before .before .before .before .before .before .before .before .before .before .before .before .before .before .before .before .before .before .before .before .before .before .before .swap-search .kept .1 .1 .1 .1 .1 .1 .1 .1 .1 .1 .1 .1 .1 .1 .1 .1 .1 .1 .1 .1 .1 .1 .1 .1 .1 .1 .1 .1 .1 .0
+same-length-5 c = c .before .before .report-kept .kept .1 .1 .1 .1 .1 .1 .1 .1 .1 .0
 
 returns : tie.Need-returns
-returns c = let a = c .before .before .before .before .before .before .before .before .before .before .before .before .before .before .before .before .before .before .before .before .before .before .before .before .before .before .before .before .before .before .before .before .before .before .before .before .before .before .before .before .before .before .before .before .before .before .before .before .before .before .before .before .before .before .before .before .before .before .before .before .before .args in let g : Given = given (sheetIndex (a .bounds)) (a .bounds) (a .resolution) (a .rows .now) (a .areas .now) (a .inset-bounds .now) (a .parts .now) (take (6 * a .apart-strips) (a .shapes .now)) (drop (6 * a .apart-strips) (a .shapes .now)) (take (6 * a .sheet-strips) (a .sheet .now)) (a .sheet-entries .now) (a .sheet-starts .now) in
-    λ j l h eo es en d e f. (c .before .before .before .before .before .before .before .before .before .before .before .before .before .before .before .before .before .before .before .before .before .before .before .before .swap-search .last .1 .1 .1 .1 .1 .1 .1 .1 .1 .1 .1 .1 .1 .1 .1 .1 .1 .1 .1 .1 .1 .1 .1 .1 .1 .0, c .before .before .before .before .before .before .before .before .before .before .before .before .before .before .before .before .before .before .before .before .before .before .before .before .swap-search .ensures j (cut j (a .bounds) (a .resolution) (a .rows .now) (a .areas .now) (a .inset-bounds .now) (a .parts .now) (6 * a .apart-strips) (a .shapes .now) (take (6 * a .sheet-strips) (a .sheet .now)) (a .sheet-entries .now) (a .sheet-starts .now) (c .before .before .before .before .before .before .before .before .before .before .before .before .before .before .before .before .before .before .before .before .before .before .before .before .before .before .before .before .before .before .before .before .before .before .before .before .before .before .before .before .before .before .before .before .new .result) (c .before .before .before .before .before .before .before .before .before .before .before .before .before .before .before .before .before .before .before .before .before .before .before .before .before .before .before .before .before .before .before .before .before .before .before .before .before .before .before .before .before .before .before .before .new .ensures) h) (order-arranged j g h (a .order .now) eo) l d e f eo es en)
+returns c =
+    let c16 = c .before .before .before .before .before .before .before .before .before .before .before .before .before .before .before .before in
+    let c18 = c16 .before .before in
+    let c34 = c18 .before .before .before .before .before .before .before .before .before .before .before .before .before .before .before .before in
+    let c40 = c34 .before .before .before .before .before .before in
+    let a = c40 .args in
+    λ j l P r n es d e f z.
+    c .before .before .report-kept .ensures j (now (a .areas)) l (P .tabled) n (sym (ap (λ (b : Rect). b .right) (P .bounds)))
+    (parted j _ P (now (a .shapes)) (6 * a .tables .«apart_strips») refl) z
+    ∙ ap (λ (s : Swaps). replyOf (nested j l s)) (c18 .search .ensures .0 j P r l d e f es)
 
 pub search-plan-spec : {M : Type 1} → statement M
 search-plan-spec =
     tie.close
     (tie.spec
-    new-requires
-    mul-end
-    mul-sheet-end
-    slice-aggregate-swap-search
-    mul-swap-search
-    sub-swap-search
-    part-swap-search-start
-    part-swap-search-end
-    slice-aggregate-swap-search-2
-    slice-aggregate-swap-search-3
-    slice-aggregate-swap-search-4
-    slice-aggregate-swap-search-5
-    slice-aggregate-swap-search-6
-    slice-aggregate-swap-search-7
-    slice-aggregate-swap-search-8
-    slice-aggregate-swap-search-9
-    slice-aggregate-swap-search-10
-    swap-search-requires
+    two-tracks-requires
+    two-spots-requires
+    slice-aggregate-search
+    slice-aggregate-search-2
+    search-requires
+    slice-aggregate-report-kept
+    slice-aggregate-report-kept-2
+    slice-aggregate-report-kept-3
+    report-kept-requires
     same-length
     same-length-2
     same-length-3
     same-length-4
     same-length-5
-    same-length-6
-    same-length-7
-    same-length-8
     returns)

@@ -1,49 +1,34 @@
 -- `start::begin` meets its contract. Assumes nothing.
-use mathlib.Core.Path.{_≡_, refl, sym, ap, subst, _∙_}
-use native.Mathlib.Omega.{arith}
+use mathlib.Core.Path.{sym}
 use native.Mathlib.Nat.{le-of-eq}
-use Prim.Native.Nat.{ℕ, _+_, _≤_, _<_}
+use Rattle.job.proofs.Whole.{read-as}
 use Rattle.start.proofs.Starting.{job-accepted, job-refused}
-use Rattle.job.specs.declared.JobRead.{JobRead}
-use Rattle.job.specs.Meaning.{jobRead}
-use borrow.Author.Needs.{needs}
 use Rattle.start.proofs.begin.Statement.{statement}
 use Rattle.start.proofs.begin.Tie as tie
-use Rattle.start.proofs.begin.Reads as reads
-use Rattle.start.proofs.begin.Lts as lts
 
-slice-aggregate-read-job : tie.Need-slice-aggregate-read-job
-slice-aggregate-read-job c = refl
+read-requires : tie.Need-read-requires
+read-requires c κs = tt
 
-slice-aggregate-read-job-2 : tie.Need-slice-aggregate-read-job-2
-slice-aggregate-read-job-2 c = refl
-
-slice-aggregate-read-job-3 : tie.Need-slice-aggregate-read-job-3
-slice-aggregate-read-job-3 c = refl
-
-slice-aggregate-read-job-4 : tie.Need-slice-aggregate-read-job-4
-slice-aggregate-read-job-4 c = refl
-
-slice-aggregate-read-job-5 : tie.Need-slice-aggregate-read-job-5
-slice-aggregate-read-job-5 c = refl
-
-read-job-requires : tie.Need-read-job-requires
-read-job-requires c κs = search needs
-
-enum-known-h : tie.Need-enum-known-h
-enum-known-h c = search needs
+enum-known-answer : tie.Need-enum-known-answer
+enum-known-answer c = c .match .keys1
 
 slice-aggregate-begin-job : tie.Need-slice-aggregate-begin-job
-slice-aggregate-begin-job c = search needs
+slice-aggregate-begin-job c = sym (c .before .before .before .before .before .before .read .ensures .1)
 
 slice-aggregate-begin-job-2 : tie.Need-slice-aggregate-begin-job-2
-slice-aggregate-begin-job-2 c = search needs
+slice-aggregate-begin-job-2 c =
+    let c7 = c .before .before .before .before .before .before .before in
+    sym (c7 .read .ensures .3)
 
 begin-job-requires : tie.Need-begin-job-requires
-begin-job-requires c κs = (le-of-eq (sym (c .before .before .before .before .before .before .before .before .before .before .before .before .before .read-job .kept .1 .0)), le-of-eq (sym (c .before .before .before .before .before .before .before .before .before .before .before .before .before .read-job .kept .1 .1 .1 .0)), ((c .before .before .before .before .before .before .before .before .before .before .before .before .before .read-job .last .1 .1 .0), le-of-eq (sym (c .before .before .before .before .before .before .before .before .before .before .before .before .before .read-job .kept .1 .1 .0)), (c .before .before .before .before .before .before .before .before .before .before .before .before .before .read-job .ensures ∙ ap (λ (t : JobRead). jobRead t (c .before .before .before .before .before .before .before .before .before .before .before .before .before .before .before .before .before .before .before .before .before .before .before .before .args .bytes .now) (c .before .before .before .before .before .before .before .before .before .before .before .before .before .read-job .last .1 .0) (c .before .before .before .before .before .before .before .before .before .before .before .before .before .read-job .last .1 .1 .0) (c .before .before .before .before .before .before .before .before .before .before .before .before .before .read-job .last .1 .1 .1 .0)) (c .before .before .before .before .before .before .h .given .1))))
+begin-job-requires c κs =
+    let c10 = c .before .before .before .before .before .before .before .before .before .before in
+    let t = c10 .read in
+    let e = read-as _ (t .result) (t .ensures .0) (c .before .before .before .before .before .before .answer .given .1) in
+    (le-of-eq (sym (t .ensures .1)), le-of-eq (sym (t .ensures .3)), (t .result .areas, le-of-eq (sym (t .ensures .2)), e))
 
-enum-known-k : tie.Need-enum-known-k
-enum-known-k c = search needs
+enum-known-answer-2 : tie.Need-enum-known-answer-2
+enum-known-answer-2 c = c .match .keys2
 
 refused-requires : tie.Need-refused-requires
 refused-requires c κs = tt
@@ -58,26 +43,33 @@ same-length-3 : tie.Need-same-length-3
 same-length-3 c = c .before .before .before .before .before .before .begin-job .kept .1 .1 .1 .1 .1 .1 .1 .1 .1 .1 .0
 
 returns : tie.Need-returns
-returns c = λ l C q. job-accepted (c .before .before .before .before .before .before .before .before .before .before .before .before .before .before .before .before .before .before .before .before .before .before .before .before .before .before .before .before .before .before .before .args .bytes .now) (c .before .before .before .before .before .before .before .before .before .before .before .before .before .before .before .before .before .before .before .before .before .before .before .before .before .before .before .before .before .before .before .args .order .now) l _ (c .before .before .before .before .before .before .begin-job .result) (c .before .before .before .before .before .before .begin-job .last .1 .1 .1 .1 .1 .1 .1 .1 .0) (c .before .before .before .before .before .before .begin-job .last .1 .1 .1 .1 .1 .1 .1 .1 .1 .0) (c .before .before .before .before .before .before .begin-job .last .1 .1 .1 .1 .1 .1 .1 .1 .1 .1 .0) (c .before .before .before .before .before .before .before .before .before .before .before .before .before .before .before .before .before .before .before .before .read-job .ensures ∙ ap (λ (t : JobRead). jobRead t (c .before .before .before .before .before .before .before .before .before .before .before .before .before .before .before .before .before .before .before .before .before .before .before .before .before .before .before .before .before .before .before .args .bytes .now) (c .before .before .before .before .before .before .before .before .before .before .before .before .before .before .before .before .before .before .before .before .read-job .last .1 .0) (c .before .before .before .before .before .before .before .before .before .before .before .before .before .before .before .before .before .before .before .before .read-job .last .1 .1 .0) (c .before .before .before .before .before .before .before .before .before .before .before .before .before .before .before .before .before .before .before .before .read-job .last .1 .1 .1 .0)) (c .before .before .before .before .before .before .before .before .before .before .before .before .before .h .given .1)) (c .before .before .before .before .before .before .begin-job .ensures _ l (c .before .before .before .before .before .before .before .before .before .before .before .before .before .before .before .before .before .before .before .before .read-job .ensures ∙ ap (λ (t : JobRead). jobRead t (c .before .before .before .before .before .before .before .before .before .before .before .before .before .before .before .before .before .before .before .before .before .before .before .before .before .before .before .before .before .before .before .args .bytes .now) (c .before .before .before .before .before .before .before .before .before .before .before .before .before .before .before .before .before .before .before .before .read-job .last .1 .0) (c .before .before .before .before .before .before .before .before .before .before .before .before .before .before .before .before .before .before .before .before .read-job .last .1 .1 .0) (c .before .before .before .before .before .before .before .before .before .before .before .before .before .before .before .before .before .before .before .before .read-job .last .1 .1 .1 .0)) (c .before .before .before .before .before .before .before .before .before .before .before .before .before .h .given .1)) C q)
+returns c =
+    let c6 = c .before .before .before .before .before .before in
+    let c13 = c6 .before .before .before .before .before .before .before in
+    let c17 = c13 .before .before .before .before in
+    let c23 = c17 .before .before .before .before .before .before in
+    let e = read-as _ (c17 .read .result) (c17 .read .ensures .0) (c13 .answer .given .1) in
+    λ l C q. job-accepted (c23 .args .bytes .now) (c23 .args .order .now) l _ (c6 .begin-job .result) _ _ _ e (c6 .begin-job .ensures _ l e C q)
 
 returns-2 : tie.Need-returns-2
-returns-2 c = λ l C q. job-refused (c .before .before .before .before .before .before .before .before .before .before .before .before .before .before .before .before .before .before .before .before .args .bytes .now) (c .before .before .before .before .before .before .before .before .before .before .before .before .before .before .before .before .before .before .before .before .args .order .now) l _ (c .refused .result) (c .before .before .before .before .before .before .before .before .before .before .before .before .before .before .before .before .before .before .before .before .args .shapes .now) (c .before .before .before .before .before .before .before .before .before .before .before .before .before .before .before .before .before .before .before .before .args .sheet .now) (c .before .before .before .before .before .before .before .before .before .before .before .before .before .before .before .before .before .before .before .before .args .sheet-entries .now) C (c .before .before .before .before .before .before .before .before .before .read-job .ensures ∙ ap (λ (t : JobRead). jobRead t (c .before .before .before .before .before .before .before .before .before .before .before .before .before .before .before .before .before .before .before .before .args .bytes .now) (c .before .before .before .before .before .before .before .before .before .read-job .last .1 .0) (c .before .before .before .before .before .before .before .before .before .read-job .last .1 .1 .0) (c .before .before .before .before .before .before .before .before .before .read-job .last .1 .1 .1 .0)) (c .before .before .k .given .1)) (c .refused .ensures)
+returns-2 c =
+    let c6 = c .before .before .before .before .before .before in
+    let c12 = c6 .before .before .before .before .before .before in
+    let a = c12 .args in
+    let e = read-as _ (c6 .read .result) (c6 .read .ensures .0) (c .before .before .answer2 .given .1) in
+    λ l C q. job-refused (a .bytes .now) (a .order .now) l _ (c .refused .result)
+    (a .shapes .now) (a .sheet .now) (a .sheet-entries .now) C e (c .refused .ensures)
 
 pub begin-spec : {M : Type 1} → statement M
 begin-spec =
     tie.close
     (tie.spec
-    slice-aggregate-read-job
-    slice-aggregate-read-job-2
-    slice-aggregate-read-job-3
-    slice-aggregate-read-job-4
-    slice-aggregate-read-job-5
-    read-job-requires
-    enum-known-h
+    read-requires
+    enum-known-answer
     slice-aggregate-begin-job
     slice-aggregate-begin-job-2
     begin-job-requires
-    enum-known-k
+    enum-known-answer-2
     refused-requires
     same-length
     same-length-2

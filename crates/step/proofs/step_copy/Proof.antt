@@ -1,207 +1,190 @@
-use Prim.Native.Nat.{ℕ, _+_, _*_}
-use mathlib.Core.Path.{_≡_, refl, sym, ap, _∙_}
-use lib.ListN.{length, length-replicate}
+-- `step_copy`: the next copy of a state and its rooms. Assumes nothing.
+use Prim.Native.Nat.{ℕ, _*_, _/_}
+use native.Mathlib.Nat.{le-of-eq}
+use mathlib.Core.Path.{sym, subst, _∙_}
+use lib.ListN.{length, take, length-replicate}
+use lib.Seq.{length-take-le}
+use lib.Dec.{T}
 use borrow.Author.Needs.{length-unmapped}
-use Rattle.place.specs.Placing.{done}
-use Rattle.core_step.specs.Checked.{rooms}
-use Rattle.step.proofs.Steps.{below, next-place, room-zeros, kind-few, taken-few, checked-of, code-of, step-taken, step-refused}
-use borrow.Author.Needs.{needs}
+use Rattle.tracks.specs.Tracks.{nextColumns, lookCounts}
+use Rattle.filling_laws.proofs.Ready.{InDoubles}
+use Rattle.step.specs.Going.{rooms}
+use Rattle.step.proofs.After.{below}
+use Rattle.step.proofs.Allowed.{field-fit, six, kind-few, taken-few, sheet-within, apart-within, slots-few, turns-few}
+use Rattle.step.proofs.Allowed.{allowed-counts, allowed-fixed, allowed-standing}
+use Rattle.step.proofs.Steps.{room-zeros, code-of, step-answer}
 use Rattle.step.proofs.step_copy.Statement.{statement}
 use Rattle.step.proofs.step_copy.Tie as tie
 use Rattle.step.proofs.step_copy.Reads as reads
 use Rattle.step.proofs.step_copy.Lts as lts
-use Rattle.core_step.proofs.core_step.Reads as core-step-reads
+use Rattle.place.proofs.copy_at.Reads as copy-at-reads
+use Rattle.place.proofs.place_copy.Reads as place-copy-reads
 use Rattle.rooms.proofs.zero.Reads as zero-reads
-use Rattle.step.proofs.copy_at.Reads as copy-at-reads
-use Rattle.step.proofs.verdict_of.Reads as verdict-of-reads
+use Rattle.step.proofs.answer.Reads as answer-reads
+use Rattle.choose.proofs.grid_of.Reads as grid-of-reads
+use Rattle.step.proofs.totals_of.Reads as totals-of-reads
+use Rattle.step.proofs.tracks_of.Reads as tracks-of-reads
 
--- src/lib.rt:74:24
 slice-aggregate-copy-at : tie.Need-slice-aggregate-copy-at
 slice-aggregate-copy-at c =
-    let a = c .before .before .before .before .before .before .before .before .before .before .before .before .args in
-    let g = c .before .before .before .before .before .before .before .before .before .before .before .before .good .1 .1 .0 .1 .1 in
-    let p = c .before .before .before .before .before .before .before .before .before .before .before .before .pre in
-    let w = rooms (a .shapes .now) (a .sheet .now) (a .placed .now) (a .sheet-entries .now) (a .entries .now) in
-    sym (length-unmapped _ (a .state .order) 4096 (g .1 .0 .1 .0 .1))
+    let c12 = c .before .before .before .before .before .before .before .before .before .before .before .before in
+    sym (length-unmapped _ (c12 .args .state .order) 4096 (c12 .good .1 .1 .0 .1 .1 .1 .0 .1 .0 .1))
 
--- src/lib.rt:74:9
 copy-at-requires : tie.Need-copy-at-requires
 copy-at-requires c κs =
-    let a = c .before .before .before .before .before .before .before .before .before .before .before .before .args in
-    let g = c .before .before .before .before .before .before .before .before .before .before .before .before .good .1 .1 .0 .1 .1 in
-    let p = c .before .before .before .before .before .before .before .before .before .before .before .before .pre in
-    let w = rooms (a .shapes .now) (a .sheet .now) (a .placed .now) (a .sheet-entries .now) (a .entries .now) in (
-      below (a .state .taken) (length (a .state .order)) (taken-few (p .0) (a .state) w (a .rows .now) (a .areas .now) (a .sheet-starts .now) (a .starts .now) (p .1)) (length-unmapped _ (a .state .order) 4096 (g .1 .0 .1 .0 .1)),
-      kind-few (p .0) (a .state) w (a .rows .now) (a .areas .now) (a .sheet-starts .now) (a .starts .now) (p .1),
-      p .1 .tabled .rows-long,
-      p .1 .tabled .areas-long,
+    let c12 = c .before .before .before .before .before .before .before .before .before .before .before .before in
+    let s = c12 .args .state in
+    let G = c12 .pre .1 in (
+      below (s .taken) (length (s .order)) (taken-few G) (length-unmapped _ (s .order) 4096 (c12 .good .1 .1 .0 .1 .1 .1 .0 .1 .0 .1)),
+      kind-few G,
+      G .tabled .rows-long,
+      G .tabled .areas-long,
     )
 
--- src/lib.rt:104:9
-slice-aggregate-core-step : tie.Need-slice-aggregate-core-step
-slice-aggregate-core-step c =
-    let a = c .before .before .before .before .before .before .before .before .before .before .before .before .before .before .before .before .before .before .before .before .before .before .before .before .args in
-    let g = c .before .before .before .before .before .before .before .before .before .before .before .before .before .before .before .before .before .before .before .before .before .before .before .before .good .1 .1 .0 .1 .1 in
-    let p = c .before .before .before .before .before .before .before .before .before .before .before .before .before .before .before .before .before .before .before .before .before .before .before .before .pre in
-    let w = rooms (a .shapes .now) (a .sheet .now) (a .placed .now) (a .sheet-entries .now) (a .entries .now) in
-    sym (length-unmapped _ (a .state .tables .«inset_bounds») 4096 (g .0 .1 .1 .1 .1 .1 .1 .0 .1 .0 .1))
+grid-of-requires : tie.Need-grid-of-requires
+grid-of-requires c κs = tt
 
--- src/lib.rt:105:9
-slice-aggregate-core-step-2 : tie.Need-slice-aggregate-core-step-2
-slice-aggregate-core-step-2 c =
-    let a = c .before .before .before .before .before .before .before .before .before .before .before .before .before .before .before .before .before .before .before .before .before .before .before .before .before .args in
-    let g = c .before .before .before .before .before .before .before .before .before .before .before .before .before .before .before .before .before .before .before .before .before .before .before .before .before .good .1 .1 .0 .1 .1 in
-    let p = c .before .before .before .before .before .before .before .before .before .before .before .before .before .before .before .before .before .before .before .before .before .before .before .before .before .pre in
-    let w = rooms (a .shapes .now) (a .sheet .now) (a .placed .now) (a .sheet-entries .now) (a .entries .now) in
-    sym (length-unmapped _ (a .state .tables .parts) 4096 (g .0 .1 .1 .1 .1 .1 .1 .1 .0 .1 .0 .1))
+totals-of-requires : tie.Need-totals-of-requires
+totals-of-requires c κs = tt
 
--- src/lib.rt:113:9
-slice-aggregate-core-step-3 : tie.Need-slice-aggregate-core-step-3
-slice-aggregate-core-step-3 c = search needs
+mul-end : tie.Need-mul-end
+mul-end c =
+    let c16 = c .before .before .before .before .before .before .before .before .before .before .before .before .before .before .before .before in
+    let c19 = c16 .before .before .before in
+    let a = c19 .args in
+    record { fits = six (a .state .tables .«sheet_strips») (length (a .sheet .now)) (sheet-within (c19 .pre .1)) (c19 .good .1 .1 .1 .1 .0 .0) }
 
--- src/lib.rt:115:9
-slice-aggregate-core-step-4 : tie.Need-slice-aggregate-core-step-4
-slice-aggregate-core-step-4 c =
-    let a = c .before .before .before .before .before .before .before .before .before .before .before .before .before .before .before .before .before .before .before .before .before .before .before .before .before .before .before .before .before .before .before .args in
-    let g = c .before .before .before .before .before .before .before .before .before .before .before .before .before .before .before .before .before .before .before .before .before .before .before .before .before .before .before .before .before .before .before .good .1 .1 .0 .1 .1 in
-    let p = c .before .before .before .before .before .before .before .before .before .before .before .before .before .before .before .before .before .before .before .before .before .before .before .before .before .before .before .before .before .before .before .pre in
-    let w = rooms (a .shapes .now) (a .sheet .now) (a .placed .now) (a .sheet-entries .now) (a .entries .now) in
-    sym (length-unmapped _ (a .state .«look_counts») 1024 (g .1 .1 .1 .1 .0 .1 .0 .1))
+tracks-of-requires : tie.Need-tracks-of-requires
+tracks-of-requires c κs = tt
 
--- src/lib.rt:116:9
-slice-aggregate-core-step-5 : tie.Need-slice-aggregate-core-step-5
-slice-aggregate-core-step-5 c =
-    let a = c .before .before .before .before .before .before .before .before .before .before .before .before .before .before .before .before .before .before .before .before .before .before .before .before .before .before .before .before .before .before .before .before .args in
-    let g = c .before .before .before .before .before .before .before .before .before .before .before .before .before .before .before .before .before .before .before .before .before .before .before .before .before .before .before .before .before .before .before .before .good .1 .1 .0 .1 .1 in
-    let p = c .before .before .before .before .before .before .before .before .before .before .before .before .before .before .before .before .before .before .before .before .before .before .before .before .before .before .before .before .before .before .before .before .pre in
-    let w = rooms (a .shapes .now) (a .sheet .now) (a .placed .now) (a .sheet-entries .now) (a .entries .now) in
-    sym (length-unmapped _ (a .state .«next_column») 1024 (g .1 .1 .1 .0 .1 .0 .1))
+slice-aggregate-place-copy : tie.Need-slice-aggregate-place-copy
+slice-aggregate-place-copy c =
+    let c16 = c .before .before .before .before .before .before .before .before .before .before .before .before .before .before .before .before in
+    let c21 = c16 .before .before .before .before .before in
+    sym (length-unmapped _ (c21 .args .state .tables .«inset_bounds») 4096 (c21 .good .1 .1 .0 .1 .1 .0 .1 .1 .1 .1 .1 .1 .0 .1 .0 .1))
 
--- src/lib.rt:117:9
-slice-aggregate-core-step-6 : tie.Need-slice-aggregate-core-step-6
-slice-aggregate-core-step-6 c =
-    let a = c .before .before .before .before .before .before .before .before .before .before .before .before .before .before .before .before .before .before .before .before .before .before .before .before .before .before .before .before .before .before .before .before .before .args in
-    let g = c .before .before .before .before .before .before .before .before .before .before .before .before .before .before .before .before .before .before .before .before .before .before .before .before .before .before .before .before .before .before .before .before .before .good .1 .1 .0 .1 .1 in
-    let p = c .before .before .before .before .before .before .before .before .before .before .before .before .before .before .before .before .before .before .before .before .before .before .before .before .before .before .before .before .before .before .before .before .before .pre in
-    let w = rooms (a .shapes .now) (a .sheet .now) (a .placed .now) (a .sheet-entries .now) (a .entries .now) in
-    sym (length-unmapped _ (a .state .layout .orientation) 4096 (g .1 .1 .1 .1 .1 .1 .0 .1 .1 .0 .1 .0 .1))
+slice-aggregate-place-copy-2 : tie.Need-slice-aggregate-place-copy-2
+slice-aggregate-place-copy-2 c =
+    let c16 = c .before .before .before .before .before .before .before .before .before .before .before .before .before .before .before .before in
+    let c22 = c16 .before .before .before .before .before .before in
+    sym (length-unmapped _ (c22 .args .state .tables .parts) 4096 (c22 .good .1 .1 .0 .1 .1 .0 .1 .1 .1 .1 .1 .1 .1 .0 .1 .0 .1))
 
--- src/lib.rt:118:9
-slice-aggregate-core-step-7 : tie.Need-slice-aggregate-core-step-7
-slice-aggregate-core-step-7 c =
-    let a = c .before .before .before .before .before .before .before .before .before .before .before .before .before .before .before .before .before .before .before .before .before .before .before .before .before .before .before .before .before .before .before .before .before .before .args in
-    let g = c .before .before .before .before .before .before .before .before .before .before .before .before .before .before .before .before .before .before .before .before .before .before .before .before .before .before .before .before .before .before .before .before .before .before .good .1 .1 .0 .1 .1 in
-    let p = c .before .before .before .before .before .before .before .before .before .before .before .before .before .before .before .before .before .before .before .before .before .before .before .before .before .before .before .before .before .before .before .before .before .before .pre in
-    let w = rooms (a .shapes .now) (a .sheet .now) (a .placed .now) (a .sheet-entries .now) (a .entries .now) in
-    sym (length-unmapped _ (a .state .layout .x) 4096 (g .1 .1 .1 .1 .1 .1 .0 .1 .1 .1 .0 .1 .0 .1))
+slice-aggregate-place-copy-3 : tie.Need-slice-aggregate-place-copy-3
+slice-aggregate-place-copy-3 c =
+    let c16 = c .before .before .before .before .before .before .before .before .before .before .before .before .before .before .before .before in
+    let c23 = c16 .before .before .before .before .before .before .before in
+    let a = c23 .args in sym (length-take-le (6 * a .state .tables .«sheet_strips») (a .sheet .now) (sheet-within (c23 .pre .1)))
 
--- src/lib.rt:119:9
-slice-aggregate-core-step-8 : tie.Need-slice-aggregate-core-step-8
-slice-aggregate-core-step-8 c =
-    let a = c .before .before .before .before .before .before .before .before .before .before .before .before .before .before .before .before .before .before .before .before .before .before .before .before .before .before .before .before .before .before .before .before .before .before .before .args in
-    let g = c .before .before .before .before .before .before .before .before .before .before .before .before .before .before .before .before .before .before .before .before .before .before .before .before .before .before .before .before .before .before .before .before .before .before .before .good .1 .1 .0 .1 .1 in
-    let p = c .before .before .before .before .before .before .before .before .before .before .before .before .before .before .before .before .before .before .before .before .before .before .before .before .before .before .before .before .before .before .before .before .before .before .before .pre in
-    let w = rooms (a .shapes .now) (a .sheet .now) (a .placed .now) (a .sheet-entries .now) (a .entries .now) in
-    sym (length-unmapped _ (a .state .layout .y) 4096 (g .1 .1 .1 .1 .1 .1 .0 .1 .1 .1 .1 .0 .1 .0 .1))
+slice-aggregate-place-copy-4 : tie.Need-slice-aggregate-place-copy-4
+slice-aggregate-place-copy-4 c = sym (length-replicate {A = ℕ} 512 0)
 
--- src/lib.rt:91:9
-core-step-requires : tie.Need-core-step-requires
-core-step-requires c κs =
-    let a = c .before .before .before .before .before .before .before .before .before .before .before .before .before .before .before .before .before .before .before .before .before .before .before .before .before .before .before .before .before .before .before .before .before .before .before .args in
-    let g = c .before .before .before .before .before .before .before .before .before .before .before .before .before .before .before .before .before .before .before .before .before .before .before .before .before .before .before .before .before .before .before .before .before .before .before .good .1 .1 .0 .1 .1 in
-    let p = c .before .before .before .before .before .before .before .before .before .before .before .before .before .before .before .before .before .before .before .before .before .before .before .before .before .before .before .before .before .before .before .before .before .before .before .pre in
-    let w = rooms (a .shapes .now) (a .sheet .now) (a .placed .now) (a .sheet-entries .now) (a .entries .now) in (
-      p .0,
-      a .state,
-      checked-of (p .0) (a .state) w (a .rows .now) (a .areas .now) (a .sheet-starts .now) (a .starts .now) (p .1) (c .before .before .before .before .before .before .before .before .before .before .before .before .before .before .before .before .before .before .before .before .before .before .copy-at .result) (c .before .before .before .before .before .before .before .before .before .before .before .before .before .before .before .before .before .before .before .before .before .before .copy-at .ensures),
-      refl,
-      refl,
-      refl,
-      length-unmapped _ (a .state .tables .«inset_bounds») 4096 (g .0 .1 .1 .1 .1 .1 .1 .0 .1 .0 .1),
-      length-unmapped _ (a .state .tables .parts) 4096 (g .0 .1 .1 .1 .1 .1 .1 .1 .0 .1 .0 .1),
-      length-unmapped _ (a .state .«look_counts») 1024 (g .1 .1 .1 .1 .0 .1 .0 .1),
-      length-unmapped _ (a .state .«next_column») 1024 (g .1 .1 .1 .0 .1 .0 .1),
+slice-aggregate-place-copy-5 : tie.Need-slice-aggregate-place-copy-5
+slice-aggregate-place-copy-5 c =
+    let c9 = c .before .before .before .before .before .before .before .before .before in
+    sym (c9 .tracks-of .ensures .0)
+
+place-copy-requires : tie.Need-place-copy-requires
+place-copy-requires c κs =
+    let c9 = c .before .before .before .before .before .before .before .before .before in
+    let c13 = c9 .before .before .before .before in
+    let c14 = c13 .before in
+    let c16 = c14 .before .before in
+    let c22 = c16 .before .before .before .before .before .before in
+    let c25 = c22 .before .before .before in
+    let c26 = c25 .before in
+    let c29 = c26 .before .before .before in
+    let a = c29 .args in
+    let s = a .state in
+    let t = c29 .good .1 .1 .0 .1 .1 .0 .1 .1 in
+    let b = t .1 .0 .1 .1 in
+    let i = t .1 .1 .1 .1 .0 in
+    let G = c29 .pre .1 in
+    let D : InDoubles s (rooms (a .shapes .now) (a .sheet .now) (a .placed .now) (a .sheet-entries .now) (a .entries .now)) =
+    record {
+      resolution = subst T (sym (t .0 .1)) tt;
+      sheet-bounds =
+          record {
+            left = subst T (sym (b .0 .1)) tt;
+            bottom = subst T (sym (b .1 .0 .1)) tt;
+            right = subst T (sym (b .1 .1 .0 .1)) tt;
+            top = subst T (sym (b .1 .1 .1 .0 .1)) tt;
+          };
+      inset-bounds = field-fit (s .tables .«inset_bounds») (i .0) (i .1 .1);
+      shapes = c26 .shared-slice-known3 .given;
+      sheet = c25 .shared-slice-known4 .given;
+      placed = c22 .slice-known .given;
+    } in (
+      allowed-fixed G D (length-unmapped _ (s .tables .«inset_bounds») 4096 (i .1 .0 .1))
+          (length-unmapped _ (s .tables .parts) 4096 (t .1 .1 .1 .1 .1 .0 .1 .0 .1)) (length (a .intervals .now) / 2)
+          (take (6 * c13 .totals-of .result .«placed_strips») (a .placed .now)) (c14 .grid-of .result) (c14 .grid-of .ensures)
+          (c16 .copy-at .result) (c16 .copy-at .ensures),
+      slots-few G (c16 .copy-at .result) (c16 .copy-at .ensures),
+      le-of-eq (sym (c9 .tracks-of .ensures .0)),
+      allowed-counts G (c16 .copy-at .result) (c16 .copy-at .ensures) D (lookCounts (c9 .tracks-of .result)) (c9 .tracks-of .ensures .2),
+      allowed-standing G D (c14 .grid-of .result) (c14 .grid-of .ensures) (c13 .totals-of .result) (c13 .totals-of .ensures),
       length-replicate {A = ℕ} 512 0,
-      below (a .state .taken) (length (a .state .layout .orientation)) (taken-few (p .0) (a .state) w (a .rows .now) (a .areas .now) (a .sheet-starts .now) (a .starts .now) (p .1)) (length-unmapped _ (a .state .layout .orientation) 4096 (g .1 .1 .1 .1 .1 .1 .0 .1 .1 .0 .1 .0 .1)),
-      below (a .state .taken) (length (a .state .layout .x)) (taken-few (p .0) (a .state) w (a .rows .now) (a .areas .now) (a .sheet-starts .now) (a .starts .now) (p .1)) (length-unmapped _ (a .state .layout .x) 4096 (g .1 .1 .1 .1 .1 .1 .0 .1 .1 .1 .0 .1 .0 .1)),
-      below (a .state .taken) (length (a .state .layout .y)) (taken-few (p .0) (a .state) w (a .rows .now) (a .areas .now) (a .sheet-starts .now) (a .starts .now) (p .1)) (length-unmapped _ (a .state .layout .y) 4096 (g .1 .1 .1 .1 .1 .1 .0 .1 .1 .1 .1 .0 .1 .0 .1)),
-      taken-few (p .0) (a .state) w (a .rows .now) (a .areas .now) (a .sheet-starts .now) (a .starts .now) (p .1),
+      apart-within G (c14 .grid-of .result) (c14 .grid-of .ensures),
     )
 
--- src/lib.rt:121:5
 zero-requires : tie.Need-zero-requires
-zero-requires c κs = search needs
+zero-requires c κs = tt
 
--- src/lib.rt:122:17
-add-taken : tie.Need-add-taken
-add-taken c =
-    let a = c .before .before .before .before .before .before .before .before .before .before .before .before .before .before .before .before .before .before .before .before .before .before .before .before .before .before .before .before .before .before .before .before .before .before .before .before .before .before .before .before .before .before .before .before .before .before .before .before .before .before .before .before .before .before .args in
-    let g = c .before .before .before .before .before .before .before .before .before .before .before .before .before .before .before .before .before .before .before .before .before .before .before .before .before .before .before .before .before .before .before .before .before .before .before .before .before .before .before .before .before .before .before .before .before .before .before .before .before .before .before .before .before .before .good .1 .1 .0 .1 .1 in
-    let p = c .before .before .before .before .before .before .before .before .before .before .before .before .before .before .before .before .before .before .before .before .before .before .before .before .before .before .before .before .before .before .before .before .before .before .before .before .before .before .before .before .before .before .before .before .before .before .before .before .before .before .before .before .before .before .pre in
-    let w = rooms (a .shapes .now) (a .sheet .now) (a .placed .now) (a .sheet-entries .now) (a .entries .now) in
-    record { fits = next-place (a .state .taken) (taken-few (p .0) (a .state) w (a .rows .now) (a .areas .now) (a .sheet-starts .now) (a .starts .now) (p .1)) }
+slice-aggregate-answer : tie.Need-slice-aggregate-answer
+slice-aggregate-answer c =
+    let c15 = c .before .before .before .before .before .before .before .before .before .before .before .before .before .before .before in
+    let c25 = c15 .before .before .before .before .before .before .before .before .before .before in
+    sym (c15 .place-copy .kept .1 .1 .1 .1 .1 .1 .1 .1 .1 .1 .1 .1 .1 .1 .0 ∙ c25 .tracks-of .ensures .0)
 
--- src/lib.rt:124:11
-verdict-of-requires : tie.Need-verdict-of-requires
-verdict-of-requires c κs = search needs
+answer-requires : tie.Need-answer-requires
+answer-requires c κs =
+    let c15 = c .before .before .before .before .before .before .before .before .before .before .before .before .before .before .before in
+    let c25 = c15 .before .before .before .before .before .before .before .before .before .before in
+    let c32 = c25 .before .before .before .before .before .before .before in
+    let c45 = c32 .before .before .before .before .before .before .before .before .before .before .before .before .before in
+    let G = c45 .pre .1 in (
+      taken-few G,
+      c15 .place-copy .ensures .2,
+      turns-few G (c32 .copy-at .result) (c32 .copy-at .ensures),
+      le-of-eq (sym (c15 .place-copy .kept .1 .1 .1 .1 .1 .1 .1 .1 .1 .1 .1 .1 .1 .1 .0 ∙ c25 .tracks-of .ensures .0)),
+    )
 
--- src/lib.rt:126:22
-enum-told : tie.Need-enum-told
-enum-told c = search needs
-
--- src/lib.rt:143:26
-enum-known-r : tie.Need-enum-known-r
-enum-known-r c = search needs
-
--- src/lib.rt:55:1
 same-length : tie.Need-same-length
-same-length c = c .before .before .before .before .before .before .before .before .before .before .before .before .before .before .before .before .before .before .before .before .before .core-step .kept .1 .1 .1 .1 .1 .1 .1 .1 .1 .1 .1 .1 .1 .1 .1 .1 .1 .1 .0
+same-length c =
+    let c16 = c .before .before .before .before .before .before .before .before .before .before .before .before .before .before .before .before in
+    c16 .place-copy .kept .1 .1 .1 .1 .1 .1 .1 .1 .1 .0
 
--- src/lib.rt:55:1
 same-length-2 : tie.Need-same-length-2
-same-length-2 c = c .before .before .before .before .before .before .before .before .before .before .before .before .before .before .before .before .before .before .before .before .before .core-step .kept .1 .1 .1 .1 .1 .1 .1 .1 .1 .1 .1 .1 .1 .1 .1 .1 .1 .1 .1 .0
+same-length-2 c =
+    let c16 = c .before .before .before .before .before .before .before .before .before .before .before .before .before .before .before .before in
+    c16 .place-copy .kept .1 .1 .1 .1 .1 .1 .1 .1 .1 .1 .0
 
--- src/lib.rt:55:1
 same-length-3 : tie.Need-same-length-3
-same-length-3 c = c .before .before .before .before .before .before .before .before .before .before .before .before .before .before .before .before .before .before .before .before .before .core-step .kept .1 .1 .1 .1 .1 .1 .1 .1 .1 .1 .1 .1 .1 .1 .1 .1 .1 .1 .1 .1 .0
+same-length-3 c =
+    let c16 = c .before .before .before .before .before .before .before .before .before .before .before .before .before .before .before .before in
+    c16 .place-copy .kept .1 .1 .1 .1 .1 .1 .1 .1 .1 .1 .1 .0
 
--- src/lib.rt:55:1
 same-length-4 : tie.Need-same-length-4
-same-length-4 c = c .before .before .before .before .before .zero .kept .0 ∙ c .before .before .before .before .before .before .before .before .before .before .before .before .before .before .before .before .before .before .before .before .before .core-step .kept .1 .1 .1 .1 .1 .1 .1 .1 .1 .1 .1 .1 .1 .1 .1 .1 .1 .1 .1 .1 .1 .1 .0
+same-length-4 c =
+    let c16 = c .before .before .before .before .before .before .before .before .before .before .before .before .before .before .before .before in
+    c .before .before .before .before .zero .kept .0 ∙ c16 .place-copy .kept .1 .1 .1 .1 .1 .1 .1 .1 .1 .1 .1 .1 .1 .0
 
--- src/lib.rt:55:1
 returns : tie.Need-returns
 returns c =
-    let a = c .before .before .before .before .before .before .before .before .before .before .before .before .before .before .before .before .before .before .before .before .before .before .before .before .before .before .before .before .before .before .before .before .before .before .before .before .before .before .before .before .before .before .before .before .before .before .before .before .before .before .before .before .before .before .before .before .before .args in
-    let g = c .before .before .before .before .before .before .before .before .before .before .before .before .before .before .before .before .before .before .before .before .before .before .before .before .before .before .before .before .before .before .before .before .before .before .before .before .before .before .before .before .before .before .before .before .before .before .before .before .before .before .before .before .before .before .before .before .before .good .1 .1 .0 .1 .1 in
-    let p = c .before .before .before .before .before .before .before .before .before .before .before .before .before .before .before .before .before .before .before .before .before .before .before .before .before .before .before .before .before .before .before .before .before .before .before .before .before .before .before .before .before .before .before .before .before .before .before .before .before .before .before .before .before .before .before .before .before .pre in
-    let w = rooms (a .shapes .now) (a .sheet .now) (a .placed .now) (a .sheet-entries .now) (a .entries .now) in
-    λ j G. step-taken j (a .state) w (a .rows .now) (a .areas .now) (a .sheet-starts .now) (a .starts .now) G (a .intervals .now) (length-unmapped _ (a .state .«look_counts») 1024 (g .1 .1 .1 .1 .0 .1 .0 .1)) _ (c .before .before .before .before .before .before .before .before .before .before .before .before .before .before .before .before .before .before .before .before .before .core-step .ensures .0 ∙ code-of j (a .state) w (a .rows .now) (a .areas .now) (a .sheet-starts .now) (a .starts .now) G (a .intervals .now) (length-unmapped _ (a .state .«look_counts») 1024 (g .1 .1 .1 .1 .0 .1 .0 .1)) (c .before .before .before .before .before .before .before .before .before .before .before .before .before .before .before .before .before .before .before .before .before .before .before .before .before .before .before .before .before .before .before .before .before .before .before .before .before .before .before .before .before .before .before .before .copy-at .result) (c .before .before .before .before .before .before .before .before .before .before .before .before .before .before .before .before .before .before .before .before .before .before .before .before .before .before .before .before .before .before .before .before .before .before .before .before .before .before .before .before .before .before .before .before .copy-at .ensures)) (sym (c .before .before .verdict-of .ensures) ∙ c .enum-told .given .1) _ _ _ (c .before .before .before .before .before .before .before .before .before .before .before .before .before .before .before .before .before .before .before .before .before .core-step .ensures .1) (c .before .before .before .before .before .before .before .before .before .before .before .before .before .before .before .before .before .before .before .before .before .core-step .ensures .2) (c .before .before .before .before .before .before .before .before .before .before .before .before .before .before .before .before .before .before .before .before .before .core-step .ensures .3) _ (c .before .before .before .before .before .zero .ensures ∙ room-zeros (a .intervals .now) _ (c .before .before .before .before .before .before .before .before .before .before .before .before .before .before .before .before .before .before .before .before .before .core-step .kept .1 .1 .1 .1 .1 .1 .1 .1 .1 .1 .1 .1 .1 .1 .1 .1 .1 .1 .1 .1 .1 .1 .0))
-
--- src/lib.rt:55:1
-same-length-5 : tie.Need-same-length-5
-same-length-5 c = c .before .before .before .before .before .before .before .before .before .before .before .before .before .before .before .before .before .before .before .before .before .before .core-step .kept .1 .1 .1 .1 .1 .1 .1 .1 .1 .1 .1 .1 .1 .1 .1 .1 .1 .1 .0
-
--- src/lib.rt:55:1
-same-length-6 : tie.Need-same-length-6
-same-length-6 c = c .before .before .before .before .before .before .before .before .before .before .before .before .before .before .before .before .before .before .before .before .before .before .core-step .kept .1 .1 .1 .1 .1 .1 .1 .1 .1 .1 .1 .1 .1 .1 .1 .1 .1 .1 .1 .0
-
--- src/lib.rt:55:1
-same-length-7 : tie.Need-same-length-7
-same-length-7 c = c .before .before .before .before .before .before .before .before .before .before .before .before .before .before .before .before .before .before .before .before .before .before .core-step .kept .1 .1 .1 .1 .1 .1 .1 .1 .1 .1 .1 .1 .1 .1 .1 .1 .1 .1 .1 .1 .0
-
--- src/lib.rt:55:1
-same-length-8 : tie.Need-same-length-8
-same-length-8 c = c .before .before .before .before .before .before .zero .kept .0 ∙ c .before .before .before .before .before .before .before .before .before .before .before .before .before .before .before .before .before .before .before .before .before .before .core-step .kept .1 .1 .1 .1 .1 .1 .1 .1 .1 .1 .1 .1 .1 .1 .1 .1 .1 .1 .1 .1 .1 .1 .0
-
--- src/lib.rt:55:1
-returns-2 : tie.Need-returns-2
-returns-2 c =
-    let a = c .before .before .before .before .before .before .before .before .before .before .before .before .before .before .before .before .before .before .before .before .before .before .before .before .before .before .before .before .before .before .before .before .before .before .before .before .before .before .before .before .before .before .before .before .before .before .before .before .before .before .before .before .before .before .before .before .before .before .args in
-    let g = c .before .before .before .before .before .before .before .before .before .before .before .before .before .before .before .before .before .before .before .before .before .before .before .before .before .before .before .before .before .before .before .before .before .before .before .before .before .before .before .before .before .before .before .before .before .before .before .before .before .before .before .before .before .before .before .before .before .before .good .1 .1 .0 .1 .1 in
-    let p = c .before .before .before .before .before .before .before .before .before .before .before .before .before .before .before .before .before .before .before .before .before .before .before .before .before .before .before .before .before .before .before .before .before .before .before .before .before .before .before .before .before .before .before .before .before .before .before .before .before .before .before .before .before .before .before .before .before .before .pre in
-    let w = rooms (a .shapes .now) (a .sheet .now) (a .placed .now) (a .sheet-entries .now) (a .entries .now) in
-    λ j G. step-refused j (a .state) w (a .rows .now) (a .areas .now) (a .sheet-starts .now) (a .starts .now) G (a .intervals .now) (length-unmapped _ (a .state .«look_counts») 1024 (g .1 .1 .1 .1 .0 .1 .0 .1)) _ (c .before .before .before .before .before .before .before .before .before .before .before .before .before .before .before .before .before .before .before .before .before .before .core-step .ensures .0 ∙ code-of j (a .state) w (a .rows .now) (a .areas .now) (a .sheet-starts .now) (a .starts .now) G (a .intervals .now) (length-unmapped _ (a .state .«look_counts») 1024 (g .1 .1 .1 .1 .0 .1 .0 .1)) (c .before .before .before .before .before .before .before .before .before .before .before .before .before .before .before .before .before .before .before .before .before .before .before .before .before .before .before .before .before .before .before .before .before .before .before .before .before .before .before .before .before .before .before .before .before .copy-at .result) (c .before .before .before .before .before .before .before .before .before .before .before .before .before .before .before .before .before .before .before .before .before .before .before .before .before .before .before .before .before .before .before .before .before .before .before .before .before .before .before .before .before .before .before .before .before .copy-at .ensures)) _ (sym (c .before .before .before .verdict-of .ensures) ∙ c .before .r .given .1) _ (c .before .before .before .before .before .before .zero .ensures ∙ room-zeros (a .intervals .now) _ (c .before .before .before .before .before .before .before .before .before .before .before .before .before .before .before .before .before .before .before .before .before .before .core-step .kept .1 .1 .1 .1 .1 .1 .1 .1 .1 .1 .1 .1 .1 .1 .1 .1 .1 .1 .1 .1 .1 .1 .0))
+    let c16 = c .before .before .before .before .before .before .before .before .before .before .before .before .before .before .before .before in
+    let c26 = c16 .before .before .before .before .before .before .before .before .before .before in
+    let c30 = c26 .before .before .before .before in
+    let c31 = c30 .before in
+    let c33 = c31 .before .before in
+    let c46 = c33 .before .before .before .before .before .before .before .before .before .before .before .before .before in
+    let a = c46 .args in
+    let m = length-unmapped _ (a .state .«look_counts») 1024 (c46 .good .1 .1 .0 .1 .1 .1 .1 .1 .1 .0 .1 .0 .1) in
+    let e = c26 .tracks-of .ensures in
+    λ j G. step-answer G (a .intervals .now) m (c16 .place-copy .result) _ _ _ _
+    (c16 .place-copy .ensures .0 ∙ code-of G (a .intervals .now) m (c31 .grid-of .result) (c33 .copy-at .result) (c30 .totals-of .result)
+    (lookCounts (c26 .tracks-of .result)) (nextColumns (c26 .tracks-of .result))
+    (c31 .grid-of .ensures) (c33 .copy-at .ensures) (c30 .totals-of .ensures) (e .2) (e .1))
+    (c .answer .result) (c .answer .ensures) _
+    (c .before .before .before .before .zero .ensures ∙ room-zeros (a .intervals .now) _ (c16 .place-copy .kept .1 .1 .1 .1 .1 .1 .1 .1 .1 .1 .1 .1 .1 .0))
 
 pub step-copy-spec : {M : Type 1} → statement M
 step-copy-spec =
@@ -209,27 +192,21 @@ step-copy-spec =
     (tie.spec
     slice-aggregate-copy-at
     copy-at-requires
-    slice-aggregate-core-step
-    slice-aggregate-core-step-2
-    slice-aggregate-core-step-3
-    slice-aggregate-core-step-4
-    slice-aggregate-core-step-5
-    slice-aggregate-core-step-6
-    slice-aggregate-core-step-7
-    slice-aggregate-core-step-8
-    core-step-requires
+    grid-of-requires
+    totals-of-requires
+    mul-end
+    tracks-of-requires
+    slice-aggregate-place-copy
+    slice-aggregate-place-copy-2
+    slice-aggregate-place-copy-3
+    slice-aggregate-place-copy-4
+    slice-aggregate-place-copy-5
+    place-copy-requires
     zero-requires
-    add-taken
-    verdict-of-requires
-    enum-told
-    enum-known-r
+    slice-aggregate-answer
+    answer-requires
     same-length
     same-length-2
     same-length-3
     same-length-4
-    returns
-    same-length-5
-    same-length-6
-    same-length-7
-    same-length-8
-    returns-2)
+    returns)

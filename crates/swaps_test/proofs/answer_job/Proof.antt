@@ -1,47 +1,42 @@
 -- `swaps_test::answer_job`: the job is read, then prepared; or its number. Assumes nothing.
-use mathlib.Core.Path.{refl, sym}
-use borrow.Author.Needs.{needs}
+use native.Mathlib.Nat.{le-of-eq}
+use mathlib.Core.Path.{sym}
 use Rattle.readied.proofs.Reading.{read-into}
-use Rattle.swaps_test.proofs.Lent.{at-least}
 use Rattle.swaps_test.proofs.answer_job.Statement.{statement}
 use Rattle.swaps_test.proofs.answer_job.Tie as tie
 
-slice-aggregate-read-job : tie.Need-slice-aggregate-read-job
-slice-aggregate-read-job c = refl
+read-requires : tie.Need-read-requires
+read-requires c κs = tt
 
-slice-aggregate-read-job-2 : tie.Need-slice-aggregate-read-job-2
-slice-aggregate-read-job-2 c = refl
-
-slice-aggregate-read-job-3 : tie.Need-slice-aggregate-read-job-3
-slice-aggregate-read-job-3 c = refl
-
-slice-aggregate-read-job-4 : tie.Need-slice-aggregate-read-job-4
-slice-aggregate-read-job-4 c = refl
-
-slice-aggregate-read-job-5 : tie.Need-slice-aggregate-read-job-5
-slice-aggregate-read-job-5 c = refl
-
-read-job-requires : tie.Need-read-job-requires
-read-job-requires c κs = search needs
-
-enum-known-h : tie.Need-enum-known-h
-enum-known-h c = search needs
+enum-known-answer : tie.Need-enum-known-answer
+enum-known-answer c = c .match .keys1
 
 slice-aggregate-prepare-job : tie.Need-slice-aggregate-prepare-job
-slice-aggregate-prepare-job c = sym (c .before .before .before .before .before .before .before .before .before .read-job .kept .1 .0)
+slice-aggregate-prepare-job c =
+    let c7 = c .before .before .before .before .before .before .before in
+    sym (c7 .read .ensures .1)
 
 slice-aggregate-prepare-job-2 : tie.Need-slice-aggregate-prepare-job-2
-slice-aggregate-prepare-job-2 c = sym (c .before .before .before .before .before .before .before .before .before .before .read-job .kept .1 .1 .0)
+slice-aggregate-prepare-job-2 c =
+    let c8 = c .before .before .before .before .before .before .before .before in
+    sym (c8 .read .ensures .2)
 
 slice-aggregate-prepare-job-3 : tie.Need-slice-aggregate-prepare-job-3
-slice-aggregate-prepare-job-3 c = sym (c .before .before .before .before .before .before .before .before .before .before .before .read-job .kept .1 .1 .1 .0)
+slice-aggregate-prepare-job-3 c =
+    let c9 = c .before .before .before .before .before .before .before .before .before in
+    sym (c9 .read .ensures .3)
 
 prepare-job-requires : tie.Need-prepare-job-requires
-prepare-job-requires c κs = let a = c .before .before .before .before .before .before .before .before .before .before .before .before .before .before .before .before .before .before .args in let j = c .before .before .before .before .before .before .before .before .before .before .before .read-job in
-    ((_, read-into (a .bytes .now) _ _ _ (j .result) (j .ensures) _ _ _ (c .before .before .before .before .h .given .1) (at-least (j .kept .1 .0)) (at-least (j .kept .1 .1 .0))), at-least (j .kept .1 .1 .1 .0))
+prepare-job-requires c κs =
+    let c9 = c .before .before .before .before .before .before .before .before .before in
+    let t = c9 .read in
+    let m = le-of-eq (sym (t .ensures .1)) in
+    let n = le-of-eq (sym (t .ensures .2)) in
+    let R = read-into _ _ _ _ (t .result .answer) (t .ensures .0) _ _ _ (c .before .before .before .before .answer .given .1) m n in
+    ((_, R), le-of-eq (sym (t .ensures .3)))
 
-enum-known-k : tie.Need-enum-known-k
-enum-known-k c = search needs
+enum-known-answer-2 : tie.Need-enum-known-answer-2
+enum-known-answer-2 c = c .match .keys2
 
 print-refusal-requires : tie.Need-print-refusal-requires
 print-refusal-requires c κs = tt
@@ -56,18 +51,13 @@ pub answer-job-spec : {M : Type 1} → statement M
 answer-job-spec =
     tie.close
     (tie.spec
-    slice-aggregate-read-job
-    slice-aggregate-read-job-2
-    slice-aggregate-read-job-3
-    slice-aggregate-read-job-4
-    slice-aggregate-read-job-5
-    read-job-requires
-    enum-known-h
+    read-requires
+    enum-known-answer
     slice-aggregate-prepare-job
     slice-aggregate-prepare-job-2
     slice-aggregate-prepare-job-3
     prepare-job-requires
-    enum-known-k
+    enum-known-answer-2
     print-refusal-requires
     returns
     returns-2)

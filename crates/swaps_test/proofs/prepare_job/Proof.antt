@@ -1,11 +1,8 @@
 -- `swaps_test::prepare_job`: prepared in rooms that are zero, then searched; or the refusal. Assumes nothing.
-use mathlib.Core.Path.{_≡_, refl, sym}
-use mathlib.Core.List.{[]}
-use lib.ListN.{replicate}
-use borrow.Author.Needs.{needs}
-use Rattle.numbers.specs.Numbers.{posZero}
-use Rattle.readied.proofs.Preparing.{starts-zero, ready-given, ready-sheet, ready-shapes}
-use Rattle.swaps_test.proofs.Lent.{rooms, rooms-zero}
+use mathlib.Core.Path.{refl, sym}
+use Rattle.readied.proofs.Preparing.{ready-given, ready-sheet, ready-shapes}
+use Rattle.swaps_test.proofs.Lent.{rooms-zero}
+use borrow.Author.Needs.{length-unmapped}
 use Rattle.swaps_test.proofs.prepare_job.Statement.{statement}
 use Rattle.swaps_test.proofs.prepare_job.Tie as tie
 
@@ -18,49 +15,48 @@ slice-aggregate-prepare-2 c = refl
 slice-aggregate-prepare-3 : tie.Need-slice-aggregate-prepare-3
 slice-aggregate-prepare-3 c = refl
 
-slice-aggregate-prepare-4 : tie.Need-slice-aggregate-prepare-4
-slice-aggregate-prepare-4 c = refl
-
-slice-aggregate-prepare-5 : tie.Need-slice-aggregate-prepare-5
-slice-aggregate-prepare-5 c = refl
-
-slice-aggregate-prepare-6 : tie.Need-slice-aggregate-prepare-6
-slice-aggregate-prepare-6 c = refl
-
-slice-aggregate-prepare-7 : tie.Need-slice-aggregate-prepare-7
-slice-aggregate-prepare-7 c = refl
-
 prepare-requires : tie.Need-prepare-requires
-prepare-requires c κs = let p = c .before .before .before .before .before .before .before .before .before .before .before .pre in (p .0 .1 .tabled .rows-long, p .1, refl, starts-zero, refl, refl, refl)
+prepare-requires c κs =
+    let c7 = c .before .before .before .before .before .before .before in
+    (c7 .pre .0 .1 .tabled .rows-long, c7 .pre .1)
 
-enum-known-bounds : tie.Need-enum-known-bounds
-enum-known-bounds c = search needs
+enum-told : tie.Need-enum-told
+enum-told c = c .match .keys1
 
 slice-aggregate-search : tie.Need-slice-aggregate-search
-slice-aggregate-search c = sym (c .before .before .before .before .before .before .before .before .before .before .before .prepare .kept .1 .1 .1 .1 .1 .1 .1 .1 .1 .1 .0)
+slice-aggregate-search c =
+    let c8 = c .before .before .before .before .before .before .before .before in
+    sym (c8 .prepare .kept .1 .1 .1 .1 .1 .0)
 
 slice-aggregate-search-2 : tie.Need-slice-aggregate-search-2
-slice-aggregate-search-2 c = sym (c .before .before .before .before .before .before .before .before .before .before .before .before .prepare .kept .1 .1 .1 .1 .1 .1 .1 .1 .1 .1 .1 .0)
+slice-aggregate-search-2 c =
+    let c9 = c .before .before .before .before .before .before .before .before .before in
+    sym (c9 .prepare .kept .1 .1 .1 .1 .1 .1 .0)
 
 slice-aggregate-search-3 : tie.Need-slice-aggregate-search-3
-slice-aggregate-search-3 c = sym (c .before .before .before .before .before .before .before .before .before .before .before .before .before .prepare .kept .1 .1 .1 .1 .1 .0)
+slice-aggregate-search-3 c =
+    let c10 = c .before .before .before .before .before .before .before .before .before .before in
+    sym (c10 .prepare .kept .1 .1 .1 .1 .1 .1 .1 .0)
 
 slice-aggregate-search-4 : tie.Need-slice-aggregate-search-4
-slice-aggregate-search-4 c = sym (c .before .before .before .before .before .before .before .before .before .before .before .before .before .before .prepare .kept .1 .1 .1 .1 .1 .1 .0)
-
-slice-aggregate-search-5 : tie.Need-slice-aggregate-search-5
-slice-aggregate-search-5 c = sym (c .before .before .before .before .before .before .before .before .before .before .before .before .before .before .before .prepare .kept .1 .1 .1 .1 .1 .1 .1 .0)
-
-slice-aggregate-search-6 : tie.Need-slice-aggregate-search-6
-slice-aggregate-search-6 c = sym (c .before .before .before .before .before .before .before .before .before .before .before .before .before .before .before .before .prepare .kept .1 .1 .1 .1 .1 .1 .1 .1 .0)
+slice-aggregate-search-4 c =
+    let c11 = c .before .before .before .before .before .before .before .before .before .before .before in
+    sym (length-unmapped _ (c11 .prepare .result .«sheet_starts») 513 (c11 .prepare .ok .1 .1 .1 .1 .0 .1 .0 .1))
 
 search-requires : tie.Need-search-requires
 unfolding lib.Ieee.ofBits
-search-requires c κs = let a = c .before .before .before .before .before .before .before .before .before .before .before .before .before .before .before .before .before .before .before .before .before .before .before .before .before .before .before .before .args in let p = c .before .before .before .before .before .before .before .before .before .before .before .before .before .before .before .before .before .before .before .before .before .before .before .before .before .before .before .before .pre in let e = c .before .before .before .before .before .before .before .bounds .given .1 in let q = c .before .before .before .before .before .before .before .before .before .before .before .before .before .before .before .before .prepare in
-    ((p .0 .0, ready-given (p .0 .0) (a .bytes .now) (a .at) (a .kinds) (a .resolution) (a .rows .now) (a .areas .now) (a .places .now) (p .0 .1) rooms (replicate 8190 posZero) (replicate 8190 posZero) [] (replicate 16384 0) [] [] [] rooms-zero (q .result) _ _ _ _ _ _ (q .ensures (p .0 .0) (p .0 .1 .from)) _ _ _ _ e, p .0 .1 .number), ready-sheet (p .0 .0) (a .bytes .now) (a .at) (a .kinds) (a .resolution) (a .rows .now) (a .areas .now) (a .places .now) (p .0 .1) rooms (replicate 8190 posZero) (replicate 8190 posZero) [] (replicate 16384 0) [] [] [] rooms-zero (q .result) _ _ _ _ _ _ (q .ensures (p .0 .0) (p .0 .1 .from)) _ _ _ _ e, ready-shapes (p .0 .0) (a .bytes .now) (a .at) (a .kinds) (a .resolution) (a .rows .now) (a .areas .now) (a .places .now) (p .0 .1) rooms (replicate 8190 posZero) (replicate 8190 posZero) [] (replicate 16384 0) [] [] [] rooms-zero (q .result) _ _ _ _ _ _ (q .ensures (p .0 .0) (p .0 .1 .from)) _ _ _ _ e)
+search-requires c κs =
+    let c11 = c .before .before .before .before .before .before .before .before .before .before .before in
+    let c19 = c11 .before .before .before .before .before .before .before .before in
+    let p = c19 .pre in
+    let R = p .0 .1 in
+    let q = c11 .prepare .result in
+    let E = c11 .prepare .ensures (p .0 .0) (R .from) (R .header-is) in
+    let e = c .before .before .before .before .enum-told .given .1 in
+    ((p .0 .0, ready-given R rooms-zero q _ _ _ E e, R .header-is, R .number), ready-sheet R rooms-zero q _ _ _ E e, ready-shapes R rooms-zero q _ _ _ E e)
 
-enum-known-k : tie.Need-enum-known-k
-enum-known-k c = search needs
+enum-known-verdict : tie.Need-enum-known-verdict
+enum-known-verdict c = c .match .keys2
 
 print-refusal-requires : tie.Need-print-refusal-requires
 print-refusal-requires c κs = tt
@@ -78,20 +74,14 @@ prepare-job-spec =
     slice-aggregate-prepare
     slice-aggregate-prepare-2
     slice-aggregate-prepare-3
-    slice-aggregate-prepare-4
-    slice-aggregate-prepare-5
-    slice-aggregate-prepare-6
-    slice-aggregate-prepare-7
     prepare-requires
-    enum-known-bounds
+    enum-told
     slice-aggregate-search
     slice-aggregate-search-2
     slice-aggregate-search-3
     slice-aggregate-search-4
-    slice-aggregate-search-5
-    slice-aggregate-search-6
     search-requires
-    enum-known-k
+    enum-known-verdict
     print-refusal-requires
     returns
     returns-2)

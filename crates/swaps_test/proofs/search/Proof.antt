@@ -1,53 +1,88 @@
 -- `swaps_test::search`: the copies are laid in their order, then searched. Assumes nothing.
-use Prim.Native.Nat.{ℕ, _≤_}
+use Prim.Native.Nat.{ℕ, _*_, _≤_}
+use native.Mathlib.Omega.{arith}
 use mathlib.Core.Path.{_≡_, refl, sym, subst, _∙_}
+use lib.ListN.{length}
 use lib.Seq.{length-front}
-use Rattle.nest_order.proofs.Ordered.{copies-upto, order-laid, order-within, order-count}
-use Rattle.swaps_test.proofs.Lent.{order-few}
+use Rattle.nesting.specs.CopyOrder.{copyOrder}
+use Rattle.search_plan.proofs.Ordered.{copies-upto, few-rounds, copies-arranged, order-within, order-count, order-arranged}
 use Rattle.swaps_test.proofs.search.Statement.{statement}
 use Rattle.swaps_test.proofs.search.Tie as tie
+
+two-of : (w n : ℕ) → n ≡ 2 * w → 2 * w ≤ n
+two-of w n e = omega arith
+
+two-tracks-requires : tie.Need-two-tracks-requires
+two-tracks-requires c κs = tt
+
+two-spots-requires : tie.Need-two-spots-requires
+two-spots-requires c κs = tt
 
 slice-aggregate-copy-order : tie.Need-slice-aggregate-copy-order
 slice-aggregate-copy-order c = refl
 
 copy-order-requires : tie.Need-copy-order-requires
-copy-order-requires c κs = let p = c .before .before .before .before .before .before .before .before .before .pre .0 in let t = p .1 .tabled in
-    (subst (λ (m : ℕ). m ≤ 64) (p .2) (t .few), t .rows-long, t .areas-long, copies-upto (p .1 .bytes) (p .0) (p .1 .read) _ _ _ t (p .2))
+copy-order-requires c κs =
+    let c9 = c .before .before .before .before .before .before .before .before .before in
+    let p = c9 .pre .0 in
+    let t = p .1 .tabled in
+    (subst (λ (m : ℕ). m ≤ 64) (p .3) (t .few), t .rows-long, t .areas-long, copies-upto _ (p .0) (p .1 .read) _ _ _ t (p .3))
 
 array-borrow-prefix-order : tie.Need-array-borrow-prefix-order
-array-borrow-prefix-order c = order-within (c .before .before .before .before .before .before .before .before .before .before .before .pre .0 .0) (c .before .copy-order .result) _ _ (c .before .copy-order .ensures (c .before .before .before .before .before .before .before .before .before .before .before .pre .0 .0) (c .before .before .before .before .before .before .before .before .before .before .before .pre .0 .1 .tabled) (c .before .before .before .before .before .before .before .before .before .before .before .pre .0 .2))
+array-borrow-prefix-order c =
+    let c1 = c .before in
+    let c11 = c1 .before .before .before .before .before .before .before .before .before .before in
+    let p = c11 .pre .0 in
+    order-within (copyOrder (p .0)) (c1 .copy-order .result) _ _ (c1 .copy-order .ensures (p .0) (p .1 .tabled) (p .3))
 
-slice-aggregate-search-plan : tie.Need-slice-aggregate-search-plan
-slice-aggregate-search-plan c = order-count (c .before .before .before .before .before .before .before .before .before .before .before .before .pre .0 .0) (c .before .before .copy-order .result) _ _ (c .before .before .copy-order .ensures (c .before .before .before .before .before .before .before .before .before .before .before .before .pre .0 .0) (c .before .before .before .before .before .before .before .before .before .before .before .before .pre .0 .1 .tabled) (c .before .before .before .before .before .before .before .before .before .before .before .before .pre .0 .2))
+slice-aggregate-search : tie.Need-slice-aggregate-search
+slice-aggregate-search c =
+    let c2 = c .before .before in
+    let c12 = c2 .before .before .before .before .before .before .before .before .before .before in
+    let p = c12 .pre .0 in
+    order-count (copyOrder (p .0)) (c2 .copy-order .result) _ _ (c2 .copy-order .ensures (p .0) (p .1 .tabled) (p .3))
 
-slice-aggregate-search-plan-2 : tie.Need-slice-aggregate-search-plan-2
-slice-aggregate-search-plan-2 c = refl
+slice-aggregate-search-2 : tie.Need-slice-aggregate-search-2
+slice-aggregate-search-2 c = refl
 
-slice-aggregate-search-plan-3 : tie.Need-slice-aggregate-search-plan-3
-slice-aggregate-search-plan-3 c = refl
+slice-aggregate-search-3 : tie.Need-slice-aggregate-search-3
+slice-aggregate-search-3 c = refl
 
-slice-aggregate-search-plan-4 : tie.Need-slice-aggregate-search-plan-4
-slice-aggregate-search-plan-4 c = refl
+slice-aggregate-search-4 : tie.Need-slice-aggregate-search-4
+slice-aggregate-search-4 c = refl
 
-slice-aggregate-search-plan-5 : tie.Need-slice-aggregate-search-plan-5
-slice-aggregate-search-plan-5 c = refl
+slice-aggregate-search-5 : tie.Need-slice-aggregate-search-5
+slice-aggregate-search-5 c =
+    let c9 = c .before .before .before .before .before .before .before .before .before in
+    sym (c9 .two-tracks .ensures)
 
-slice-aggregate-search-plan-6 : tie.Need-slice-aggregate-search-plan-6
-slice-aggregate-search-plan-6 c = refl
+slice-aggregate-search-6 : tie.Need-slice-aggregate-search-6
+slice-aggregate-search-6 c =
+    let c9 = c .before .before .before .before .before .before .before .before .before in
+    sym (c9 .two-spots .ensures)
 
-slice-aggregate-search-plan-7 : tie.Need-slice-aggregate-search-plan-7
-slice-aggregate-search-plan-7 c = refl
-
-slice-aggregate-search-plan-8 : tie.Need-slice-aggregate-search-plan-8
-slice-aggregate-search-plan-8 c = refl
-
-search-plan-requires : tie.Need-search-plan-requires
-search-plan-requires c κs = let p = c .before .before .before .before .before .before .before .before .before .before .before .before .before .before .before .before .before .before .before .pre in let d = (c .before .before .before .before .before .before .before .before .before .copy-order .ensures (c .before .before .before .before .before .before .before .before .before .before .before .before .before .before .before .before .before .before .before .pre .0 .0) (c .before .before .before .before .before .before .before .before .before .before .before .before .before .before .before .before .before .before .before .pre .0 .1 .tabled) (c .before .before .before .before .before .before .before .before .before .before .before .before .before .before .before .before .before .before .before .pre .0 .2)) in
-    let f = order-few (p .0 .0) (c .before .before .before .before .before .before .before .before .before .copy-order .result) _ _ d (p .0 .1 .bytes) (p .0 .1 .read) in
-    ((p .0 .0, p .0 .1, order-laid (p .0 .0) (c .before .before .before .before .before .before .before .before .before .copy-order .result) _ _ d), p .1, p .2, refl, f, f, f)
+search-requires : tie.Need-search-requires
+search-requires c κs =
+    let c7 = c .before .before .before .before .before .before .before in
+    let c9 = c7 .before .before in
+    let c10 = c9 .before in
+    let c17 = c10 .before .before .before .before .before .before .before in
+    let p = c17 .pre in
+    let j = p .0 .0 in
+    let D = c7 .copy-order .ensures j (p .0 .1 .tabled) (p .0 .3) in (
+      (j, p .0 .1, order-arranged (copyOrder j) (c7 .copy-order .result) _ _ D j (copies-arranged _ j (p .0 .1 .read))),
+      p .1,
+      p .2,
+      two-of 6144 (length (c10 .two-tracks .result)) (c10 .two-tracks .ensures),
+      two-of 8192 (length (c9 .two-spots .result)) (c9 .two-spots .ensures),
+      few-rounds _ j (p .0 .1 .read) (c17 .args .h) (p .0 .2),
+    )
 
 slice-aggregate-print-round : tie.Need-slice-aggregate-print-round
-slice-aggregate-print-round c = sym (length-front _ (c .before .before .before .before .before .before .before .before .before .search-plan .last .1 .1 .1 .1 .1 .1 .0) (c .before .before .before .before .before .before .before .before .before .before .before .before .before .before .before .before .before .before .before .copy-order .result) (c .before .before .before .before .before .before .before .before .before .search-plan .kept .1 .1 .1 .1 .1 .1 .0) ∙ c .before .before .before .before .before .before .before .before .before .before .before .before .before .before .before .before .before .before .before .copy-order .kept .1 .1 .1 .0)
+slice-aggregate-print-round c =
+    let c7 = c .before .before .before .before .before .before .before in
+    let c15 = c7 .before .before .before .before .before .before .before .before in
+    sym (length-front _ (c7 .search .last .1 .1 .1 .0) (c15 .copy-order .result) (c7 .search .kept .1 .1 .1 .0) ∙ c15 .copy-order .kept .1 .1 .1 .0)
 
 print-round-requires : tie.Need-print-round-requires
 print-round-requires c κs = tt
@@ -59,18 +94,18 @@ pub search-spec : {M : Type 1} → statement M
 search-spec =
     tie.close
     (tie.spec
+    two-tracks-requires
+    two-spots-requires
     slice-aggregate-copy-order
     copy-order-requires
     array-borrow-prefix-order
-    slice-aggregate-search-plan
-    slice-aggregate-search-plan-2
-    slice-aggregate-search-plan-3
-    slice-aggregate-search-plan-4
-    slice-aggregate-search-plan-5
-    slice-aggregate-search-plan-6
-    slice-aggregate-search-plan-7
-    slice-aggregate-search-plan-8
-    search-plan-requires
+    slice-aggregate-search
+    slice-aggregate-search-2
+    slice-aggregate-search-3
+    slice-aggregate-search-4
+    slice-aggregate-search-5
+    slice-aggregate-search-6
+    search-requires
     slice-aggregate-print-round
     print-round-requires
     returns)
