@@ -134,7 +134,7 @@ def broken(line):
         depth, places = 0, []
         for i, sign in enumerate(line[:WIDTH + 1]):
             depth += (sign in "([{") - (sign in ")]}")
-            if sign != " " or i < WIDTH // 4 or re.match(r"\.|=|:|→|↦|in\b|;|,|\)", line[i + 1:]):
+            if sign != " " or i < WIDTH // 4 or re.match(r"\.|=|:|→|↦|in\b|where\b|;|,|\)", line[i + 1:]):
                 continue
             if not re.search(r"(\blet|\bλ|:|=|\(|\bin)$", line[:i]):
                 places.append((i < WIDTH // 2, depth, -i))
