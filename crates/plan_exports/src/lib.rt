@@ -1,4 +1,4 @@
-// What C and Rust may link (`rt staticlib plan_exports`, bench/panel.h): the text of a whole plan, and a
+// What C and Rust may link (`rt staticlib plan_exports`, include/panel.h): the text of a whole plan, and a
 // filling for speed tables, under plain names.
 use index::Entry;
 

@@ -5,11 +5,11 @@
 #define LENGTH(a) (sizeof(a) / sizeof((a)[0]))
 #define LENT(a) a, LENGTH(a)
 
-/* One byte more than a job may have, and the rooms that `plan` lends. */
+/* One byte more than a job of `plan` may have, and the rooms that `plan` lends. */
 static uint8_t job[65537], text[PANEL_TEXT];
-static double shapes[6 * 1365], sheet[6 * 1365], placed[6 * 1365];
-static uint16_t sheet_entries[16384], placed_entries[16384];
-static double intervals[2 * 4096], positions[5 * 4096];
+static double shapes[PANEL_STRIPS], sheet[PANEL_STRIPS], placed[PANEL_STRIPS];
+static uint16_t sheet_entries[PANEL_ENTRIES], placed_entries[PANEL_ENTRIES];
+static double intervals[PANEL_INTERVALS], positions[PANEL_POSITIONS];
 
 int main(void) {
     size_t n = fread(job, 1, sizeof job, stdin);
