@@ -3,11 +3,11 @@
 //! fills, and clears its rooms; the lifted one is given the job read, prepares and fills. Positions
 //! are compared first. fill JOBS RUNS, with a container of jobs as oracle/README.md says.
 #![allow(dead_code, improper_ctypes)]
-#[path = "../oracle/src/job.rs"]
+#[path = "../oracle/rust/job.rs"]
 mod job;
-#[path = "../oracle/src/surroundings.rs"]
+#[path = "../oracle/rust/surroundings.rs"]
 mod surroundings;
-#[path = "../oracle/src/timed.rs"]
+#[path = "../oracle/rust/timed.rs"]
 mod timed;
 mod timing;
 

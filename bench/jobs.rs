@@ -2,7 +2,7 @@
 //! same bytes in the same run: the least of 20 runs of about 2 ms each. The oracle's makes its lists
 //! anew; the proved one clears its tables at each call.
 #![allow(dead_code, improper_ctypes)]
-#[path = "../oracle/src/job.rs"]
+#[path = "../oracle/rust/job.rs"]
 mod job;
 mod timing;
 

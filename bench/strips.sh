@@ -5,8 +5,7 @@ set -eu
 here=$(cd "$(dirname "${BASH_SOURCE[0]}")" && pwd)
 mkdir -p "$here/build"
 # Of the lifted text the pieces that strips need, unchanged.
-awk '/^\/\/ lifted .* (type P2|fn bounds|struct Trapezoid|fn trapezoids)$/ { on = 1 }
-     on { print }
-     /^\/\/ end$/ { on = 0 }' "$here/../oracle/build/lifted.rs" >"$here/build/lifted_strips.rs"
+awk -v want='^(type P2|fn bounds|struct Trapezoid|fn trapezoids)$' -f "$here/../oracle/lift/pieces.awk" \
+    "$here/../oracle/build/lifted.rs" >"$here/build/lifted_strips.rs"
 rustc -O --edition 2021 -o "$here/build/strips" "$here/strips.rs" -L "$here/../target/staticlib" -l static=exports
 exec "$here/build/strips" "$@"

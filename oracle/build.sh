@@ -22,9 +22,9 @@ if [ "$(sha256sum <"$source" | cut -d' ' -f1)" != "$sum" ]; then
     exit 1
 fi
 mkdir -p "$here/build"
-python3 "$here/lift.py" "$source" "$here/build/lifted.rs"
-rustc -O --edition 2021 -o "$here/build/oracle" "$here/src/main.rs"
+python3 "$here/lift/lift.py" "$source" "$here/build/lifted.rs"
+rustc -O --edition 2021 -o "$here/build/oracle" "$here/rust/main.rs"
 if [ $show = yes ]; then
-    python3 "$here/lift.py" --show "$source" "$here/build/lifted.rs"
+    python3 "$here/lift/lift.py" --show "$source" "$here/build/lifted.rs"
 fi
 echo "built $here/build/oracle"

@@ -8,21 +8,21 @@ gen.py --sets OUT N SEED     N sets alone, for --strips
 gen.py --short OUT           every job of 0 to 2 bytes
 gen.py --split IN DIR        writes the jobs of a container as files
 gen.py --check IN ANSWERS    holds the answers of the oracle's reader (its option
-                             --answer, its --out) against the reader of bits.py
+                             --answer, its --out) against the reader of jobs/bits.py
 """
 import os
 import re
 import sys
 
-from bits import answer, pack, pack_fields, read_container, set_fields, write_container
-from cases import case4, fixed, one_bit_changes
-from damage import damaged, every_fault
-from draws import Draws
-from jobs import random_job, random_set
-from large import large
+from jobs.bits import answer, pack, pack_fields, read_container, set_fields, write_container
+from jobs.cases import case4, fixed, one_bit_changes
+from jobs.damage import damaged, every_fault
+from jobs.draws import Draws
+from jobs.large import large
+from jobs.random_jobs import random_job, random_set
 
 
-def jobs(n, seed):
+def generated(n, seed):
     """The fixed jobs, case 4's one-bit changes (all where they are at most
     two fifths), then random and damaged ones, three to two."""
     r = Draws(seed)
@@ -90,9 +90,10 @@ def main():
     elif len(args) == 4 and args[0] == "--sets":
         write_container(args[1], sets(int(args[2]), int(args[3])))
     elif len(args) == 3:
-        write_container(args[0], jobs(int(args[1]), int(args[2])))
+        write_container(args[0], generated(int(args[1]), int(args[2])))
     else:
         sys.exit(__doc__)
 
 
-main()
+if __name__ == "__main__":
+    main()

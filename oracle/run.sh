@@ -6,7 +6,7 @@
 # SHORT=yes runs `plan` on the short jobs too. Where N is 5,000 or more every number that `plan`
 # can print must occur.
 set -u
-here=$(cd "$(dirname "${BASH_SOURCE[0]}")" && pwd)
+. "$(dirname "${BASH_SOURCE[0]}")/needs.sh"
 plan=$here/../target/bin/plan
 [ -x "$plan" ] || plan=
 if [ "${1:-}" = --plan ]; then
@@ -17,15 +17,9 @@ if [ "${1:-}" = --plan ]; then
         exit 2
     fi
 fi
-if [ $# != 2 ]; then
-    sed -n '2,7s/^# //p' "$0" >&2
-    exit 2
-fi
+[ $# = 2 ] || usage
 n=$1 seed=$2
-build=$here/build oracle=$here/build/oracle
-if [ ! -x "$oracle" ] || [ -n "$(find "$here/src" "$here/lift.py" -newer "$oracle")" ]; then
-    "$here/build.sh" || exit 1
-fi
+build=$here/build
 differ=0
 
 # Runs a command that ends with '.., D disagreements' and adds D.

@@ -1,15 +1,14 @@
 #!/usr/bin/env python3
 """Tests of the oracle itself: the starred cases of document 01, the offcuts of document 02, the order of
 refusals where two hold, and every room exact and one short by --rooms."""
-import os
 import re
 import subprocess
 import sys
 
-from bits import bits, double, fields, pack, pack_fields, set_fields
-from cases import CLOCKWISE, TRIANGLE, case4, grid, job, offcut_cases, part, rect, run_cases, starred
+from jobs.bits import bits, double, fields, pack, pack_fields, set_fields
+from jobs.cases import CLOCKWISE, TRIANGLE, case4, grid, job, offcut_cases, part, rect, run_cases, starred
+from jobs.oracle import ORACLE
 
-ORACLE = os.path.join(os.path.dirname(os.path.abspath(__file__)), "build", "oracle")
 CASE4 = """plan 4 1 0
 put 0 0 0 0000000000000000 0000000000000000
 put 0 1 0 0000000000000000 4008000000000000

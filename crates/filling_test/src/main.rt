@@ -1,7 +1,7 @@
 // Replays scripts of calls: start, next copy, a filling in a given order, and the leaf, in rooms that
 // are filled with garbage and in states that are changed by hand. stdin has the commands that
 // oracle/README.md describes; after each call one line has its answer and the state's hash, another
-// every room's. The stored answers are those of the oracle's planner with rooms (oracle/sample-filling.sh),
+// every room's. The stored answers are those of the oracle's planner with rooms (oracle/samples/filling.py),
 // never of this code.
 ghost use Prim.Native.Nat.{_≤_, _<_};
 use filling::State;

@@ -3,7 +3,7 @@
 // sheet, of the placed copies, inset and apart, and of intervals, one byte each; then the sheet's
 // left and right end, the column's x, y_low and y_high by their bits), then all strips by their bits.
 // `se` and `ss` are the sheet's entries and starts, `pe` and `ps` those of the placed strips `put`.
-// The stored answers are those of the lifted Rust (oracle/sample-looks.sh), never of this code.
+// The stored answers are those of the lifted Rust (oracle/samples/look.py), never of this code.
 mod show;
 
 ghost use mathlib.Core.Path.{_≡_};

@@ -1,7 +1,7 @@
 // Replays sets of loops: for each set of the input its strips and its bounds, by their bits. A set is
 // a head of 132 bytes (1 for the sheet, number of loops, number of points in two bytes, then two
 // bytes for the end of each of 64 loops), then each point's x and y by their bits, 16 bytes. The
-// stored answers are those of the lifted Rust (oracle/sample-strips.py), never of this code.
+// stored answers are those of the lifted Rust (oracle/samples/strips.py), never of this code.
 ghost use mathlib.Core.Path.{_≡_};
 ghost use mathlib.Core.Bool.{true};
 ghost use Prim.Native.Nat.{_+_, _*_, _≤_, _<_};

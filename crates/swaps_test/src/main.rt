@@ -1,7 +1,7 @@
 // Replays stored jobs up to their swap search: stdin has a container of jobs (oracle/README.md), and
 // for each a line `job` with its label is printed, then the final order, the improvements and the
 // state of the draws, or `no` and the number of the refusal. The file stdout holds the oracle's
-// answers (oracle/sample-swaps.py); oracle/compare-swaps.sh compares many jobs.
+// answers (oracle/samples/swaps.py); oracle/compare/swaps.sh compares many jobs.
 ghost use mathlib.Core.Path.{_≡_};
 ghost use Prim.Native.Nat.{_*_, _≤_};
 ghost use lib.ListN.{length};

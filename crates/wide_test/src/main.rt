@@ -2,7 +2,7 @@
 // records (oracle/README.md): a label, then one byte for the room that is long (0 shapes, 1 sheet,
 // 2 placed), its slots and those of each entry room in four bytes each, and the job. For each a line
 // `job` with its label and then its plan is printed. The file stdout holds the oracle's answers
-// (oracle/sample-wide.py), never those of this code.
+// (oracle/samples/wide.py), never those of this code.
 ghost use mathlib.Core.Path.{_≡_};
 ghost use Prim.Native.Nat.{_≤_};
 ghost use lib.ListN.{length};

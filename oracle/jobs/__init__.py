@@ -1,0 +1,1 @@
+"""What makes jobs, sets and scripts, and packs them; the same for the same seed everywhere."""

@@ -1,0 +1,20 @@
+"""Where the oracle lies, and its answers to a list of jobs."""
+import os
+import subprocess
+import tempfile
+
+from jobs.bits import read_container, write_container
+
+HERE = os.path.dirname(os.path.dirname(os.path.abspath(__file__)))
+ROOT = os.path.dirname(HERE)
+BUILD = os.path.join(HERE, "build")
+ORACLE = os.path.join(BUILD, "oracle")
+
+
+def answers(jobs, *options):
+    """What the oracle prints for each of some labels and jobs."""
+    with tempfile.TemporaryDirectory() as folder:
+        container, out = os.path.join(folder, "jobs"), os.path.join(folder, "answers")
+        write_container(container, jobs)
+        subprocess.run([ORACLE, *options, "--batch", container, "--out", out], check=True, stdout=subprocess.DEVNULL)
+        return [text.decode() for _, text in read_container(out)]

@@ -1,0 +1,165 @@
+"""Scripts of calls, as oracle/README.md describes them, and what the oracle's trace says of a job."""
+import subprocess
+
+from jobs.bits import bits, double, pack
+from jobs.oracle import ORACLE
+
+ROOMS = ["shapes", "sheet", "placed", "sheet_entries", "placed_entries", "intervals", "positions"]
+SHAPES, SHEET, PLACED, SHEET_ENTRIES, PLACED_ENTRIES, INTERVALS, POSITIONS = range(7)
+RECORD = [6, 6, 6, 1, 1, 2, 5]
+# The numbers of a state, in the order of its fields.
+NUMBERS = ["resolution", "sheet_bounds", "sheet_strips", "apart_strips", "inset_bounds", "parts",
+           "order", "taken", "next_column", "look_counts", "placed_strips", "orientation", "x",
+           "y", "unplaced_area", "right"]
+
+
+# First words of the lines that answer calls; no title begins so.
+CALLS = ["start", "next", "fill", "leaf"]
+
+
+class Script:
+    """The bytes of a script."""
+
+    def __init__(self, seed=1):
+        self.data = bytearray()
+        self.seed = seed
+        self.lengths = [0] * 7
+        # The number that each call must answer, or nothing where that is left to the oracle.
+        self.wanted = []
+
+    def put(self, letter, a=0, n=0, m=0, rest=b""):
+        m = bits(m) if isinstance(m, float) else m
+        self.data += bytes([ord(letter), a]) + n.to_bytes(4, "big") + m.to_bytes(8, "big") + rest
+
+    def title(self, text):
+        self.put("T", n=len(text.encode()), rest=text.encode())
+
+    def job(self, j):
+        data = j if isinstance(j, bytes) else pack(j)
+        self.put("J", n=len(data), rest=data)
+
+    def order(self, kinds):
+        self.put("O", n=len(kinds), rest=b"".join(k.to_bytes(2, "big") for k in kinds))
+
+    def counts(self, j):
+        """How many orientations each kind has, for the leaf."""
+        list_ = bytes(len(p["orientations"]) for p in j["parts"])
+        self.put("Q", n=len(list_), rest=list_)
+
+    def length(self, room, n):
+        if self.lengths[room] != n:
+            self.lengths[room] = n
+            self.put("L", room, n)
+
+    def rooms(self, lengths, garbage=True):
+        """Lengths of all rooms, and garbage in every slot."""
+        for room, n in enumerate(lengths):
+            self.length(room, n)
+            if garbage and n:
+                self.garbage(room)
+
+    def garbage(self, room, start=0):
+        self.seed += 1
+        self.put("H", room, start, self.seed)
+
+    def slot(self, room, n, value):
+        self.put("R", room, n, value)
+
+    def edit(self, name, n, value):
+        self.put("E", NUMBERS.index(name), n, value)
+
+    def call(self, letter, want, **fields):
+        """A call, and the hashes of all rooms after it."""
+        self.put(letter, **fields)
+        self.wanted.append(want)
+        if letter != "K":
+            self.put("V")
+
+    def start(self, want=None):
+        self.call("S", want)
+
+    def next(self, want=None):
+        """Next copy, with garbage in the interval room."""
+        if self.lengths[INTERVALS]:
+            self.garbage(INTERVALS)
+        self.call("N", want)
+
+    def fill(self, want=None):
+        self.call("F", want)
+
+    def leaf(self, kind, orientation, inset, want=None):
+        self.call("K", want, a=int(inset), n=kind, m=orientation)
+
+    def show(self, room):
+        self.put("P", room)
+
+
+class Call:
+    """The state and rooms after one call of a trace."""
+
+    def __init__(self, text):
+        self.slots, self.rooms, self.most = [], {}, 0
+        for line in text.splitlines():
+            word, *rest = line.split(" ")
+            if word == "slot":
+                self.slots.append(rest)
+            elif word == "room":
+                self.rooms[rest[0]] = rest[3:]
+            elif word == "most":
+                self.most = int(rest[0])
+            elif word == "strips":
+                self.strips = [int(n) for n in rest]
+            elif word == "entries":
+                self.entries = [int(n) for n in rest]
+            elif word == "taken":
+                self.taken = int(rest[0])
+            elif word in ("right", "area", "resolution"):
+                setattr(self, word, double(int(rest[0], 16)))
+            elif word == "sheet":
+                self.sheet = [double(int(n, 16)) for n in rest]
+
+    def strip(self, room, i):
+        """Strip i of a strip room."""
+        return [double(int(w, 16)) for w in (self.rooms[room] + ["0"] * 6)[6 * i:6 * i + 6]]
+
+    def number(self, room, i):
+        """Slot i of a room, as bits or as an entry."""
+        words = self.rooms[room]
+        if i >= len(words):
+            return 0
+        return int(words[i]) if room.endswith("entries") else int(words[i], 16)
+
+    def shapes(self):
+        """The strips of all shapes: apart, inset."""
+        return [sum(int(s[6 + n]) for s in self.slots) for n in (0, 1)]
+
+
+def answers(s):
+    """The oracle's answers to a script, each call's number as it must be."""
+    done = subprocess.run([ORACLE, "--script"], input=bytes(s.data), capture_output=True)
+    if done.returncode:
+        raise SystemExit(done.stderr.decode())
+    text = done.stdout.decode()
+    calls = [line for line in text.splitlines() if line.split(" ")[0] in CALLS]
+    if len(calls) != len(s.wanted):
+        raise SystemExit(f"{len(s.wanted)} calls, {len(calls)} answers")
+    for i, (line, want) in enumerate(zip(calls, s.wanted)):
+        if want is not None and line.split(" ")[1] != str(want):
+            raise SystemExit(f"call {i} must answer {want}: {line}")
+    return text, calls
+
+
+def trace(j, order):
+    """The calls of a trace in ample rooms: the start, then each copy; the last is left out."""
+    options = ["--trace", "--rooms", "8190,8190,8190,16384,16384,8192,20480",
+               "--order", ",".join(map(str, order))]
+    done = subprocess.run([ORACLE, *options], input=pack(j), capture_output=True, check=True)
+    calls = [Call(text) for text in done.stdout.decode().split("call ")[1:]]
+    return calls[:-1]
+
+
+def needs(calls, copies):
+    """The least lengths of the rooms in which the whole filling is accepted."""
+    last = calls[-1]
+    return [6 * sum(last.shapes()), 6 * last.strips[0], 6 * last.strips[1], last.entries[0],
+            last.entries[1], 2 * max(c.most for c in calls), 5 * copies]

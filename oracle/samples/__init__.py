@@ -1,0 +1,1 @@
+"""What is stored of the answers, a module for each NAME of store.py."""
