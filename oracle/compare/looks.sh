@@ -6,7 +6,7 @@
 set -eu
 . "$(dirname "${BASH_SOURCE[0]}")/../needs.sh"
 case ${1:-} in time | sample) ;; *) [ $# = 2 ] || usage ;; esac
-(cd "$here/.." && ${RT:-rt} staticlib exports) >&2
+(cd "$here/.." && ${RT:-rt} staticlib bench_exports) >&2
 pieces() {
     awk -v want="^($1)\$" -f "$here/lift/pieces.awk" "$here/build/lifted.rs"
 }
@@ -28,7 +28,7 @@ RUST
 }
 RUST
 } >"$here/build/looks_lifted.rs"
-rustc -O --edition 2021 -A warnings -o "$here/build/looks" "$here/rust/looks.rs" -L "$here/../target/staticlib" -l static=exports
+rustc -O --edition 2021 -A warnings -o "$here/build/looks" "$here/rust/looks.rs" -L "$here/../target/staticlib" -l static=bench_exports
 if [ "${1:-}" = time ]; then exec "$here/build/looks" time; fi
 if [ "${1:-}" = sample ]; then exec "$here/build/looks" "$@"; fi
 exec "$here/build/looks" compare "$1" "$2"

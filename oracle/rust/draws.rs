@@ -1,4 +1,4 @@
-//! draws N SEED: the proved `next_random`, out of the static library `exports`, against the lifted
+//! draws N SEED: the proved `next_random`, out of the static library `bench_exports`, against the lifted
 //! one on N states. The last line is 'N states, D mismatches'.
 #![allow(dead_code)]
 mod job;

@@ -1,5 +1,5 @@
 //! Single looks: the lifted `Index`, `trapezoids` and the lines of `fill` that
-//! answer one look, against the proved functions of `exports`.
+//! answer one look, against the proved functions of `bench_exports`.
 //!
 //!   looks compare N SEED      N looks; prints 'N looks, D mismatches'
 //!   looks sample N SEED DIR   writes DIR/stdin and DIR/stdout for a replay program

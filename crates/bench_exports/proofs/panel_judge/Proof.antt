@@ -1,9 +1,9 @@
--- `exports::panel_judge` meets its contract. Assumes nothing.
+-- `bench_exports::panel_judge` meets its contract. Assumes nothing.
 use mathlib.Core.Path.{sym, ap, _∙_}
-use Rattle.exports.specs.Answers.{verdictNumber}
+use Rattle.bench_exports.specs.Answers.{verdictNumber}
 use borrow.Author.Needs.{needs}
-use Rattle.exports.proofs.panel_judge.Statement.{statement}
-use Rattle.exports.proofs.panel_judge.Tie as tie
+use Rattle.bench_exports.proofs.panel_judge.Statement.{statement}
+use Rattle.bench_exports.proofs.panel_judge.Tie as tie
 
 judge-requires : tie.Need-judge-requires
 judge-requires c κs = search needs

@@ -1,19 +1,24 @@
-// What C and Rust may link (`rt staticlib exports`): the planner's functions under plain names, for
-// comparisons with the Rust and for speed tables.
-ghost use Prim.Native.Nat.{_+_, _*_, _≤_, _<_};
+// The planner's inner functions under plain names (`rt staticlib bench_exports`), for this project's
+// comparisons with the Rust and its benchmarks alone. What a function requires its caller owes, and
+// nothing here tests it. A shop links plan_exports.
+ghost use Prim.Native.Nat.{_+_, _*_, _/_, _≤_, _<_};
 ghost use lib.ListN.{length};
 ghost use mathlib.Core.Path.{_≡_};
 ghost use Rattle.trapezoid.specs.Strip.{capacity};
 ghost use Rattle.strips.specs.Strips.{Loops, trapezoids, stored};
 ghost use Rattle.job.specs.Jobs.{readJob};
 ghost use Rattle.job.specs.Meaning.{verdictOf};
-ghost use Rattle.exports.specs.Answers.{verdictNumber, told};
+ghost use Rattle.bench_exports.specs.Answers.{verdictNumber, told, heightTold, lookTold};
 ghost use Rattle.random.specs.SplitMix64.{nextState, mixed};
 ghost use Rattle.numbers.proofs.Doubles.{Finite};
-ghost use Rattle.index.specs.Buckets.{buckets, stripNumbers};
+ghost use Rattle.index.specs.Buckets.{buckets, stripNumbers, indexOf};
 ghost use Rattle.index.specs.Listing.{intervals, Laid};
 ghost use Rattle.height.specs.Raising.{FiniteEnds};
+ghost use Rattle.height.specs.Smallest.{heightOf};
+ghost use Rattle.look.specs.Looking.{lookOf};
 ghost use Rattle.look.specs.Ready.{Lookable};
+ghost use Rattle.enter.specs.EntryRoom.{enterOf};
+ghost use Rattle.enter.specs.Gaps.{rooms, entering};
 use height::Look;
 use index::Entry;
 use index::Index;
@@ -27,8 +32,7 @@ pub extern "C" fn panel_next_random(state: &mut u64) -> u64
     random::next_random(state)
 }
 
-// The strips of a set, stored from strip 0 on: how many, or one more than the room holds. The
-// caller owes what `strips::trapezoids` requires; nothing here tests it.
+// The strips of a set, stored from strip 0 on: how many, or one more than the room holds.
 #[no_mangle]
 pub extern "C" fn panel_trapezoids(
     points: &[f64],
@@ -62,7 +66,9 @@ pub extern "C" fn panel_judge(bytes: &[u8]) -> u64
 }
 
 // A height; 1e300 where it is full.
-fn height_or(l: Look) -> f64 {
+fn height_or(l: Look) -> f64
+    ensures { λ r. ⌜ r ≡ heightTold l ⌝ }
+{
     match l {
         Look::Free(h) => h,
         Look::Full => 1.0e300,
@@ -71,12 +77,15 @@ fn height_or(l: Look) -> f64 {
 
 // The width of a new index's buckets.
 #[no_mangle]
-pub extern "C" fn panel_width(x0: f64, x1: f64) -> f64 {
+pub extern "C" fn panel_width(x0: f64, x1: f64) -> f64
+    ensures { λ r. ⌜ r ≡ indexOf x0 x1 .width ⌝ }
+{
     let ix = Index::new(x0, x1);
     ix.width
 }
 
-// A look: its height, 1e300 where it is full, -1e300 where the room does not hold its intervals.
+// A look: its height, 1e300 where it is full, -1e300 where the room does not hold its intervals. The
+// room's contents are used up.
 #[no_mangle]
 pub extern "C" fn panel_look(
     x0: f64,
@@ -95,6 +104,8 @@ pub extern "C" fn panel_look(
     room: &mut [f64],
 ) -> f64
     requires { ⌜ Lookable (record { x0 = x0; width = width }) x «y_low» «y_high» (now inset) (now apart) (now sheet) (now placed) (now «sheet_entries») (now «sheet_starts») (now «placed_entries») (now «placed_starts») ⌝ }
+    ensures { λ r. ⌜ r ≡ lookTold (lookOf (length (now (room .entry)) / 2) x «y_low» «y_high» (now (inset .entry)) (now (apart .entry)) (now (sheet .entry))
+        (now (placed .entry))) ⌝ }
 {
     let ix = Index {
         x0: x0,
@@ -121,7 +132,8 @@ pub extern "C" fn panel_look(
     }
 }
 
-// Enters the strips from `from` to below `to`.
+// Enters the strips from `from` to below `to`, if the room holds their entries too. `gains` is a table
+// of work.
 #[no_mangle]
 pub extern "C" fn panel_enter(
     x0: f64,
@@ -134,6 +146,8 @@ pub extern "C" fn panel_enter(
     gains: &mut [usize],
 ) -> bool
     requires { ⌜ (from ≤ to) × (6 * to ≤ length (now standing)) × (length (now gains) ≡ buckets) × Laid (record { x0 = x0; width = width }) (now standing) from (now entries) (now starts) × (to ≤ stripNumbers) ⌝ }
+    ensures { λ r. ⌜ entering r (now (entries .exit)) (now (starts .exit)) ≡ enterOf (record { x0 = x0; width = width }) (now (standing .entry)) to
+        (rooms (now (entries .entry)) (now (starts .entry))) ⌝ }
 {
     let ix = Index {
         x0: x0,
@@ -142,10 +156,12 @@ pub extern "C" fn panel_enter(
     enter::enter_copy(ix, standing, from, to, entries, starts, gains)
 }
 
-// The smallest height in none of the first n intervals of the room.
+// The smallest height in none of the first n intervals of the room; 1e300 where it is full. The
+// intervals are left in some other order.
 #[no_mangle]
 pub extern "C" fn panel_height(room: &mut [f64], n: usize, y_low: f64, y_high: f64) -> f64
     requires { ⌜ (2 * n ≤ length (now room)) × Finite «y_low» × Finite «y_high» × FiniteEnds (intervals (now room) n) ⌝ }
+    ensures { λ r. ⌜ r ≡ heightTold (heightOf «y_low» «y_high» (intervals (now (room .entry)) n)) ⌝ }
 {
     let l = height::height(room, n, y_low, y_high);
     height_or(l)

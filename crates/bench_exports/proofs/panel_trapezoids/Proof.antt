@@ -1,10 +1,10 @@
--- `exports::panel_trapezoids` meets its contract. Assumes nothing.
+-- `bench_exports::panel_trapezoids` meets its contract. Assumes nothing.
 use denote.Ref.{now}
 use Rattle.strips.specs.Strips.{trapezoids, stored}
-use Rattle.exports.proofs.Told.{told-count, told-none}
+use Rattle.bench_exports.proofs.Told.{told-count, told-none}
 use borrow.Author.Needs.{needs}
-use Rattle.exports.proofs.panel_trapezoids.Statement.{statement}
-use Rattle.exports.proofs.panel_trapezoids.Tie as tie
+use Rattle.bench_exports.proofs.panel_trapezoids.Statement.{statement}
+use Rattle.bench_exports.proofs.panel_trapezoids.Tie as tie
 
 trapezoids-requires : tie.Need-trapezoids-requires
 trapezoids-requires c κs = search needs
