@@ -7,7 +7,7 @@ use lib.Ieee.{Float}
 use Rattle.trapezoid.specs.Strip.{capacity}
 use Rattle.strips.specs.declared.Stored.{Stored}
 use Rattle.strips.specs.declared.Stored.the-variants.{Count, NoRoom}
-use Rattle.strips.specs.Strips.{Stowed}
+use Rattle.strips.specs.Tables.{Stowed}
 use Rattle.bench_exports.specs.Answers.{told}
 
 pub told-count : (s : Stowed) (r : Stored) (room after : List Float) (m : ℕ) → record { answer = r; room = after } ≡ s → r ≡ Count m → (m ≡ told (s .answer) (capacity room)) × (after ≡ s .room)

@@ -1,3 +1,4 @@
+pub mod Computing
 pub mod Taking
 pub mod Judging
 pub mod Accepted

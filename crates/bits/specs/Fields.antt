@@ -12,8 +12,6 @@ use Rattle.bits.specs.declared.Counted.{Counted}
 use Rattle.bits.specs.declared.Counted.the-variants.{Count, NoCount}
 use Rattle.bits.specs.declared.Measured.{Measured}
 use Rattle.bits.specs.declared.Measured.the-variants.{Value, NoValue}
-use Rattle.bits.specs.declared.PointRead.{PointRead}
-use Rattle.bits.specs.declared.PointRead.the-variants.{Point, NoPoint}
 use Rattle.bits.specs.Reading.{Read, ok, bad, Reader, after, _>>=_, _>>_, give, bits}
 
 -- ---- counts
@@ -60,11 +58,6 @@ judgePoints before n = inSet before (judgeCount (pointsField .least) (pointsFiel
 abbrev pub counted : Counted → ℕ → Read ℕ
 counted (Count n) q = ok n q
 counted (NoCount k) q = bad k
-
--- the count, or 0
-abbrev pub countOf : Counted → ℕ
-countOf (Count n) = n
-countOf (NoCount k) = 0
 
 unfoldable pub count : Field → Reader ℕ
 count f = bits (f .width) >>= λ n bytes q. counted (judgeCount (f .least) (f .most) n) q
@@ -120,13 +113,3 @@ point = do
   a ← number coordinateRange
   b ← number coordinateRange
   give (record { x = a; y = b })
-
--- a point that was read, with the position after it
-abbrev pub pointRead : PointRead → ℕ → Read Spot
-pointRead (Point a b) q = ok (record { x = a; y = b }) q
-pointRead (NoPoint k) q = bad k
-
--- what a computed claim opens
-unfoldable pub fields-compute : Unit {0}
-unfolding Rattle.numbers.specs.Numbers.numbers-compute Rattle.bits.specs.Bits.fieldAt Rattle.bits.specs.Reading.after Rattle.bits.specs.Reading.bits judgeCount inSet judgePoints count pointCount judgeDouble judgeNumber number point
-fields-compute = tt

@@ -6,8 +6,6 @@ use lib.ListN.{length}
 use lib.Dec.{leb}
 use Rattle.bits.specs.declared.Refusal.{Refusal}
 use Rattle.bits.specs.declared.Refusal.the-variants.{Truncated, TrailingData, UnknownVersion, NonFinite, OutOfRange, CountOutOfRange, TooManyCopies, TooManyColumns}
-use Rattle.bits.specs.declared.Taken.{Taken}
-use Rattle.bits.specs.declared.Taken.the-variants.{Bits, End}
 use Rattle.bits.specs.Bits.{fieldAt}
 
 -- the table's numbers
@@ -60,8 +58,3 @@ unless k t bytes p = cond t (ok tt p) (bad k)
 -- a field of w bits, as a number; 1: "bytes end inside a field"
 unfoldable pub bits : ℕ → Reader ℕ
 bits w bytes p = cond (leb (p + w) (8 * length bytes)) (ok (fieldAt bytes p w 0) (p + w)) (bad Truncated)
-
--- what taking bits answers, with the position after them
-abbrev pub taken : Taken → ℕ → Read ℕ
-taken (Bits n) q = ok n q
-taken End q = bad Truncated

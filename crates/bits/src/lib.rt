@@ -5,9 +5,9 @@ ghost use mathlib.Core.Path.{_≡_};
 ghost use Prim.Native.Nat.{_+_, _*_, _/_, _%_, _^_, _≤_, _<_, min};
 ghost use lib.ListN.{length};
 ghost use Rattle.bits.specs.Bits.{fieldAt};
-ghost use Rattle.bits.specs.Reading.{numberOf, bits, taken};
-ghost use Rattle.bits.specs.Fields.{judgeCount, judgePoints, counted, count, pointCount, coordinateRange, judgeNumber, measured, number, point, pointRead};
-ghost use Rattle.bits.specs.Fields.{countOf};
+ghost use Rattle.bits.specs.Reading.{numberOf, bits};
+ghost use Rattle.bits.specs.Fields.{judgeCount, judgePoints, counted, count, pointCount, coordinateRange, judgeNumber, measured, number, point};
+ghost use Rattle.bits.specs.Answers.{pointRead, countOf, taken};
 
 // Why a job is refused: document 01's numbers 1 to 8, in this order.
 pub enum Refusal {

@@ -12,8 +12,8 @@ use lib.Dec.{T, ltb}
 use lib.Ieee.{Float}
 use Rattle.trapezoid.specs.Strip.{stripAt}
 use Rattle.index.specs.declared.Index.{Index}
-use Rattle.index.specs.Buckets.{buckets, bucketIn, covers, entered}
-use Rattle.index.specs.Listing.{Laid}
+use Rattle.index.specs.Buckets.{buckets, bucketIn}
+use Rattle.index.specs.Listing.{Laid, covers, entered}
 use Rattle.index.proofs.Steps.{dich, lt-ltb, ge-ltb}
 use Rattle.index.proofs.Collecting.{lt-or-ge}
 use Rattle.enter.specs.EntryRoom.{startOf, Rooms, enterOf}

@@ -10,8 +10,8 @@ use lib.Seq.{getD-at}
 use lib.Ieee.{Float}
 use Rattle.trapezoid.specs.Strip.{stripAt}
 use Rattle.index.specs.declared.Index.{Index}
-use Rattle.index.specs.Buckets.{buckets, bucketIn, entered}
-use Rattle.index.specs.Listing.{Laid}
+use Rattle.index.specs.Buckets.{buckets, bucketIn}
+use Rattle.index.specs.Listing.{Laid, entered}
 use Rattle.index.proofs.Steps.{bucket-top}
 use Rattle.index.proofs.Collecting.{lt-or-ge}
 use Rattle.enter.specs.EntryRoom.{startOf, enterOf}

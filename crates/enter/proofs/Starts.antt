@@ -12,8 +12,8 @@ use lib.Ieee.{Float}
 use Rattle.trapezoid.specs.Strip.{stripAt}
 use Rattle.index.specs.declared.Index.{Index}
 use Rattle.index.proofs.EntryLists.{entries-by-bucket}
-use Rattle.index.specs.Buckets.{buckets, upFrom, keep, bucketIn, covers, entered, entriesOf}
-use Rattle.index.specs.Listing.{Laid}
+use Rattle.index.specs.Buckets.{buckets, upFrom, keep, bucketIn, entriesOf}
+use Rattle.index.specs.Listing.{Laid, covers, entered}
 use Rattle.index.proofs.Steps.{keep-yes, keep-no, keep-none}
 use Rattle.index.proofs.Flat.{keep-append}
 use Rattle.enter.specs.EntryRoom.{entriesIn, startOf, startsOf, Rooms, enterOf}

@@ -6,7 +6,8 @@ use lib.ListN.{length, drop}
 use lib.Dec.{leb}
 use lib.Ieee.{Float}
 use Rattle.index.specs.declared.Index.{Index}
-use Rattle.index.specs.Buckets.{buckets, upFrom, entered, entriesOf}
+use Rattle.index.specs.Buckets.{buckets, upFrom, entriesOf}
+use Rattle.index.specs.Listing.{entered}
 
 -- "Entries lie by bucket, then strip number.": the room with the entries of the first n standing strips, and what it held after them
 unfoldable pub entriesIn : Index → List Float → ℕ → List ℕ → List ℕ
@@ -36,13 +37,3 @@ enterOf ix standing n r =
       | true ↦ record { fits = true; after = record { entries = entriesIn ix standing n (r .entries); starts = startsOf ix standing n } }
       | false ↦ record { fits = false; after = r }
     ]
-
--- the document's number where it does not fit
-unfoldable pub refusalOf : Bool → ℕ
-refusalOf true = 0
-refusalOf false = 21
-
--- what a computed claim opens
-unfoldable pub entry-room-computes : Unit {0}
-unfolding entriesIn startOf startsOf enterOf refusalOf
-entry-room-computes = tt

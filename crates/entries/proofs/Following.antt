@@ -13,8 +13,9 @@ use lib.Ieee.{Float}
 use Rattle.trapezoid.specs.Strip.{stripAt}
 use Rattle.index.specs.declared.Index.{Index}
 use Rattle.index.specs.Buckets.{upFrom}
-use Rattle.index.specs.Buckets.{covers, keep, entered, entriesOf}
+use Rattle.index.specs.Buckets.{keep, entriesOf}
 use Rattle.index.proofs.Steps.{dich, lt-ltb, ge-ltb, eqb-yes, eqb-no}
+use Rattle.index.specs.Listing.{covers, entered}
 use Rattle.entries.specs.declared.Walked.{Walked}
 use Rattle.entries.specs.declared.Walked.the-variants.{At, Wrong}
 use Rattle.entries.specs.Walk.{follows}

@@ -9,8 +9,8 @@ use lib.ListN.{length, getD, set, length-set}
 use lib.Seq.{slice, getD-set-same, getD-set-other}
 use lib.Ieee.{Float}
 use Rattle.index.specs.declared.Index.{Index}
-use Rattle.index.specs.Buckets.{buckets, entered}
-use Rattle.index.specs.Listing.{Laid}
+use Rattle.index.specs.Buckets.{buckets}
+use Rattle.index.specs.Listing.{Laid, entered}
 use Rattle.entries.specs.declared.Walked.{Walked}
 use Rattle.entries.specs.declared.Walked.the-variants.{At, Wrong}
 use Rattle.entries.proofs.Following.{Passed}

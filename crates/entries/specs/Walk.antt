@@ -15,17 +15,7 @@ unfoldable pub follows : List ℕ → ℕ → List ℕ → Walked
 follows entries e [] = At e
 follows entries e (i ∷ is) = elim (ltb e (length entries) && eqb (getD entries e 0) i) [ true ↦ follows entries (e + 1) is | false ↦ Wrong ]
 
--- the document's number where the entries are others
-unfoldable pub refusalOf : Walked → ℕ
-refusalOf (At e) = 0
-refusalOf Wrong = 31
-
 -- for inner contracts only: what an answer says of the starts
 abbrev pub Known : Index → List Float → ℕ → List ℕ → List ℕ → Walked → Type 0
 Known ix standing n entries starts (At e) = Laid ix standing n entries starts
 Known ix standing n entries starts Wrong = Unit {0}
-
--- what a computed claim opens
-unfoldable pub walk-computes : Unit {0}
-unfolding follows refusalOf
-walk-computes = tt

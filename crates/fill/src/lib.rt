@@ -2,10 +2,10 @@
 // given order"). Accepted, it leaves the positions; the other rooms, and all of them where it is
 // refused, are left zero.
 ghost use mathlib.Core.Path.{_≡_};
-ghost use Rattle.filling.specs.Rooms.{Lent};
+ghost use Rattle.filling.specs.Rooms.{Lent, lentOf};
 ghost use Rattle.filling.specs.Fill.{fillOf};
 ghost use Rattle.report.specs.Replies.{reply, replyOf};
-ghost use Rattle.report.specs.Lent.{lentOf, answered};
+ghost use Rattle.report.specs.Lent.{answered};
 ghost use Rattle.readied.specs.Zeroed.{Zeroed};
 use filling::Refusal;
 use index::Entry;

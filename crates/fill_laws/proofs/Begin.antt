@@ -12,8 +12,8 @@ use lib.Ieee.{Float}
 use Rattle.numbers.specs.Numbers.{posZero}
 use Rattle.trapezoid.specs.Strip.{capacity}
 use Rattle.index.specs.declared.Index.{Index}
-use Rattle.index.specs.Buckets.{buckets, upFrom, keep, entered, stripNumbers, standingCapacity}
-use Rattle.index.specs.Listing.{Laid}
+use Rattle.index.specs.Buckets.{buckets, upFrom, keep, stripNumbers, standingCapacity}
+use Rattle.index.specs.Listing.{Laid, entered}
 use Rattle.job.specs.Jobs.{Job, accepted, readJob}
 use Rattle.filling.specs.declared.State.{State}
 use Rattle.filling.specs.declared.Refusal.{Refusal}

@@ -30,11 +30,11 @@ use Rattle.filling.specs.Shapes.{Shape, Planner, plannerOf, setStrips, s
 use Rattle.filling.specs.Search.{column, Track}
 use Rattle.filling.specs.Rooms.{Rooms, Lent, positionCapacity, laid, zeros}
 use Rattle.filling.specs.Order.{rearranged, inFull}
-use Rattle.filling.specs.State.{bySlot, slotShape, orientationCounts, slotRows, Part, partAt, boundsAt, apartRoom, insetRoom, shapeAt, plannerAt, orderOf, toCome, standingTo, standingOf, withoutTo, withoutOf, rememberedOf, trackAt, tracksOf, emptyLayout}
+use Rattle.filling.specs.State.{bySlot, slotShape, orientationCounts, slotRows, Part, partAt, boundsAt, apartRoom, insetRoom, shapeAt, plannerAt, orderOf, standingTo, standingOf, withoutTo, withoutOf, rememberedOf, trackAt, tracksOf, emptyLayout}
 use Rattle.filling.specs.Consistent.{every, partFits, partsFit, stripCountsFit, placedStrips}
 use Rattle.filling.specs.Start.{apartStrips, insetStrips, tablesOf, firstState, firstRooms, prepareVerdict, startVerdict, Start, noStart, goodStart, startJob, startGiven, startOf}
 use Rattle.filling.proofs.Lists.{both-first, clash}
-use Rattle.filling.proofs.Reading.{Sixfold, sixfold-nil, sixfold-flat, sixfold-all, AllSixfold, take-laid, getD-bySlot, length-bySlot, bounds-slot, starts, starts-within, at-most, laid-long, rows-every, part-read, part-slot, rows-read, slot-kind, slot-turn, sixteen-get}
+use Rattle.filling.proofs.Reading.{Sixfold, sixfold-nil, sixfold-flat, sixfold-all, AllSixfold, take-laid, getD-bySlot, length-bySlot, bounds-slot, starts, starts-within, at-most, laid-long, rows-every, part-read, part-slot, rows-read, slot-kind, slot-turn, sixteen-get, toCome}
 use Rattle.filling.proofs.Sizes.{Sized}
 use Rattle.filling.proofs.Steps.{Linked, refused≢accepted, later-accepted}
 

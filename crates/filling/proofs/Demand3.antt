@@ -20,14 +20,14 @@ use Rattle.filling.specs.Search.{Found, at, nowhere, Remembered, column,
 use Rattle.filling.specs.Choice.{Choice, choices, best, standingAt}
 use Rattle.filling.specs.Plain.{Plain, plainStart, plainSearch, plainSearched, plainSearchedAll, plainSettled, plainPlace, plainTake, plainCalls, plainPlanner, finds, expectedLooks, plainLooks, plainLookCounts}
 use Rattle.filling.specs.Rooms.{Rooms, Lent}
-use Rattle.filling.specs.State.{orientationCounts, toCome, standingOf, withoutOf, tracksOf}
+use Rattle.filling.specs.State.{orientationCounts, standingOf, withoutOf, tracksOf}
 use Rattle.filling.specs.Start.{startVerdict, firstState, firstRooms, Start, startOf}
 use Rattle.filling.specs.NextCopy.{newStrips, stateAfter, Step}
 use Rattle.filling.specs.Accounts.{lookCountsOf}
 use Rattle.filling.specs.Fill.{fillOrder, fillGiven, fillOf}
 use Rattle.filling.specs.Calls.{Call, After, afterCalls, refusals, stateOutcome, plainOutcome, plainAfter}
 use Rattle.filling.proofs.FirstFree.{FullFrom, FoundAt, skip, none-free, found-at, found-nowhere, Grows, grows-append, look-grows}
-use Rattle.filling.proofs.Reading.{length-upFrom, rows-length}
+use Rattle.filling.proofs.Reading.{length-upFrom, rows-length, toCome}
 use Rattle.filling.proofs.Sizes.{Sized, sized}
 use Rattle.filling.proofs.Rows.{Relation, Row, Table, table-map, table-get, table-set, fresh-table, same-found, row-searched, table-counts}
 use Rattle.filling.proofs.Steps as Steps

@@ -1,3 +1,4 @@
+pub mod Computing
 pub mod Lists
 pub mod Reading
 pub mod FullStays

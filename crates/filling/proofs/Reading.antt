@@ -15,11 +15,13 @@ use Rattle.trapezoid.specs.declared.Trapezoid.{Trapezoid}
 use Rattle.trapezoid.specs.Strip.{flat, capacity, partOf}
 use Rattle.index.specs.Buckets.{upFrom}
 use Rattle.strips.specs.declared.Rect.{Rect}
-use Rattle.filling.specs.Shapes.{Shape, noShape}
+use Rattle.job.specs.Jobs.{Job}
+use Rattle.filling.specs.Shapes.{Shape, noShape, Copy, copiesFrom}
 use Rattle.filling.specs.Rooms.{laid, zeros}
-use Rattle.filling.specs.State.{bySlot, slotRows, Part, flatParts, partAt, flatBounds, boundsAt}
+use Rattle.filling.specs.State.{bySlot, slotRows, Part, flatParts, partAt, flatBounds, boundsAt, orderOf}
 use Rattle.filling.specs.Consistent.{every}
 use Rattle.filling.specs.Start.{partsFrom}
+use Rattle.filling.specs.declared.State.{State}
 
 -- ---- rooms
 
@@ -311,3 +313,7 @@ slot-kind k o h = let e : 16 * k + o ≡ k * 16 + o = omega arith in ap (λ n. n
 
 pub slot-turn : (k o : ℕ) → o < 16 → (16 * k + o) % 16 ≡ o
 slot-turn k o h = let e : 16 * k + o ≡ k * 16 + o = omega arith in ap (λ n. n % 16) e ∙ digits-mod k h
+
+-- the copies to come
+unfoldable pub toCome : Job → State → List Copy
+toCome j s = copiesFrom (s .taken) (drop (s .taken) (orderOf j s))

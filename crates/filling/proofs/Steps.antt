@@ -25,10 +25,10 @@ use Rattle.filling.specs.Shapes.{Shape, Planner, plannerOf, Copy, Standi
 use Rattle.filling.specs.Search.{Found, Remembered, column, none, Track, search, searchAll, searched, searchedAll}
 use Rattle.filling.specs.Choice.{Choice, choices, best, standingAt}
 use Rattle.filling.specs.Rooms.{Rooms, intervalCapacity, laid, zeros}
-use Rattle.filling.specs.State.{slotRows, orientationCounts, shapeAt, plannerAt, orderOf, toCome, copyAt, standsAt, missesAt, standingTo, withoutTo, standingOf, withoutOf, rememberedOf, rememberedNumber, trackAt, tracksOf}
+use Rattle.filling.specs.State.{slotRows, orientationCounts, shapeAt, plannerAt, orderOf, copyAt, standsAt, missesAt, standingTo, withoutTo, standingOf, withoutOf, rememberedOf, rememberedNumber, trackAt, tracksOf}
 use Rattle.filling.specs.Consistent.{placedStrips}
 use Rattle.filling.specs.NextCopy.{intervalCounts, anyAbove, newStrips, winnerVerdict, copyVerdict, entered, stateWith, layoutAfter, stateAfter, stored, roomsAfter, Step, noStep, placeFound, placeCopy, placeNext, coreStep}
-use Rattle.filling.proofs.Reading.{Sixfold, sixfold-nil, sixfold-append, sixfold-flat, take-laid, rows-length}
+use Rattle.filling.proofs.Reading.{Sixfold, sixfold-nil, sixfold-append, sixfold-flat, take-laid, rows-length, toCome}
 use Rattle.filling.proofs.Entered.{standing-now, without-now, tracks-write, searched-length}
 use Rattle.filling.proofs.Sizes.{Sized}
 

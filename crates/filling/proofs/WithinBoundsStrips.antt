@@ -15,8 +15,9 @@ use Rattle.trapezoid.specs.Strip.{stripAt, flat, capacity, movedBy}
 use Rattle.trapezoid.proofs.Sizes.{Sized, small-more, moved-sized, moved-order}
 use Rattle.slab.proofs.Sizes.{Good, All}
 use Rattle.strips.specs.declared.Rect.{Rect}
-use Rattle.strips.specs.Strips.{Loops, bounds, trapezoids}
+use Rattle.strips.specs.Strips.{bounds, trapezoids}
 use Rattle.strips.proofs.Sizes.{Framed, bounds-framed, trapezoids-good}
+use Rattle.strips.specs.Tables.{Loops}
 use Rattle.index.specs.Buckets.{upFrom}
 use Rattle.height.proofs.SmallestHeight.{real-of, is-not-lt}
 use Rattle.sets.specs.Sets.{Set}

@@ -105,8 +105,3 @@ noPlan =
       «unplaced_area» = posZero;
       offcut = posZero;
     }
-
--- what a computed claim opens
-unfoldable pub accounts-compute : Unit {0}
-unfolding positionsOfKind positions flatPositions placedOf unplacedOf looksBySlot lookCountsOf reachOf notBelowZero offcutOf planOf noPlan
-accounts-compute = tt

@@ -57,8 +57,3 @@ plainOutcome p q = record { standing = q .standing; without = q .without; look-c
 -- the plain planner, "fed job, order and whether each call was refused"
 unfoldable pub plainAfter : Job → List ℕ → List Bool → Outcome
 plainAfter j order refused = let p = plannerOf j in plainOutcome p (plainPlanner p order refused)
-
--- what a computed claim opens
-unfoldable pub calls-compute : Unit {0}
-unfolding callStep afterCalls refusals stateOutcome plainOutcome plainAfter
-calls-compute = tt

@@ -41,8 +41,3 @@ best a (b ∷ bs) = elim (wins b a) [ true ↦ best b bs | false ↦ best a bs ]
 -- "The winner stands"
 unfoldable pub standingAt : Copy → Choice → Standing
 standingAt k c = record { copy = k; orientation = c .orientation; x = c .x; y = c .y }
-
--- what a computed claim opens
-unfoldable pub choice-computes : Unit {0}
-unfolding choiceOf choices wins best standingAt
-choice-computes = tt

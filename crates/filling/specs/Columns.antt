@@ -39,8 +39,3 @@ lastColumn resolution r =
 -- the x at which column c stands; a minus zero, which only a state's own bounds can give, is plus zero
 unfoldable pub columnAt : Float → Ranges → ℕ → Float
 columnAt resolution r c = plusZero (elim (leb c (columns resolution r)) [ true ↦ regularColumn resolution r c | false ↦ r .x-high ])
-
--- what a computed claim opens
-unfoldable pub columns-compute : Unit {0}
-unfolding ranges reversed columns regularColumn lastColumn columnAt
-columns-compute = tt

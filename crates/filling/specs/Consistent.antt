@@ -156,8 +156,3 @@ consistent j s w =
     && (layoutFits (s .layout .right) (s .layout .«unplaced_area»)
     && (trackTableFits p (s .taken) (p .shapes) (tracksOf j s)
     && entriesFit p w standing)))))))
-
--- what a computed claim opens
-unfoldable pub consistent-computes : Unit {0}
-unfolding every neg bounded stripFits stripsFit boundsFit takenFits stripCountsFit partFits partsFit columnFits trackFits tracksFit trackTableFits resolutionFits shapeFits plannerFits layoutFits sameNumbers entriesLie sheetIndex entriesFor entriesFit placedStrips consistent
-consistent-computes = tt

@@ -70,8 +70,3 @@ fillGiven (accepted j) order l = fillJob j order l
 -- the public operation `fill`
 unfoldable pub fillOf : List ℕ → List ℕ → Lent → Planned
 fillOf bytes order l = fillGiven (readJob bytes) order l
-
--- what a computed claim opens
-unfoldable pub fill-computes : Unit {0}
-unfolding fillFrom fillOrder notPlanned plannedWith plannedBy fillJob fillGiven fillOf
-fill-computes = tt

@@ -162,8 +162,3 @@ stepGiven (accepted j) s w intervals = stepJob j s w intervals
 -- the public operation `next_copy`
 unfoldable pub nextCopyOf : List ℕ → State → Rooms → List Float → Step
 nextCopyOf bytes s w intervals = stepGiven (readJob bytes) s w intervals
-
--- what a computed claim opens
-unfoldable pub next-copy-computes : Unit {0}
-unfolding intervalCounts anyAbove newStrips storeVerdict winnerVerdict copyVerdict entered stateWith layoutAfter stateAfter stored roomsAfter noStep placeFound placeCopy placeNext coreStep stepJob stepGiven nextCopyOf
-next-copy-computes = tt

@@ -20,8 +20,3 @@ inFull k (a ∷ as′) order = eqb (countIn k order) (a .quantity) && inFull (su
 -- "a rearrangement of the job's copies": so many, and every kind as often as the job has it
 unfoldable pub rearranged : Job → List ℕ → Bool
 rearranged j order = eqb (length order) (j .copies) && inFull 0 (j .kinds) order
-
--- what a computed claim opens
-unfoldable pub order-computes : Unit {0}
-unfolding countIn inFull rearranged
-order-computes = tt

@@ -41,8 +41,3 @@ isRefused (Refused r) = true
 -- "In a filling the first met is given": r where the test holds, else what is met later
 unfoldable pub refuseIf : Bool → Refusal → Verdict → Verdict
 refuseIf t r later = elim t [ true ↦ Refused r | false ↦ later ]
-
--- what a computed claim opens
-unfoldable pub refusals-compute : Unit {0}
-unfolding numberOf verdictNumber isRefused refuseIf
-refusals-compute = tt

@@ -19,6 +19,16 @@ pub record Lent : Type 0 where
   pub intervals : List Float
   pub positions : List Float
 
+-- the strip and entry rooms with these contents
+abbrev pub roomsOf : List Float → List Float → List Float → List ℕ → List ℕ → Rooms
+roomsOf shapes sheet placed sheet-entries placed-entries =
+    record { shapes = shapes; sheet = sheet; placed = placed; sheet-entries = sheet-entries; placed-entries = placed-entries }
+
+-- all seven rooms with these contents
+abbrev pub lentOf : List Float → List Float → List Float → List ℕ → List ℕ → List Float → List Float → Lent
+lentOf shapes sheet placed sheet-entries placed-entries intervals positions =
+    record { rooms = roomsOf shapes sheet placed sheet-entries placed-entries; intervals = intervals; positions = positions }
+
 -- an interval is two doubles, a position five: kind, copy, orientation, x, y
 abbrev pub intervalCapacity : List Float → ℕ
 intervalCapacity room = length room / 2
@@ -50,8 +60,3 @@ zeroRooms w =
 unfoldable pub onlyPositions : Lent → List Float → Lent
 onlyPositions l ps =
     record { rooms = zeroRooms (l .rooms); intervals = zeros posZero (l .intervals); positions = laid ps (zeros posZero (l .positions)) }
-
--- what a computed claim opens
-unfoldable pub rooms-compute : Unit {0}
-unfolding laid zeros zeroRooms onlyPositions
-rooms-compute = tt

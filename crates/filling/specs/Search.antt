@@ -98,8 +98,3 @@ searchedAll p [] ts fs = []
 searchedAll p (s ∷ ss) [] fs = []
 searchedAll p (s ∷ ss) (t ∷ ts) [] = []
 searchedAll p (s ∷ ss) (t ∷ ts) (f ∷ fs) = searched p s t f ∷ searchedAll p ss ts fs
-
--- what a computed claim opens
-unfoldable pub search-computes : Unit {0}
-unfolding rangesOf reversedFor lastOf intervalsAt lookAt firstFree search remembered columnsFrom looks searched searchAll searchedAll
-search-computes = tt

@@ -93,8 +93,3 @@ copyStrips p c = movedStrips (shapeOf p (c .copy .kind) (c .orientation) .apart)
 -- the standing strips (document 01) of copies, in their order
 unfoldable pub standingStrips : Planner → List Standing → List Float
 standingStrips p cs = flatMap (copyStrips p) cs
-
--- what a computed claim opens
-unfoldable pub shapes-compute : Unit {0}
-unfolding setBounds setStrips shapeFor plannerOf noBounds noShape shapeOf copiesFrom movedStrips copyStrips standingStrips
-shapes-compute = tt

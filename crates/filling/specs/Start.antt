@@ -127,8 +127,3 @@ startGiven (accepted j) order l = startJob j order l
 -- the public operation `start`
 unfoldable pub startOf : List ℕ → List ℕ → Lent → Start
 startOf bytes order l = startGiven (readJob bytes) order l
-
--- what a computed claim opens
-unfoldable pub start-computes : Unit {0}
-unfolding apartStrips insetStrips partsFrom tablesOf firstState firstRooms prepareVerdict startVerdict noStart goodStart startJob startGiven startOf
-start-computes = tt

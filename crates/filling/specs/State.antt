@@ -12,7 +12,7 @@ use Rattle.job.specs.Jobs.{Job}
 use Rattle.filling.specs.declared.Tables.{Tables}
 use Rattle.filling.specs.declared.Layout.{Layout}
 use Rattle.filling.specs.declared.State.{State}
-use Rattle.filling.specs.Shapes.{Shape, Planner, Copy, Standing, shapeOf, noBounds, copiesFrom}
+use Rattle.filling.specs.Shapes.{Shape, Planner, Copy, Standing, shapeOf, noBounds}
 use Rattle.filling.specs.Search.{Remembered, column, none, Track}
 use Rattle.filling.specs.Rooms.{Rooms}
 
@@ -98,10 +98,6 @@ plannerAt j t w =
 unfoldable pub orderOf : Job → State → List ℕ
 orderOf j s = take (j .copies) (s .order)
 
--- the copies to come
-unfoldable pub toCome : Job → State → List Copy
-toCome j s = copiesFrom (s .taken) (drop (s .taken) (orderOf j s))
-
 -- the copy at place n of the order
 unfoldable pub copyAt : State → ℕ → Copy
 copyAt s n = record { place = n; kind = getD (s .order) n 0 }
@@ -184,8 +180,3 @@ zeroState =
       «placed_strips» = 0;
       layout = emptyLayout posZero;
     }
-
--- what a computed claim opens
-unfoldable pub state-computes : Unit {0}
-unfolding bySlot slotShape orientationCounts slotRows flatParts partAt flatBounds boundsAt apartRoom insetRoom shapeAt plannerAt orderOf toCome copyAt standsAt missesAt standingTo withoutTo standingOf withoutOf rememberedOf rememberedNumber trackAt tracksOf zeroTables emptyLayout zeroState
-state-computes = tt

@@ -18,7 +18,7 @@ use Rattle.height.specs.declared.Look.{Look}
 use Rattle.height.specs.declared.Look.the-variants.{Free, Full}
 use Rattle.look.specs.declared.Answer.{Answer}
 use Rattle.look.specs.declared.Answer.the-variants.{NoRoom, Seen}
-use Rattle.look.specs.Looking.{answerOf, lookOf}
+use Rattle.look.specs.Ready.{answerOf, lookOf}
 use Rattle.filling.specs.Columns.{ranges, reversed, columns, regularColumn, lastColumn, columnAt}
 use Rattle.filling.specs.Shapes.{Planner, Shape}
 use Rattle.filling.specs.Search as Filling

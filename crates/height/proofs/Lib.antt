@@ -1,3 +1,4 @@
+pub mod Computing
 pub mod SmallestHeight
 pub mod Passes
 pub mod Rearranging

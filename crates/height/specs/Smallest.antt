@@ -34,13 +34,3 @@ lowest (c ∷ cs) = Free (plusZero (least c cs))
 -- "The height is the smallest from y_low on that lies in no forbidden interval, and it is free if at most y_high."
 unfoldable pub heightOf : Float → Float → List Interval → Look
 heightOf y-low y-high is = lowest (keep (λ c. le c y-high && outside is c) (candidates y-low is))
-
--- the values of each answer: a height, or none
-unfoldable pub heightIn : Look → List Float
-heightIn (Free h) = h ∷ []
-heightIn Full = []
-
--- what a computed claim opens
-unfoldable pub height-computes : Unit {0}
-unfolding inside outside candidates least lowest heightOf heightIn
-height-computes = tt

@@ -7,7 +7,8 @@ use lib.Dec.{leb}
 use lib.Ieee.{Float}
 use Rattle.trapezoid.specs.Strip.{stripAt}
 use Rattle.index.specs.declared.Index.{Index}
-use Rattle.index.specs.Buckets.{upFrom, keep, buckets, bucketIn, covers, entered, Span, spanOf, numbersIn, byBucket, entriesOf}
+use Rattle.index.specs.Buckets.{upFrom, keep, buckets, bucketIn, Span, spanOf, numbersIn, byBucket, entriesOf}
+use Rattle.index.specs.Listing.{covers, entered}
 
 module _ (ix : Index) (standing : List Float) (b : ℕ) where
   numbers-keep : (n c : ℕ) → numbersIn b c (map (λ i. spanOf ix (stripAt standing i)) (upFrom n c)) ≡ keep (λ i. covers ix (stripAt standing i) b) (upFrom n c)

@@ -1,3 +1,4 @@
+pub mod Computing
 pub mod Steps
 pub mod Flat
 pub mod Collecting

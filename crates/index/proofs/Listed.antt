@@ -16,9 +16,9 @@ use Rattle.trapezoid.specs.Strip.{stripAt, capacity}
 use Rattle.index.specs.declared.Index.{Index}
 use Rattle.index.specs.declared.Interval.{Interval}
 use Rattle.index.specs.declared.Moving.{Moving}
-use Rattle.index.specs.Buckets.{buckets, upFrom, keep, bucketIn, covers, entered}
+use Rattle.index.specs.Buckets.{buckets, upFrom, keep, bucketIn}
 use Rattle.index.specs.Intervals.{meetingOf, intervalIn, forbiddenOf, countsOf, countedOf}
-use Rattle.index.specs.Listing.{movingOf, heightsOf, meetingAt, pairOf, metIn, entryOf, listEntries, listBucket, listMoving, listed, Usable, Laid, Bounded, Fair}
+use Rattle.index.specs.Listing.{movingOf, heightsOf, meetingAt, pairOf, metIn, entryOf, listEntries, listBucket, listMoving, listed, Usable, Laid, Bounded, Fair, covers, entered}
 use Rattle.index.proofs.Steps.{dich, eqb-yes, eqb-no, entry-true, entry-false, pair-apart, bucket-top}
 use Rattle.index.proofs.BucketOrder.{bucket-meets, larger-finite, smaller-finite}
 use Rattle.index.proofs.Flat.{perm-of, flat-same, flat-perm, flat-none, flat-swap, flat-single, flat-slice, flat-keep, keep-flat, keep-mem, upFrom-mem}

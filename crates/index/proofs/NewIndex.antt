@@ -16,8 +16,8 @@ use Rattle.numbers.proofs.Ranges.{div-within, int-num}
 use Rattle.numbers.proofs.Literals.{least, least-is, least-pos}
 use Rattle.trapezoid.specs.Strip.{stripAt}
 use Rattle.index.specs.declared.Index.{Index}
-use Rattle.index.specs.Buckets.{buckets, leastWidth, upFrom, keep, indexOf, covers, entered}
-use Rattle.index.specs.Listing.{Laid, Bounded, Fair}
+use Rattle.index.specs.Buckets.{buckets, leastWidth, upFrom, keep, indexOf}
+use Rattle.index.specs.Listing.{Laid, Bounded, Fair, covers, entered}
 use Rattle.index.proofs.BucketOrder.{larger-finite}
 use Rattle.index.proofs.Steps.{dich}
 use Rattle.index.proofs.Flat.{upFrom-mem}

@@ -36,15 +36,7 @@ indexOf x0 x1 = record { x0 = x0; width = larger ((x1 ⊖ x0) ⊘ fromInt bucket
 unfoldable pub bucketIn : Index → Float → ℕ
 bucketIn ix x = min (toUnsigned 64 ((x ⊖ ix .x0) ⊘ ix .width)) (buckets - 1)
 
--- "A standing strip is entered in every bucket from its x0 to its x1"
-unfoldable pub covers : Index → Trapezoid → ℕ → Bool
-covers ix p b = leb (bucketIn ix (p .x0)) b && leb b (bucketIn ix (p .x1))
-
--- the entries of bucket b: the numbers of the n standing strips of the room that are entered in it
-unfoldable pub entered : Index → List Float → ℕ → ℕ → List ℕ
-entered ix standing n b = keep (λ i. covers ix (stripAt standing i) b) (upFrom n 0)
-
--- the same "from its x0 to its x1": the first and the last bucket of a strip
+-- "A standing strip is entered in every bucket from its x0 to its x1": the first and the last bucket of a strip
 pub record Span : Type 0 where
   pub first : ℕ
   pub last : ℕ
@@ -73,8 +65,3 @@ stripNumbers = 65_536
 -- how many standing strips a room is used for
 unfoldable pub standingCapacity : List Float → ℕ
 standingCapacity room = min (capacity room) stripNumbers
-
--- what a computed claim opens
-unfoldable pub buckets-compute : Unit {0}
-unfolding upFrom keep indexOf bucketIn covers entered spanOf numbersIn byBucket entriesOf standingCapacity
-buckets-compute = tt

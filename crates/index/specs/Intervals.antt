@@ -44,8 +44,3 @@ countsOf y-low y-high i = lt (i .from) (i .to) && (lt y-low (i .to) && lt (i .fr
 -- the counted intervals
 unfoldable pub countedOf : Float → Float → List Float → List Float → Float → List Interval
 countedOf y-low y-high standing moving x = keep (countsOf y-low y-high) (forbiddenOf standing moving x)
-
--- what a computed claim opens
-unfoldable pub intervals-compute : Unit {0}
-unfolding intervalOf meetingOf intervalIn forbiddenOf countsOf countedOf
-intervals-compute = tt

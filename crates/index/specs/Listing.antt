@@ -1,5 +1,5 @@
--- For inner functions' contracts only: the order in which the index lists the counted intervals, the interval room, and what its functions require. No reader of a public contract needs them.
--- Definitions only. Assumes nothing.
+-- Inner functions' contracts only: the entries of one bucket, the order in which the index lists the counted intervals, the interval room, and
+-- what its functions require. Definitions only. Assumes nothing.
 use Prim.Native.Nat.{ℕ, zero, suc, _+_, _-_, _*_, _/_, _<_, _≤_}
 use mathlib.Core.Path.{_≡_}
 use mathlib.Core.Bool.{Bool, true, false, _&&_, _||_}
@@ -17,8 +17,17 @@ use Rattle.index.specs.declared.Interval.{Interval}
 use Rattle.index.specs.declared.Meeting.{Meeting}
 use Rattle.index.specs.declared.Meeting.the-variants.{Apart, Forbidden}
 use Rattle.index.specs.declared.Moving.{Moving}
-use Rattle.index.specs.Buckets.{buckets, upFrom, keep, bucketIn, entered}
+use Rattle.index.specs.Buckets.{buckets, upFrom, keep, bucketIn}
 use Rattle.index.specs.Intervals.{intervalOf, intervalIn, countsOf}
+
+-- ---- buckets
+-- "A standing strip is entered in every bucket from its x0 to its x1"
+unfoldable pub covers : Index → Trapezoid → ℕ → Bool
+covers ix p b = leb (bucketIn ix (p .x0)) b && leb b (bucketIn ix (p .x1))
+
+-- the entries of bucket b: the numbers of the n standing strips of the room that are entered in it
+unfoldable pub entered : Index → List Float → ℕ → ℕ → List ℕ
+entered ix standing n b = keep (λ i. covers ix (stripAt standing i) b) (upFrom n 0)
 
 -- ---- one pair
 unfoldable pub movingOf : Trapezoid → Float → Float → Float → Moving

@@ -1,3 +1,4 @@
+pub mod Computing
 pub mod Headers
 pub mod Whole
 pub mod Accepted

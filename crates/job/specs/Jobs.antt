@@ -14,6 +14,8 @@ use Rattle.bits.specs.Fields.{Field, kindsField, count, Range, resolutionRange,
 use Rattle.job.specs.declared.Header.{Header}
 use Rattle.job.specs.declared.Judged.{Judged}
 use Rattle.job.specs.declared.Judged.the-variants.{Passed, Failed}
+use Rattle.job.specs.declared.Verdict.{Verdict}
+use Rattle.job.specs.declared.Verdict.the-variants.{Accepted, Refused}
 use Rattle.sets.specs.Sets.{Set, aSet}
 use Rattle.kinds.specs.Kinds.{Kind, someKinds, copiesOf}
 
@@ -91,7 +93,7 @@ judged bytes (ok j p) = passed (judgeEnd bytes p (j .copies) (widthOf (j .sheet)
 unfoldable pub readJob : List ℕ → Answer
 readJob bytes = judged bytes (aJob bytes 0)
 
--- what a computed claim opens
-unfoldable pub jobs-compute : Unit {0}
-unfolding Rattle.kinds.specs.Kinds.kinds-compute afterVersion aHeader aJob ended left right widthOf judgeEnd judged readJob
-jobs-compute = tt
+-- what `judge` answers
+abbrev pub verdictOf : Answer → Verdict
+verdictOf (accepted j) = Accepted (j .header) (j .copies)
+verdictOf (refused k) = Refused k

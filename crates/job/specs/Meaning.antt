@@ -1,4 +1,4 @@
--- What the code's answers and tables say, in the terms of the job. Definitions only. Assumes nothing.
+-- Inner functions' contracts only: what the code's answers and tables say, in the terms of the job. Definitions only. Assumes nothing.
 use Prim.Native.Nat.{ℕ, zero, suc, _+_, _-_, _*_, _≤_}
 use mathlib.Core.Path.{_≡_}
 use mathlib.Core.List.{List, [], _∷_, _++_}
@@ -13,11 +13,9 @@ use Rattle.job.specs.declared.JobRead.{JobRead}
 use Rattle.job.specs.declared.JobRead.the-variants.{Good, NoJob}
 use Rattle.job.specs.declared.Judged.{Judged}
 use Rattle.job.specs.declared.Judged.the-variants.{Passed, Failed}
-use Rattle.job.specs.declared.Verdict.{Verdict}
-use Rattle.job.specs.declared.Verdict.the-variants.{Accepted, Refused}
-use Rattle.sets.specs.Sets.{setAt}
 use Rattle.kinds.specs.Tables.{tabulate, kindAt}
 use Rattle.job.specs.Jobs.{Job, Answer, accepted, refused}
+use Rattle.sets.specs.Answers.{setAt}
 
 abbrev pub headerRead : HeaderRead → Read Header
 headerRead (Front h q) = ok h q
@@ -32,11 +30,6 @@ answered (Failed k) h s c = NoJob k
 abbrev pub jobRead : JobRead → List ℕ → List ℕ → List Float → List ℕ → Answer
 jobRead (Good h s c) bytes rows areas places = accepted (record { header = h; sheet = setAt bytes s; kinds = tabulate (kindAt bytes rows areas places) (h .kinds); copies = c })
 jobRead (NoJob k) bytes rows areas places = refused k
-
--- what `judge` answers
-abbrev pub verdictOf : Answer → Verdict
-verdictOf (accepted j) = Accepted (j .header) (j .copies)
-verdictOf (refused k) = Refused k
 
 -- ---- how far an answer reaches, for sums that must fit
 

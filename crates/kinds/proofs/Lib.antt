@@ -1,3 +1,4 @@
+pub mod Computing
 pub mod Tables
 pub mod Rows
 pub mod Heads

@@ -12,7 +12,8 @@ use lib.Ieee.{Float, nan}
 use Rattle.bits.specs.declared.Refusal.{Refusal}
 use Rattle.bits.specs.Reading.{Read, ok, bad, after}
 use Rattle.kinds.specs.declared.KindHead.{KindHead}
-use Rattle.sets.specs.Sets.{Set, aSet, found, setAt}
+use Rattle.sets.specs.Sets.{Set, aSet}
+use Rattle.sets.specs.Answers.{found, setAt}
 use Rattle.kinds.specs.Kinds.{Orientation, anOrientation, someOrientations, Kind, kindHead, kindOf, aKind, someKinds}
 use Rattle.kinds.specs.Kinds.{copiesOf}
 use Rattle.kinds.specs.Tables.{tabulate, orientationAt, orientationsOf, headAt, kindWith, kindAt}

@@ -76,8 +76,3 @@ someKinds (suc n) ks = do
 unfoldable pub copiesOf : List Kind → ℕ
 copiesOf [] = 0
 copiesOf (k ∷ ks) = k .quantity + copiesOf ks
-
--- what a computed claim opens
-unfoldable pub kinds-compute : Unit {0}
-unfolding Rattle.sets.specs.Sets.sets-compute anOrientation someOrientations signed lower kindHead kindOf aKind someKinds copiesOf
-kinds-compute = tt

@@ -12,8 +12,8 @@ use Rattle.kinds.specs.declared.KindRead.{KindRead}
 use Rattle.kinds.specs.declared.KindRead.the-variants.{OneKind, NoKind}
 use Rattle.kinds.specs.declared.KindsRead.{KindsRead}
 use Rattle.kinds.specs.declared.KindsRead.the-variants.{AllKinds, NoKinds}
-use Rattle.sets.specs.Sets.{setAt}
 use Rattle.kinds.specs.Kinds.{Orientation, Kind, kindOf, copiesOf}
+use Rattle.sets.specs.Answers.{setAt}
 
 -- f 0, f 1, .. : n of them
 unfoldable pub tabulate : {A : Type 0} → (ℕ → A) → ℕ → List A

@@ -23,8 +23,8 @@ use Rattle.height.specs.Smallest.{heightOf}
 use Rattle.height.specs.Raising.{FiniteEnds}
 use Rattle.look.specs.declared.Answer.{Answer}
 use Rattle.look.specs.declared.Answer.the-variants.{NoRoom, Seen}
-use Rattle.look.specs.Looking.{countedIn, answerOf, lookOf}
-use Rattle.look.specs.Ready.{BoundedStrip, BoundedStrips, Lookable}
+use Rattle.look.specs.Looking.{countedIn}
+use Rattle.look.specs.Ready.{BoundedStrip, BoundedStrips, Lookable, answerOf, lookOf}
 use Rattle.look.proofs.IntervalEnds.{widen, moved-x0, moved-x1}
 use Rattle.look.proofs.Counted.{outside-within, same-height, counted-finite}
 

@@ -19,8 +19,8 @@ use Rattle.height.specs.declared.Look.the-variants.{Free, Full}
 use Rattle.height.specs.Smallest.{inside, outside, heightOf}
 use Rattle.height.specs.Raising.{FiniteEnd, FiniteEnds}
 use Rattle.height.proofs.SmallestHeight.{clash, Real, real-of, lt-is-true, lt-is-false, le-is-true, is-lt, is-le, inside-key, outside-of, of-outside, keep-mem, mem-keep, Smallest, NoneFree, height-free, height-full, free-height, full-height}
-use Rattle.look.specs.Looking.{forbiddenIn, countedIn}
-use Rattle.look.specs.Ready.{BoundedStrips}
+use Rattle.look.specs.Looking.{countedIn}
+use Rattle.look.specs.Ready.{BoundedStrips, forbiddenIn}
 use Rattle.look.proofs.IntervalEnds.{forbidden-finite}
 
 -- every interval of the one list is in the other

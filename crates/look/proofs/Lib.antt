@@ -1,3 +1,4 @@
+pub mod Computing
 pub mod IntervalEnds
 pub mod Counted
 pub mod Answering

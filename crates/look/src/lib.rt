@@ -3,8 +3,7 @@
 ghost use mathlib.Core.Path.{_≡_};
 ghost use Prim.Native.Nat.{_/_};
 ghost use lib.ListN.{length};
-ghost use Rattle.look.specs.Looking.{lookOf};
-ghost use Rattle.look.specs.Ready.{Lookable};
+ghost use Rattle.look.specs.Ready.{Lookable, lookOf};
 use height::Look;
 use index::Entry;
 use index::Index;

@@ -12,10 +12,11 @@ use lib.Dec.{T, leb, leb→le, le→leb}
 use lib.Ieee.{Float}
 use Rattle.trapezoid.specs.Strip.{stripAt}
 use Rattle.index.specs.declared.Index.{Index}
-use Rattle.index.specs.Buckets.{upFrom, keep, bucketIn, covers}
+use Rattle.index.specs.Buckets.{upFrom, keep, bucketIn}
 use Rattle.index.proofs.Steps.{dich, keep-yes, keep-no, keep-none}
 use Rattle.index.proofs.Flat.{keep-append}
 use Rattle.index.proofs.Collecting.{lt-or-ge}
+use Rattle.index.specs.Listing.{covers}
 use Rattle.marks.specs.NewEntries.{one, newIn}
 
 -- ---- lists of numbers

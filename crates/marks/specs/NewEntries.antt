@@ -8,7 +8,8 @@ use lib.Dec.{leb}
 use lib.Ieee.{Float}
 use Rattle.trapezoid.specs.Strip.{stripAt}
 use Rattle.index.specs.declared.Index.{Index}
-use Rattle.index.specs.Buckets.{upFrom, keep, bucketIn, covers}
+use Rattle.index.specs.Buckets.{upFrom, keep, bucketIn}
+use Rattle.index.specs.Listing.{covers}
 
 -- one if b is a bucket from lo to hi
 unfoldable pub one : ℕ → ℕ → ℕ → ℕ

@@ -2,11 +2,11 @@
 // only the number and zeros every lent room; an accepted one leaves its positions, with zeros after
 // them and in the work rooms").
 ghost use mathlib.Core.Path.{_≡_};
-ghost use Rattle.filling.specs.Rooms.{Lent};
+ghost use Rattle.filling.specs.Rooms.{Lent, lentOf};
 ghost use Rattle.nesting.specs.Nest.{nestOf};
 ghost use Rattle.report.specs.Replies.{reply, replyOf};
 ghost use Rattle.readied.specs.Zeroed.{Zeroed};
-ghost use Rattle.report.specs.Lent.{lentOf, answered};
+ghost use Rattle.report.specs.Lent.{answered};
 use filling::Refusal;
 use index::Entry;
 use job::JobRead;

@@ -8,63 +8,63 @@ Holds c = c .got ≡ c .want
 
 -- one declaration may take 50,000,000 steps: each case is computed by itself
 case-1 : Holds starred1
-unfolding Rattle.nesting.specs.Cases.cases-compute
+unfolding Rattle.nesting.proofs.Computing.cases-compute
 case-1 = refl
 
 case-2 : Holds starred2
-unfolding Rattle.nesting.specs.Cases.cases-compute
+unfolding Rattle.nesting.proofs.Computing.cases-compute
 case-2 = refl
 
 case-3 : Holds starred3
-unfolding Rattle.nesting.specs.Cases.cases-compute
+unfolding Rattle.nesting.proofs.Computing.cases-compute
 case-3 = refl
 
 case-4-calls : Holds starred4
-unfolding Rattle.nesting.specs.Cases.cases-compute
+unfolding Rattle.nesting.proofs.Computing.cases-compute
 case-4-calls = refl
 
 case-4-fill : Holds starred4-fill
-unfolding Rattle.nesting.specs.Cases.cases-compute
+unfolding Rattle.nesting.proofs.Computing.cases-compute
 case-4-fill = refl
 
 case-4-plan : Holds starred4-plan
-unfolding Rattle.nesting.specs.Cases.cases-compute
+unfolding Rattle.nesting.proofs.Computing.cases-compute
 case-4-plan = refl
 
 case-4-text : Holds starred4-text
-unfolding Rattle.nesting.specs.Cases.cases-compute
+unfolding Rattle.nesting.proofs.Computing.cases-compute
 case-4-text = refl
 
 case-5 : Holds starred5
-unfolding Rattle.nesting.specs.Cases.cases-compute
+unfolding Rattle.nesting.proofs.Computing.cases-compute
 case-5 = refl
 
 case-5-calls : Holds starred5-calls
-unfolding Rattle.nesting.specs.Cases.cases-compute
+unfolding Rattle.nesting.proofs.Computing.cases-compute
 case-5-calls = refl
 
 case-6 : Holds starred6
-unfolding Rattle.nesting.specs.Cases.cases-compute
+unfolding Rattle.nesting.proofs.Computing.cases-compute
 case-6 = refl
 
 case-7 : Holds starred7
-unfolding Rattle.nesting.specs.Cases.cases-compute
+unfolding Rattle.nesting.proofs.Computing.cases-compute
 case-7 = refl
 
 case-8 : Holds starred8
-unfolding Rattle.nesting.specs.Cases.cases-compute
+unfolding Rattle.nesting.proofs.Computing.cases-compute
 case-8 = refl
 
 case-9 : Holds starred9
-unfolding Rattle.nesting.specs.Cases.cases-compute
+unfolding Rattle.nesting.proofs.Computing.cases-compute
 case-9 = refl
 
 case-10 : Holds starred10
-unfolding Rattle.nesting.specs.Cases.cases-compute
+unfolding Rattle.nesting.proofs.Computing.cases-compute
 case-10 = refl
 
 case-11 : Holds starred11
-unfolding Rattle.nesting.specs.Cases.cases-compute
+unfolding Rattle.nesting.proofs.Computing.cases-compute
 case-11 = refl
 
 data Each : List Case → Type 0 where

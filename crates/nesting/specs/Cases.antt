@@ -13,7 +13,7 @@ use Rattle.index.specs.Buckets.{upFrom}
 use Rattle.job.specs.declared.Header.{Header}
 use Rattle.sets.specs.Sets.{Set}
 use Rattle.kinds.specs.Kinds.{Orientation, Kind}
-use Rattle.job.specs.Jobs.{Job, Answer, accepted, refused, readJob}
+use Rattle.job.specs.Jobs.{Job}
 use Rattle.filling.specs.declared.State.{State}
 use Rattle.filling.specs.declared.Plan.{Plan}
 use Rattle.filling.specs.declared.Verdict.{Verdict}
@@ -27,7 +27,7 @@ use Rattle.filling.specs.Fill.{Planned, fillOf}
 use Rattle.filling.specs.Calls.{Call, nextCopy, After, afterCalls}
 use Rattle.nesting.specs.Rounds.{Kept, Swaps, kept, ended, swapSearch}
 use Rattle.nesting.specs.Nest.{nestJob, nestOf}
-use Rattle.nesting.specs.Text.{replyText}
+use Rattle.nesting.specs.Text.{printed}
 
 -- a case: what the definitions come to, and what the paper says
 pub record Case : Type 0 where
@@ -73,17 +73,17 @@ unfoldable pub room : ℕ → List Float
 room n = replicate n (fromInt 7)
 
 -- strip and entry rooms
-unfoldable pub roomsOf : ℕ → ℕ → ℕ → Rooms
-roomsOf shapes placed entries =
+unfoldable pub roomsSized : ℕ → ℕ → ℕ → Rooms
+roomsSized shapes placed entries =
     record { shapes = room shapes; sheet = room 7; placed = room placed; sheet-entries = 9 ∷ []; placed-entries = replicate entries 9 }
 
 -- all seven rooms
-unfoldable pub lentOf : Rooms → ℕ → ℕ → Lent
-lentOf w intervals positions = record { rooms = w; intervals = room intervals; positions = room positions }
+unfoldable pub lentSized : Rooms → ℕ → ℕ → Lent
+lentSized w intervals positions = record { rooms = w; intervals = room intervals; positions = room positions }
 
 -- more than the cases need
 unfoldable pub ample : Lent
-ample = lentOf (roomsOf 25 31 1100) 9 26
+ample = lentSized (roomsSized 25 31 1100) 9 26
 
 -- what lies in the strip and entry rooms
 unfoldable pub roomsBits : Rooms → List (List ℕ)
@@ -163,11 +163,6 @@ calledBits n r =
 unfoldable pub fiveCopies : List ℕ
 fiveCopies = 0 ∷ 0 ∷ 0 ∷ 0 ∷ 0 ∷ []
 
--- the text of a job's plan
-unfoldable pub printed : Answer → Lent → List ℕ
-printed (refused k) l = []
-printed (accepted j) l = let r = nestJob j l in replyText j r (r .verdict)
-
 -- ---- numbers of the paper, as the bits of doubles
 
 -- 2
@@ -238,7 +233,7 @@ case4Plan = (0 ∷ 4 ∷ 1 ∷ 0 ∷ []) ∷ (4 ∷ 0 ∷ 1 ∷ 0 ∷ []) ∷ (1
 
 -- every room exact, but one position and a remainder to spare: zeros after the positions and in the work rooms
 unfoldable pub exact : Lent
-exact = lentOf (roomsOf 12 24 822) 4 31
+exact = lentSized (roomsSized 12 24 822) 4 31
 
 -- the rooms after case 4
 unfoldable pub case4Rooms : List (List ℕ)
@@ -289,7 +284,7 @@ starred3 = record { got = bits (setStrips true (rectangle 10 6)) ∷ []; want = 
 unfoldable pub starred4 : Case
 starred4 =
     record {
-      got = calledBits 6 (startOf case4 fiveCopies (lentOf (roomsOf 19 31 823) 5 26));
+      got = calledBits 6 (startOf case4 fiveCopies (lentSized (roomsSized 19 31 823) 5 26));
       want =
           (0 ∷ []) ∷ (0 ∷ 0 ∷ 0 ∷ 0 ∷ 0 ∷ 23 ∷ []) ∷ fourStanding ∷ (4 ∷ 0 ∷ []) ∷ (5 ∷ 4 ∷ d8 ∷ d12 ∷ []) ∷ (0 ∷ 1 ∷ 11 ∷ 0 ∷ []) ∷ roomsLeft;
     }
@@ -304,7 +299,7 @@ starred4-plan = record { got = plannedBits (nestOf case4 exact); want = case4Pla
 
 -- "as printed above"
 unfoldable pub starred4-text : Case
-starred4-text = record { got = printed (readJob case4) exact ∷ []; want = case4Text ∷ [] }
+starred4-text = record { got = printed case4 exact ∷ []; want = case4Text ∷ [] }
 
 -- 5*. "The first four only: 8 looks = 4 + 4.": a job of four, and four calls of case 4's
 unfoldable pub starred5 : Case
@@ -318,7 +313,7 @@ starred5 =
 unfoldable pub starred5-calls : Case
 starred5-calls =
     record {
-      got = calledBits 4 (startOf case4 fiveCopies (lentOf (roomsOf 19 31 823) 5 26));
+      got = calledBits 4 (startOf case4 fiveCopies (lentSized (roomsSized 19 31 823) 5 26));
       want = (0 ∷ []) ∷ (0 ∷ 0 ∷ 0 ∷ 0 ∷ []) ∷ fourStanding ∷ [] ∷ (4 ∷ 4 ∷ d8 ∷ 0 ∷ []) ∷ (5 ∷ 1 ∷ 8 ∷ 0 ∷ []) ∷ roomsLeft;
     }
 
@@ -374,8 +369,3 @@ unfoldable pub starred : List Case
 starred =
     starred1 ∷ starred2 ∷ starred3 ∷ starred4 ∷ starred4-fill ∷ starred4-plan ∷ starred4-text ∷ starred5 ∷ starred5-calls ∷ starred6 ∷ starred7
     ∷ starred8 ∷ starred9 ∷ starred10 ∷ starred11 ∷ []
-
--- what a computed claim opens
-unfoldable pub cases-compute : Unit {0}
-unfolding Rattle.numbers.specs.Numbers.numbers-compute Rattle.trapezoid.specs.Strip.strip-computes Rattle.slab.specs.Slab.slab-computes Rattle.strips.specs.Strips.strips-compute Rattle.index.specs.Buckets.buckets-compute Rattle.index.specs.Intervals.intervals-compute Rattle.height.specs.Smallest.height-computes Rattle.look.specs.Looking.looking-computes Rattle.job.specs.Jobs.jobs-compute Rattle.filling.specs.Refusals.refusals-compute Rattle.filling.specs.Columns.columns-compute Rattle.filling.specs.Shapes.shapes-compute Rattle.filling.specs.Search.search-computes Rattle.filling.specs.Choice.choice-computes Rattle.filling.specs.Rooms.rooms-compute Rattle.filling.specs.State.state-computes Rattle.filling.specs.Order.order-computes Rattle.filling.specs.Consistent.consistent-computes Rattle.filling.specs.Start.start-computes Rattle.filling.specs.NextCopy.next-copy-computes Rattle.filling.specs.Accounts.accounts-compute Rattle.filling.specs.Fill.fill-computes Rattle.filling.specs.Calls.calls-compute Rattle.random.specs.SplitMix64.nextState Rattle.random.specs.SplitMix64.mixed Rattle.nesting.specs.CopyOrder.copy-order-computes Rattle.nesting.specs.Rounds.rounds-compute Rattle.nesting.specs.Nest.nest-computes Rattle.nesting.specs.Text.text-computes flatMap rectangle triangle clockwise both jobOf bits room roomsOf lentOf ample roomsBits lentBits planBits jobBits drawsOf stateBits afterBits columnBits plannedBits case4 calledBits fiveCopies printed nothing fourPlates plateStrips fourStrips fourEntries roomsLeft fourStanding case4Plan exact case4Rooms case4Text starred1 starred2 starred3 starred4 starred4-fill starred4-plan starred4-text starred5 starred5-calls starred6 starred7 starred8 starred9 starred10 starred11 starred
-cases-compute = tt

@@ -40,8 +40,3 @@ ahead a b = (not (a .kind .fill) && b .kind .fill) || Bool·beq (a .kind .fill) 
 -- "Copies are ordered": the kinds of the job's copies
 unfoldable pub copyOrder : Job → List ℕ
 copyOrder j = flatMap (λ a. replicate (a .kind .quantity) (a .number)) (sort ahead (numbered 0 (j .kinds)))
-
--- what a computed claim opens
-unfoldable pub copy-order-computes : Unit {0}
-unfolding samePriority numbered largerFirst higherFirst ahead copyOrder
-copy-order-computes = tt

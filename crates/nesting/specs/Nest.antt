@@ -34,8 +34,3 @@ nestGiven (accepted j) l = nestJob j l
 -- the public operation `nest`: the whole plan
 unfoldable pub nestOf : List ℕ → Lent → Planned
 nestOf bytes l = nestGiven (readJob bytes) l
-
--- what a computed claim opens
-unfoldable pub nest-computes : Unit {0}
-unfolding nestVerdict nested nestJob nestGiven nestOf
-nest-computes = tt

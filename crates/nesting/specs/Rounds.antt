@@ -87,8 +87,3 @@ swapSearch j l =
     let order = copyOrder j in
     let q = firstKept j order (fillOrder j l order) in
     elim (leb 2 (length order)) [ true ↦ rounds j l (j .header .rounds) q | false ↦ q ]
-
--- what a computed claim opens
-unfoldable pub rounds-compute : Unit {0}
-unfolding betterThan noKind swappable swapped judged oneRound rounds firstKept swapSearch
-rounds-compute = tt

@@ -10,12 +10,15 @@ use Rattle.kinds.specs.Kinds.{Kind}
 use Rattle.job.specs.Jobs.{Job, Answer, accepted, refused, readJob}
 use Rattle.filling.specs.declared.Plan.{Plan}
 use Rattle.filling.specs.declared.Refusal.{Refusal}
+use Rattle.filling.specs.declared.Refusal.the-variants as Why
 use Rattle.filling.specs.declared.Verdict.{Verdict}
 use Rattle.filling.specs.declared.Verdict.the-variants.{Accepted, Refused}
 use Rattle.filling.specs.Refusals.{numberOf}
+use Rattle.filling.specs.Rooms.{Lent}
 use Rattle.filling.specs.Accounts.{Position}
 use Rattle.filling.specs.Fill.{Planned}
 use Rattle.nesting.specs.CopyOrder.{Numbered, numbered}
+use Rattle.nesting.specs.Nest.{nestOf}
 
 -- "Counts are decimal": n has at most so many digits
 unfoldable pub decimalUpTo : ℕ → ℕ → List ℕ
@@ -145,7 +148,11 @@ unfoldable pub replyText : Job → Planned → Verdict → List ℕ
 replyText j r Accepted = planText j (r .plan) (r .lent .positions)
 replyText j r (Refused k) = refusalText k
 
--- what a computed claim opens
-unfoldable pub text-computes : Unit {0}
-unfolding decimalUpTo decimal hexDigit hexUpTo hex line planLine positionAt putLine putLines leftLine leftLines fillLine fillLines lookLine lookLines lastLines planText refusalText replyText
-text-computes = tt
+-- "A refusal prints `no` and the number": of a job that is refused its own, of another what the reply says
+unfoldable pub printedFor : Answer → Planned → List ℕ
+printedFor (refused k) r = refusalText (Why.Job k)
+printedFor (accepted j) r = replyText j r (r .verdict)
+
+-- the text of a whole plan
+unfoldable pub printed : List ℕ → Lent → List ℕ
+printed bytes l = printedFor (readJob bytes) (nestOf bytes l)

@@ -1,7 +1,8 @@
 // The public operation `next_copy` (document 01): a single step over a state and its rooms.
 ghost use mathlib.Core.Path.{_≡_};
 ghost use Rattle.filling.specs.NextCopy.{nextCopyOf};
-ghost use Rattle.next_copy.specs.Reply.{roomsWith, replied};
+ghost use Rattle.filling.specs.Rooms.{roomsOf};
+ghost use Rattle.next_copy.specs.Reply.{replied};
 use filling::Refusal;
 use filling::State;
 use index::Entry;
@@ -21,7 +22,7 @@ pub fn next_copy(
     placed_entries: &mut [Entry],
     intervals: &mut [f64],
 ) -> Stepped
-    ensures { λ r. ⌜ replied r (roomsWith (now (shapes .entry)) (now (sheet .entry)) (now (placed .exit)) (now («sheet_entries» .entry)) (now («placed_entries» .exit))) (now (intervals .exit)) ≡ nextCopyOf (now (bytes .entry)) state (roomsWith (now (shapes .entry)) (now (sheet .entry)) (now (placed .entry)) (now («sheet_entries» .entry)) (now («placed_entries» .entry))) (now (intervals .entry)) ⌝ }
+    ensures { λ r. ⌜ replied r (roomsOf (now (shapes .entry)) (now (sheet .entry)) (now (placed .exit)) (now («sheet_entries» .entry)) (now («placed_entries» .exit))) (now (intervals .exit)) ≡ nextCopyOf (now (bytes .entry)) state (roomsOf (now (shapes .entry)) (now (sheet .entry)) (now (placed .entry)) (now («sheet_entries» .entry)) (now («placed_entries» .entry))) (now (intervals .entry)) ⌝ }
 {
     let j = job::read(bytes);
     let rows = j.rows;

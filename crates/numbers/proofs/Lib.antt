@@ -1,3 +1,4 @@
+pub mod Computing
 pub mod Truth
 pub mod Keys
 pub mod Rounding

@@ -46,8 +46,3 @@ plusZero x = cond (eq x posZero) posZero x
 -- "Doubles by their bits": what the 64 bits n of a job stand for; not finite is refused with 4
 unfoldable pub doubleOf : ℕ → Double
 doubleOf n = cond (finite (ofBits binary64 n)) (Finite (plusZero (ofBits binary64 n))) NotFinite
-
--- what a computed claim opens
-unfoldable pub numbers-compute : Unit {0}
-unfolding add sub mul div lt lib.Ieee.le eq ofBits ofInt lib.Ieee.toBits lib.Ieee.toUnsigned lib.Ieee.neg smaller larger plusZero doubleOf
-numbers-compute = tt

@@ -12,7 +12,7 @@ use Rattle.filling.specs.Rooms.{Lent, laid, zeros}
 use Rattle.filling.specs.Fill.{Planned}
 use Rattle.rooms.proofs.Zeroing.{replicate-snoc}
 use Rattle.nesting.specs.Nest.{nestOf}
-use Rattle.printed.specs.Printed.{printedFor, printed}
+use Rattle.nesting.specs.Text.{printedFor, printed}
 use Rattle.printed.proofs.Placed.{Placed, nest-placed}
 use Rattle.panel.specs.Told.{Told, bufferLength, toldOf}
 

@@ -6,7 +6,7 @@ use lib.ListN.{length}
 use lib.Dec.{ltb}
 use Rattle.filling.specs.Rooms.{Lent, laid, zeros}
 use Rattle.nesting.specs.Nest.{nestOf}
-use Rattle.printed.specs.Printed.{printed}
+use Rattle.nesting.specs.Text.{printed}
 
 -- where the text ends, the buffer and the rooms after
 pub record Told : Type 0 where

@@ -4,8 +4,7 @@ ghost use mathlib.Core.Path.{_≡_};
 ghost use Prim.Native.Nat.{_≤_};
 ghost use mathlib.Core.List.{_++_};
 ghost use lib.ListN.{length, take, drop};
-ghost use Rattle.filling.specs.Rooms.{zeros};
-ghost use Rattle.report.specs.Lent.{lentOf};
+ghost use Rattle.filling.specs.Rooms.{zeros, lentOf};
 ghost use Rattle.panel.specs.Told.{toldOf};
 use index::Entry;
 

@@ -12,7 +12,6 @@ use Rattle.trapezoid.specs.Strip.{capacity}
 use Rattle.index.specs.Buckets.{standingCapacity}
 use Rattle.index.specs.Listing.{Laid}
 use Rattle.strips.specs.declared.Rect.{Rect}
-use Rattle.sets.specs.Sets.{setAt}
 use Rattle.job.specs.declared.Header.{Header}
 use Rattle.job.specs.Jobs.{Job}
 use Rattle.filling.specs.declared.Refusal.{Refusal}
@@ -36,6 +35,7 @@ use Rattle.sheet.specs.SheetRoom.{SheetIn, SheetIs}
 use Rattle.prepare.specs.declared.Prepared.{Prepared}
 use Rattle.prepare.specs.Ready.{FromTables, given, PreparedIs}
 use Rattle.prepare.proofs.Tabled.{slots-are, sheet-bounds-are, sheet-strips-are}
+use Rattle.sets.specs.Answers.{setAt}
 
 -- ---- the verdict
 module _ (p : Planner) (w : Rooms) where

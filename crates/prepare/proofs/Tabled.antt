@@ -12,7 +12,6 @@ use borrow.Author.Tests.{lt-ltb, le-ltb}
 use Rattle.numbers.proofs.Rounding.{order}
 use Rattle.trapezoid.specs.Strip.{flat}
 use Rattle.index.specs.Buckets.{upFrom}
-use Rattle.sets.specs.Sets.{setAt}
 use Rattle.kinds.specs.Kinds.{Orientation, Kind, kindOf}
 use Rattle.kinds.specs.Tables.{tabulate, orientationAt, orientationsOf, headAt, kindWith, kindAt}
 use Rattle.kinds.proofs.Tables.{length-tabulate, tabulate-at}
@@ -26,6 +25,7 @@ use Rattle.filling.proofs.Reading.{upFrom-same}
 use Rattle.set_strips.specs.SetStrips.{stripsOf, stripsAt}
 use Rattle.slots.specs.Slots.{inUse, slotStrips, slotBounds, slotOf}
 use Rattle.prepare.specs.Ready.{FromTables}
+use Rattle.sets.specs.Answers.{setAt}
 
 -- what `job::read` answers
 pub from-tables : (bytes rows places : List ℕ) (areas : List Float) (h : Header) (s c : ℕ) (j : Job) → jobRead (Good h s c) bytes rows areas places ≡ accepted j → FromTables bytes rows places s (h .kinds) j

@@ -5,7 +5,6 @@ use mathlib.Core.List.{List, [], _++_}
 use lib.Ieee.{Float}
 use Rattle.trapezoid.specs.Strip.{capacity}
 use Rattle.index.specs.Listing.{Laid}
-use Rattle.sets.specs.Sets.{setAt}
 use Rattle.kinds.specs.Tables.{tabulate, kindAt}
 use Rattle.job.specs.Jobs.{Job}
 use Rattle.filling.specs.declared.Tables.{Tables}
@@ -15,6 +14,7 @@ use Rattle.filling.specs.Rooms.{Rooms, laid}
 use Rattle.filling.specs.Consistent.{sheetIndex, entriesFor}
 use Rattle.filling.specs.Start.{apartStrips, insetStrips, tablesOf, prepareVerdict}
 use Rattle.prepare.specs.declared.Prepared.{Prepared}
+use Rattle.sets.specs.Answers.{setAt}
 
 -- the job whose sheet begins at the bit position `at` and whose kinds lie in the tables
 pub record FromTables (bytes rows places : List ℕ) (at kinds : ℕ) (j : Job) : Type 0 where

@@ -15,8 +15,7 @@ use Rattle.filling.proofs.Sizes.{sized}
 use Rattle.filling.proofs.Reading.{sixteen-get}
 use Rattle.tables.specs.Tabled.{Tabled}
 use Rattle.tables.proofs.Tabling.{jobIn, kinds-in, tabled}
-use Rattle.nesting.specs.Text.{replyText, refusalText}
-use Rattle.printed.specs.Printed.{printedFor}
+use Rattle.nesting.specs.Text.{replyText, refusalText, printedFor}
 
 module _ (h : Header) (s c : ℕ) (bytes rows : List ℕ) (areas : List Float) (places : List ℕ) (e : readJob bytes ≡ accepted (jobIn h s c bytes rows areas places)) where
   abbrev J : Job

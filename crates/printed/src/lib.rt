@@ -4,7 +4,7 @@ ghost use mathlib.Core.Path.{_≡_};
 ghost use lib.ListN.{length, take};
 ghost use Rattle.job.specs.Jobs.{readJob};
 ghost use Rattle.filling.specs.Rooms.{Lent};
-ghost use Rattle.printed.specs.Printed.{printedFor};
+ghost use Rattle.nesting.specs.Text.{printedFor};
 use filling::Plan;
 use filling::Refusal;
 use filling::Verdict;

@@ -11,11 +11,11 @@ use Rattle.filling.specs.declared.Plan.{Plan}
 use Rattle.filling.specs.declared.Refusal.{Refusal}
 use Rattle.filling.specs.declared.Verdict.{Verdict}
 use Rattle.filling.specs.declared.Verdict.the-variants.{Accepted, Refused}
-use Rattle.filling.specs.Rooms.{Rooms, Lent, zeros, zeroRooms, onlyPositions}
+use Rattle.filling.specs.Rooms.{Rooms, Lent, zeros, zeroRooms, onlyPositions, lentOf}
 use Rattle.filling.specs.Fill.{Planned, notPlanned, plannedWith}
 use Rattle.report.specs.declared.NestResult.{NestResult}
 use Rattle.report.specs.Replies.{Reply, reply, replyOf, plannedWhen}
-use Rattle.report.specs.Lent.{lentOf, answered}
+use Rattle.report.specs.Lent.{answered}
 
 -- ---- the work rooms are left zero
 

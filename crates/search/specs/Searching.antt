@@ -9,7 +9,7 @@ use Rattle.height.specs.declared.Look.{Look}
 use Rattle.height.specs.declared.Look.the-variants.{Free, Full}
 use Rattle.look.specs.declared.Answer.{Answer}
 use Rattle.look.specs.declared.Answer.the-variants.{NoRoom, Seen}
-use Rattle.look.specs.Looking.{lookOf}
+use Rattle.look.specs.Ready.{lookOf}
 use Rattle.columns.specs.declared.Columns.{Columns}
 use Rattle.search.specs.declared.Found.{Found}
 use Rattle.search.specs.declared.Found.the-variants.{At, Nowhere, Overflow}

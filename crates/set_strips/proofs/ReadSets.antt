@@ -14,20 +14,22 @@ use Rattle.trapezoid.specs.declared.Trapezoid.{Trapezoid}
 use Rattle.trapezoid.specs.Strip.{flat}
 use Rattle.slab.specs.Slab as Slab
 use Rattle.strips.specs.declared.Stored.the-variants.{Count, NoRoom}
-use Rattle.strips.specs.Strips.{Loops, bounds, trapezoids, laid, Stowed, stored, strips-compute}
+use Rattle.strips.specs.Strips.{bounds, trapezoids}
 use Rattle.strips.specs.declared.Stored.{Stored}
 use Rattle.strips.proofs.Laying.{stored-fits, stored-count}
+use Rattle.strips.specs.Tables.{Loops, laid, Stowed, stored}
 use Rattle.bits.specs.declared.Refusal.{Refusal}
 use Rattle.bits.specs.Reading.{ok, bad}
 use Rattle.sets.specs.declared.SetRead.{SetRead}
 use Rattle.sets.specs.declared.SetRead.the-variants as Sets
-use Rattle.sets.specs.Answers.{setRead, setFits}
-use Rattle.sets.specs.Sets.{aSet, found, setAt}
+use Rattle.sets.specs.Answers.{setRead, setFits, found, setAt}
+use Rattle.sets.specs.Sets.{aSet}
 use Rattle.sets.proofs.Accepted.{Ends, ends-most, Good, set-good}
 use Rattle.filling.specs.Shapes.{setBounds}
 use Rattle.filling.specs.Rooms as Rooms
 use Rattle.filling.proofs.Reading.{length-flat}
 use Rattle.filling.proofs.WithinBoundsStrips.{ends-loops}
+use Rattle.strips.proofs.Computing.{strips-compute}
 use Rattle.set_strips.specs.SetStrips.{stripsOf, stripsAt}
 
 -- ---- the loop ends

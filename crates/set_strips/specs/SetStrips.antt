@@ -5,7 +5,8 @@ use mathlib.Core.List.{List}
 use lib.ListN.{length}
 use Rattle.trapezoid.specs.declared.Trapezoid.{Trapezoid}
 use Rattle.strips.specs.Strips.{trapezoids}
-use Rattle.sets.specs.Sets.{Set, setAt}
+use Rattle.sets.specs.Sets.{Set}
+use Rattle.sets.specs.Answers.{setAt}
 
 -- the strips of a set; those of the sheet if the flag says so
 unfoldable pub stripsOf : Set → Bool → List Trapezoid

@@ -3,10 +3,10 @@
 ghost use mathlib.Core.Path.{_≡_};
 ghost use Prim.Native.Nat.{ℕ, _+_, _*_, _≤_, _<_};
 ghost use lib.ListN.{length, getD, take};
-ghost use Rattle.sets.specs.Sets.{setAt};
-ghost use Rattle.strips.specs.Strips.{Stowed, stored};
 ghost use Rattle.filling.specs.Shapes.{setBounds};
 ghost use Rattle.set_strips.specs.SetStrips.{stripsAt};
+ghost use Rattle.strips.specs.Tables.{Stowed, stored};
+ghost use Rattle.sets.specs.Answers.{setAt};
 use sets::SetRead;
 use strips::Rect;
 use strips::Stored;

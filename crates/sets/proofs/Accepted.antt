@@ -10,7 +10,8 @@ use Rattle.numbers.proofs.Doubles.{Small}
 use Rattle.bits.specs.Reading.{Read, ok, bad, Reader, after, _>>=_, give}
 use Rattle.bits.specs.Fields.{loopsField, count, pointCount, Spot, point}
 use Rattle.bits.proofs.Accepted.{Gives, bad-not-ok, ok-same, bind, given, count-in-range, point-count-in, point-small}
-use Rattle.sets.specs.Sets.{Set, Points, somePoints, aLoop, someLoops, aSet, found, setAt}
+use Rattle.sets.specs.Sets.{Set, Points, somePoints, aLoop, someLoops, aSet}
+use Rattle.sets.specs.Answers.{found, setAt}
 
 -- every coordinate: finite, not minus zero, within 100,000
 abbrev pub Coordinates : List Float → Type 0

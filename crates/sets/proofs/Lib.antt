@@ -1,2 +1,3 @@
+pub mod Computing
 pub mod Reading
 pub mod Accepted

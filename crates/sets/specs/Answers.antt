@@ -1,6 +1,6 @@
--- What the code's answers say of points, loops and sets. Definitions only. Assumes nothing.
+-- Inner functions' contracts only: what the code's answers say of points, loops and sets. Definitions only. Assumes nothing.
 use Prim.Native.Nat.{ℕ, _+_, _-_, _*_, _≤_}
-use mathlib.Core.List.{List}
+use mathlib.Core.List.{List, []}
 use lib.ListN.{take}
 use lib.Ieee.{Float}
 use Rattle.bits.specs.Reading.{Read, ok, bad}
@@ -10,7 +10,7 @@ use Rattle.sets.specs.declared.LoopRead.{LoopRead}
 use Rattle.sets.specs.declared.LoopRead.the-variants.{Loop, NoLoop}
 use Rattle.sets.specs.declared.SetRead.{SetRead}
 use Rattle.sets.specs.declared.SetRead.the-variants.{Loops, NoSet}
-use Rattle.sets.specs.Sets.{Set, Points}
+use Rattle.sets.specs.Sets.{Set, Points, aSet}
 
 -- what lies in a table, read up to the position that the answer gives
 abbrev pub runRead : {A : Type 0} → Run → A → Read A
@@ -41,3 +41,11 @@ loopFits (NoLoop k) at before = Unit {0}
 abbrev pub setFits : SetRead → ℕ → Type 0
 setFits (Loops n m q) most = (n ≤ 64) × (m ≤ 512) × (q ≤ most)
 setFits (NoSet k) most = Unit {0}
+
+-- the set at a bit position; no loop where the bytes have none there
+abbrev pub found : Read Set → Set
+found (ok s q) = s
+found (bad k) = record { points = []; ends = [] }
+
+unfoldable pub setAt : List ℕ → ℕ → Set
+setAt bytes p = found (aSet bytes p)

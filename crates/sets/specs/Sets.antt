@@ -2,7 +2,7 @@
 use Prim.Native.Nat.{ℕ, zero, suc, _+_}
 use mathlib.Core.List.{List, [], _∷_, _++_}
 use lib.Ieee.{Float}
-use Rattle.bits.specs.Reading.{Read, ok, bad, Reader, after, _>>=_, _>>_, give}
+use Rattle.bits.specs.Reading.{Reader, after, _>>=_, _>>_, give}
 use Rattle.bits.specs.Fields.{Field, loopsField, count, pointCount, Spot, point}
 
 -- a set: the coordinates of its points, x, y, x, y, .., and for each loop the number of points up to its end
@@ -40,16 +40,3 @@ unfoldable pub aSet : Reader Set
 aSet = do
   n ← count loopsField
   someLoops n 0 [] []
-
--- the set at a bit position; no loop where the bytes have none there
-abbrev pub found : Read Set → Set
-found (ok s q) = s
-found (bad k) = record { points = []; ends = [] }
-
-unfoldable pub setAt : List ℕ → ℕ → Set
-setAt bytes p = found (aSet bytes p)
-
--- what a computed claim opens
-unfoldable pub sets-compute : Unit {0}
-unfolding Rattle.bits.specs.Fields.fields-compute somePoints aLoop someLoops aSet setAt
-sets-compute = tt

@@ -12,7 +12,7 @@ use Rattle.index.specs.Buckets.{upFrom}
 use Rattle.strips.specs.declared.Rect.{Rect}
 use Rattle.strips.specs.declared.Stored.{Stored}
 use Rattle.strips.specs.declared.Stored.the-variants as Stored
-use Rattle.strips.specs.Strips as Strips
+use Rattle.strips.specs.Tables as Tables
 use Rattle.filling.specs.Shapes.{Shape, noShape}
 use Rattle.filling.specs.Rooms.{laid}
 use Rattle.filling.specs.State.{bySlot, Part, flatParts, partAt, flatBounds, boundsAt}
@@ -181,7 +181,7 @@ module _ (f g : ℕ → List Trapezoid) (b : ℕ → Rect) (s : ℕ → Shape) (
         let z = both-number in
         let v : length shapes₁ ≡ length shapes₀ = ap length (P .2) ∙ length-laid (stripsTo f 1024) shapes₀ 0 (omega (arith, P .0, P .1)) in
         let c : m ≡ 0 + length (stripsTo f 1024) = omega (arith, P .0) in
-        let w : shapes ≡ Strips.laid (stripsTo f 1024 ++ stripsTo g 1024) shapes₀ 0 = Q .2 ∙ ap₂ (λ (r : List Float) (k : ℕ). Strips.laid (stripsTo g 1024) r k) (P .2) c ∙ laid-on (stripsTo f 1024) (stripsTo g 1024) shapes₀ 0 (omega (arith, P .0, P .1)) in (
+        let w : shapes ≡ Tables.laid (stripsTo f 1024 ++ stripsTo g 1024) shapes₀ 0 = Q .2 ∙ ap₂ (λ (r : List Float) (k : ℕ). Tables.laid (stripsTo g 1024) r k) (P .2) c ∙ laid-on (stripsTo f 1024) (stripsTo g 1024) shapes₀ 0 (omega (arith, P .0, P .1)) in (
           P .0 ∙ sym x,
           Q .0 ∙ sym y,
           omega (arith, z, P .0, Q .0, Q .1, v),

@@ -21,8 +21,7 @@ use Rattle.enter.proofs.Starts.{enter-fits, enter-over}
 use Rattle.strips.specs.declared.Rect.{Rect}
 use Rattle.strips.specs.declared.Stored.{Stored}
 use Rattle.strips.specs.declared.Stored.the-variants.{Count, NoRoom}
-use Rattle.strips.specs.Strips.{stored}
-use Rattle.sets.specs.Sets.{setAt}
+use Rattle.strips.specs.Tables.{stored}
 use Rattle.filling.specs.Shapes.{setBounds, setStrips}
 use Rattle.filling.specs.Rooms.{laid}
 use Rattle.filling.specs.Consistent.{sheetIndex, entriesFor}
@@ -32,6 +31,7 @@ use Rattle.filling.proofs.WithinBoundsStrips.{capacity-flat}
 use Rattle.set_strips.proofs.ReadSets.{laid-first, stored-number, stored-room, not-stored}
 use Rattle.sheet.specs.declared.SheetLaid.the-variants as Sheet
 use Rattle.sheet.specs.SheetRoom.{SheetIs}
+use Rattle.sets.specs.Answers.{setAt}
 
 -- ---- strips laid from the first on
 module _ (ss : List Trapezoid) (room₀ room : List Float) (r : Stored) (e : record { answer = r; room = room } ≡ stored ss room₀ 0) where

@@ -1,3 +1,4 @@
+pub mod Computing
 pub mod Sorting
 pub mod Merging
 pub mod Rows

@@ -10,7 +10,8 @@ use lib.Dec.{ltb}
 use lib.Ieee.{Float}
 use borrow.Author.Tests.{lt-ltb, le-ltb, ltb-true, ltb-false}
 use Rattle.trapezoid.specs.declared.Trapezoid.{Trapezoid}
-use Rattle.trapezoid.specs.Strip.{setStrip, flat, capacity}
+use Rattle.trapezoid.specs.Strip.{flat, capacity}
+use Rattle.trapezoid.specs.Writing.{setStrip}
 use Rattle.slab.specs.Slab.{kept, piece}
 use Rattle.slab.specs.Tables.{Held, put, hold}
 

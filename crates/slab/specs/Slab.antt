@@ -101,8 +101,3 @@ walk sheet top xa xb w la lb (c ∷ cs) =
 -- "from zero", "from bottom to top"
 unfoldable pub slab : List Edge → Bool → Float → Float → Float → Float → List Trapezoid
 slab es sheet bottom top xa xb = walk sheet top xa xb (pos 0) bottom bottom (crossings xa xb es)
-
--- what a computed claim opens
-unfoldable pub slab-computes : Unit {0}
-unfolding up insert sort spans heightAt direction crossing positive ahead before spanning crossings strip kept piece runs walk slab
-slab-computes = tt

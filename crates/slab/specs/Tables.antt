@@ -9,7 +9,8 @@ use lib.IntN.{pos, negsuc}
 use lib.Ieee.{Float, nan, lt, eq, fits, binary64, ofBits}
 use Rattle.numbers.specs.Numbers.{_⊕_}
 use Rattle.trapezoid.specs.declared.Trapezoid.{Trapezoid}
-use Rattle.trapezoid.specs.Strip.{setStrip, capacity}
+use Rattle.trapezoid.specs.Strip.{capacity}
+use Rattle.trapezoid.specs.Writing.{setStrip}
 use Rattle.slab.specs.declared.Edge.{Edge}
 use Rattle.slab.specs.declared.Row.{Row}
 use Rattle.slab.specs.Slab.{Crossing, before}

@@ -17,14 +17,14 @@ use Rattle.trapezoid.specs.Strip.{flat, capacity}
 use Rattle.strips.specs.declared.Rect.{Rect}
 use Rattle.strips.specs.declared.Stored.{Stored}
 use Rattle.strips.specs.declared.Stored.the-variants.{Count, NoRoom}
-use Rattle.strips.specs.Strips.{laid, Stowed, stored}
-use Rattle.sets.specs.Sets.{setAt}
+use Rattle.strips.specs.Tables.{laid, Stowed, stored}
 use Rattle.filling.specs.Shapes.{setBounds, noBounds}
 use Rattle.filling.specs.State.{boundsAt}
 use Rattle.filling.proofs.Reading.{length-flat, flat-append, getD-sets-other, getD-sets-here}
 use Rattle.set_strips.specs.SetStrips.{stripsAt}
 use Rattle.set_strips.proofs.ReadSets.{laid-nothing, nothing-stored, stored-number, stored-room, not-stored}
 use Rattle.slots.specs.Slots.{inUse, slotStrips, slotBounds, stripsTo, Column, SlotsLaid, BoundsTo}
+use Rattle.sets.specs.Answers.{setAt}
 
 -- ---- a slot
 

@@ -13,11 +13,11 @@ use Rattle.trapezoid.specs.Strip.{flat, capacity}
 use Rattle.strips.specs.declared.Rect.{Rect}
 use Rattle.strips.specs.declared.Stored.{Stored}
 use Rattle.strips.specs.declared.Stored.the-variants as Stored
-use Rattle.strips.specs.Strips as Strips
-use Rattle.sets.specs.Sets.{setAt}
+use Rattle.strips.specs.Tables as Tables
 use Rattle.filling.specs.Shapes.{Shape, setBounds, noBounds}
 use Rattle.filling.specs.State.{boundsAt}
 use Rattle.set_strips.specs.SetStrips.{stripsAt}
+use Rattle.sets.specs.Answers.{setAt}
 
 -- whether the job has slot i
 unfoldable pub inUse : List ℕ → ℕ → ℕ → Bool
@@ -53,7 +53,7 @@ pub record Column (which : ℕ) (f : ℕ → List Trapezoid) (n : ℕ) (old new 
 -- the strips of n slots lie in the room from strip number `from` on, or do not fit
 abbrev pub SlotsLaid : Stored → ℕ → (ℕ → List Trapezoid) → ℕ → ℕ → List Float → List Float → List ℕ → List ℕ → Type 0
 SlotsLaid (Stored.Count m) which f n from room₀ room parts₀ parts =
-    (m ≡ length (stripsTo f n)) × (6 * (from + m) ≤ length room₀) × (room ≡ Strips.laid (stripsTo f n) room₀ from) × Column which f n parts₀ parts
+    (m ≡ length (stripsTo f n)) × (6 * (from + m) ≤ length room₀) × (room ≡ Tables.laid (stripsTo f n) room₀ from) × Column which f n parts₀ parts
 SlotsLaid Stored.NoRoom which f n from room₀ room parts₀ parts = capacity room₀ < from + length (stripsTo f n)
 
 -- the bounds of the first n slots

@@ -5,9 +5,9 @@ ghost use mathlib.Core.Path.{_≡_};
 ghost use mathlib.Core.Logic.{_≢_};
 ghost use Prim.Native.Nat.{ℕ, _+_, _*_, _≤_, _<_};
 ghost use lib.ListN.{length};
-ghost use Rattle.strips.specs.Strips.{Stowed, stored};
 ghost use Rattle.filling.specs.State.{boundsAt};
 ghost use Rattle.slots.specs.Slots.{inUse, slotStrips, slotBounds, SlotsLaid, BoundsTo};
+ghost use Rattle.strips.specs.Tables.{Stowed, stored};
 use strips::Rect;
 use strips::Stored;
 

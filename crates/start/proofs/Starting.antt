@@ -21,7 +21,7 @@ use Rattle.filling.specs.declared.Verdict.{Verdict}
 use Rattle.filling.specs.declared.Verdict.the-variants.{Accepted, Refused}
 use Rattle.filling.specs.Refusals.{refuseIf}
 use Rattle.filling.specs.Shapes.{Planner, plannerOf}
-use Rattle.filling.specs.Rooms.{Lent, positionCapacity, laid, zeros, zeroRooms, onlyPositions}
+use Rattle.filling.specs.Rooms.{Lent, positionCapacity, laid, zeros, zeroRooms, onlyPositions, lentOf}
 use Rattle.filling.specs.Order.{rearranged}
 use Rattle.filling.specs.Start.{firstRooms, prepareVerdict, startVerdict, Start, noStart, goodStart, startJob, startGiven, startOf}
 use Rattle.filling.proofs.Begin.{rearranged-length}
@@ -31,7 +31,7 @@ use Rattle.prepare.specs.Ready.{FromTables}
 use Rattle.prepare.proofs.Tabled.{from-tables}
 use Rattle.started.specs.declared.Started.{Started}
 use Rattle.started.specs.Answers.{notStarted}
-use Rattle.start.specs.Answered.{lentOf, answered}
+use Rattle.start.specs.Answered.{answered}
 use Rattle.begin.specs.Beginning.{Cleared, Begun}
 use Rattle.filling.proofs.Begin.{start-refused, start-good}
 use Rattle.begin.proofs.Beginning.{not-begun, begun-refused}

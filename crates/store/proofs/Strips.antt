@@ -11,7 +11,8 @@ use lib.Ieee.{Float, nan}
 use mathlib.Core.Bool.{Bool, true, false}
 use borrow.Author.Tests.{ltb-true, ltb-false}
 use Rattle.trapezoid.specs.declared.Trapezoid.{Trapezoid}
-use Rattle.trapezoid.specs.Strip.{stripAt, setStrip, flat, capacity, movedBy}
+use Rattle.trapezoid.specs.Strip.{stripAt, flat, capacity, movedBy}
+use Rattle.trapezoid.specs.Writing.{setStrip}
 use Rattle.index.specs.Buckets.{upFrom}
 use Rattle.filling.specs.Shapes.{movedStrips}
 use Rattle.filling.specs.Rooms.{laid}

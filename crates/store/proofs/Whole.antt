@@ -12,7 +12,8 @@ use lib.Ieee.{Float}
 use borrow.Author.Tests.{lt-ltb, le-ltb, le-leb, lt-leb, leb-true, leb-false}
 use Rattle.numbers.specs.Numbers.{_⊕_}
 use Rattle.trapezoid.specs.declared.Trapezoid.{Trapezoid}
-use Rattle.trapezoid.specs.Strip.{stripAt, setStrip, capacity, movedBy}
+use Rattle.trapezoid.specs.Strip.{stripAt, capacity, movedBy}
+use Rattle.trapezoid.specs.Writing.{setStrip}
 use Rattle.index.specs.declared.Index.{Index}
 use Rattle.index.specs.Buckets.{buckets, bucketIn, entriesOf, stripNumbers, standingCapacity}
 use Rattle.index.proofs.Standing.{standing-within, standing-few}

@@ -12,8 +12,8 @@ use lib.Ieee.{Float}
 use Rattle.trapezoid.specs.declared.Trapezoid.{Trapezoid}
 use Rattle.trapezoid.specs.Strip.{stripAt, movedBy}
 use Rattle.index.specs.declared.Index.{Index}
-use Rattle.index.specs.Buckets.{buckets, upFrom, keep, bucketIn, covers, entered, entriesOf}
-use Rattle.index.specs.Listing.{Laid}
+use Rattle.index.specs.Buckets.{buckets, upFrom, keep, bucketIn, entriesOf}
+use Rattle.index.specs.Listing.{Laid, covers, entered}
 use Rattle.index.proofs.Steps.{dich, bucket-top}
 use Rattle.index.proofs.EntryLists.{entries-by-bucket}
 use Rattle.index.proofs.Flat.{flat-same, upFrom-mem}

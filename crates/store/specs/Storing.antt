@@ -7,7 +7,8 @@ use lib.Dec.{ltb}
 use lib.Ieee.{Float}
 use Rattle.numbers.specs.Numbers.{_⊕_}
 use Rattle.trapezoid.specs.declared.Trapezoid.{Trapezoid}
-use Rattle.trapezoid.specs.Strip.{stripAt, setStrip, capacity, movedBy}
+use Rattle.trapezoid.specs.Strip.{stripAt, capacity, movedBy}
+use Rattle.trapezoid.specs.Writing.{setStrip}
 use Rattle.index.specs.declared.Index.{Index}
 use Rattle.index.specs.Buckets.{bucketIn, entriesOf, standingCapacity}
 use Rattle.index.specs.Listing.{Laid}

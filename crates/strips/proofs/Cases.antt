@@ -4,10 +4,13 @@ use mathlib.Core.Path.{_≡_, refl}
 use mathlib.Core.Bool.{true, false}
 use mathlib.Core.List.{List, [], _∷_, map}
 use lib.Ieee.{Float, binary64, toBits}
-use Rattle.numbers.specs.Numbers.{fromInt, numbers-compute}
-use Rattle.trapezoid.specs.Strip.{flat, stripAt, heightsAt, strip-computes}
-use Rattle.slab.specs.Slab.{slab-computes}
-use Rattle.strips.specs.Strips.{trapezoids, strips-compute}
+use Rattle.numbers.specs.Numbers.{fromInt}
+use Rattle.trapezoid.specs.Strip.{flat, stripAt, heightsAt}
+use Rattle.numbers.proofs.Computing.{numbers-compute}
+use Rattle.trapezoid.proofs.Computing.{strip-computes}
+use Rattle.slab.proofs.Computing.{slab-computes}
+use Rattle.strips.specs.Strips.{trapezoids}
+use Rattle.strips.proofs.Computing.{strips-compute}
 
 abbrev numbers : List ℕ → List Float
 numbers l = map (λ n. fromInt n) l

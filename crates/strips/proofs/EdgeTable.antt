@@ -11,7 +11,8 @@ use Rattle.slab.specs.declared.Edge.{Edge}
 use Rattle.slab.specs.Slab.{up}
 use Rattle.slab.specs.Tables.{edgeAt, setEdge}
 use Rattle.slab.proofs.Sorting.{up-ext, up-snoc}
-use Rattle.strips.specs.Strips.{edge, after, loopEdges, edges, Loops}
+use Rattle.strips.specs.Strips.{edge, after, loopEdges, edges}
+use Rattle.strips.specs.Tables.{Loops}
 
 module _ (rs : List Float) (i : ℕ) (e : Edge) where
   edge-other : (k : ℕ) → (k < 6 * i) → getD (setEdge rs i e) k nan ≡ getD rs k nan

@@ -14,7 +14,7 @@ use Rattle.slab.specs.Tables.{Held, hold}
 use Rattle.slab.proofs.Storing.{take-all, hold-fits, hold-over, hold-room}
 use Rattle.strips.specs.declared.Stored.{Stored}
 use Rattle.strips.specs.declared.Stored.the-variants.{Count, NoRoom}
-use Rattle.strips.specs.Strips.{laid, stored}
+use Rattle.strips.specs.Tables.{laid, stored}
 
 module _ (ss : List Trapezoid) (r r' : List Float) (from count : ℕ) (h : 6 * from ≤ length r) (e : record { room = r'; count = count } ≡ hold (record { room = r; count = from }) ss) where
   room-is : r' ≡ laid (take (length r / 6 - from) ss) r from

@@ -1,3 +1,4 @@
+pub mod Computing
 pub mod EdgeTable
 pub mod Boxes
 pub mod Slanted

@@ -13,7 +13,8 @@ use Rattle.slab.specs.declared.Edge.{Edge}
 use Rattle.slab.specs.Slab.{up, sort, slab}
 use Rattle.slab.proofs.Sizes.{Coordinate, Height, Good, All, Sides, wide, all-append, all-sort, all-up, slab-good}
 use Rattle.strips.specs.declared.Rect.{Rect}
-use Rattle.strips.specs.Strips.{xOf, yOf, Loops, widened, boundsOn, bounds, frame, distinctFrom, distinct, xs, between, slabs, edge, after, loopEdges, edges, trapezoids}
+use Rattle.strips.specs.Strips.{xOf, yOf, widened, boundsOn, bounds, frame, distinctFrom, distinct, xs, between, slabs, edge, after, loopEdges, edges, trapezoids}
+use Rattle.strips.specs.Tables.{Loops}
 
 -- all four sides are coordinates
 pub record Framed (b : Rect) : Type 0 where

@@ -1,19 +1,14 @@
--- Document 01, "Strips": the strips of a set of loops, and how they are stored. The strips of one slab are in the crate slab. Definitions only. Assumes nothing.
-use Prim.Native.Nat.{ℕ, zero, suc, _+_, _-_, _*_, _≤_}
-use mathlib.Core.Path.{_≡_}
+-- Document 01, "Strips": the strips of a set of loops. The strips of one slab are in the crate slab. Definitions only. Assumes nothing.
+use Prim.Native.Nat.{ℕ, zero, suc, _+_, _-_, _*_}
 use mathlib.Core.Bool.{Bool, true, false, cond}
 use mathlib.Core.List.{List, [], _∷_, _++_}
-use lib.ListN.{getD, length, take, drop}
-use lib.Dec.{ltb}
+use lib.ListN.{getD}
 use lib.Ieee.{Float, nan, lt, eq}
 use Rattle.numbers.specs.Numbers.{smaller, larger}
 use Rattle.trapezoid.specs.declared.Trapezoid.{Trapezoid}
-use Rattle.trapezoid.specs.Strip.{flat, capacity}
 use Rattle.slab.specs.declared.Edge.{Edge}
 use Rattle.slab.specs.Slab.{up, sort, slab}
 use Rattle.strips.specs.declared.Rect.{Rect}
-use Rattle.strips.specs.declared.Stored.{Stored}
-use Rattle.strips.specs.declared.Stored.the-variants.{Count, NoRoom}
 
 -- ---- a set: its points lie as x, y, x, y, ..; a loop ends before the point that `ends` says, and the next begins there
 
@@ -22,11 +17,6 @@ xOf pts i = getD pts (2 * i) nan
 
 unfoldable pub yOf : List Float → ℕ → Float
 yOf pts i = getD pts (2 * i + 1) nan
-
--- the loops lie in n points: each begins where the one before ends, and the last ends at n
-unfoldable pub Loops : ℕ → List ℕ → ℕ → Type 0
-Loops first [] n = first ≡ n
-Loops first (e ∷ es) n = (first ≤ e) × (e ≤ n) × Loops e es n
 
 -- "its bounding box": nesting.rs's bounds
 unfoldable pub widened : Rect → Float → Float → Rect
@@ -94,25 +84,3 @@ edges pts first (e ∷ es) = loopEdges pts first first (e - first) ++ edges pts 
 
 unfoldable pub trapezoids : List Float → ℕ → List ℕ → Bool → List Trapezoid
 trapezoids pts n ends sheet = slabs (edges pts 0 ends) sheet (bounds pts n .bottom) (bounds pts n .top) (xs pts n sheet)
-
--- ---- storing from strip number `from` on
-
-pub record Stowed : Type 0 where
-  pub answer : Stored
-  pub room : List Float
-
--- the room with the strips ss from number `from` on; what stood before and after them stays
-unfoldable pub laid : List Trapezoid → List Float → ℕ → List Float
-laid ss room from = take (6 * from) room ++ (flat ss ++ drop (6 * (from + length ss)) room)
-
--- "20: strips to be stored exceed the lent strip room"; then those that fit are laid
-unfoldable pub stored : List Trapezoid → List Float → ℕ → Stowed
-stored ss room from = record {
-  answer = cond (ltb (capacity room) (from + length ss)) NoRoom (Count (length ss));
-  room = laid (take (capacity room - from) ss) room from;
-}
-
--- what a computed claim opens
-unfoldable pub strips-compute : Unit {0}
-unfolding xOf yOf widened boundsOn bounds frame distinctFrom distinct xs between slabs edge after loopEdges edges trapezoids laid stored
-strips-compute = tt

@@ -10,8 +10,8 @@ ghost use lib.ListN.{length, getD};
 ghost use lib.Ieee.{nan, eq};
 ghost use Rattle.slab.specs.Slab.{up};
 ghost use Rattle.slab.specs.Tables.{down, edgeAt, setEdge, Held, hold};
-ghost use Rattle.strips.specs.Tables.{slanted};
-ghost use Rattle.strips.specs.Strips.{distinct, widened, bounds, edge, after, loopEdges, edges, Loops, between, slabs, trapezoids, Stowed, stored};
+ghost use Rattle.strips.specs.Tables.{slanted, Loops, Stowed, stored};
+ghost use Rattle.strips.specs.Strips.{distinct, widened, bounds, edge, after, loopEdges, edges, between, slabs, trapezoids};
 
 // A bounding box, in nesting.rs's order: smallest x, smallest y, largest x, largest y.
 pub struct Rect {

@@ -4,8 +4,7 @@ use mathlib.Core.Path.{_≡_, refl, sym, ap}
 use mathlib.Core.List.{[]}
 use lib.ListN.{replicate, length-replicate}
 use Rattle.numbers.specs.Numbers.{posZero}
-use Rattle.filling.specs.Rooms.{Lent, zeros}
-use Rattle.report.specs.Lent.{lentOf}
+use Rattle.filling.specs.Rooms.{Lent, zeros, lentOf}
 use Rattle.readied.specs.Zeroed.{Zeroed}
 
 -- what preparing is lent; the search has rooms of its own

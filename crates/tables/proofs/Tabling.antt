@@ -10,7 +10,6 @@ use lib.Dec.{eqb}
 use lib.Ieee.{Float, nan}
 use Rattle.numbers.specs.Numbers.{posZero}
 use Rattle.job.specs.declared.Header.{Header}
-use Rattle.sets.specs.Sets.{setAt}
 use Rattle.kinds.specs.Kinds.{Kind, kindOf, signed}
 use Rattle.kinds.specs.Tables.{tabulate, kindAt, kindWith, headAt, orientationsOf}
 use Rattle.kinds.proofs.Tables.{length-tabulate, tabulate-at}
@@ -18,6 +17,7 @@ use Rattle.job.specs.Jobs.{Job, accepted, readJob}
 use Rattle.filling.specs.State.{orientationCounts}
 use Rattle.filling.proofs.Sizes.{sized}
 use Rattle.tables.specs.Tabled.{Tabled}
+use Rattle.sets.specs.Answers.{setAt}
 
 -- the job that the tables hold
 abbrev pub jobIn : Header → ℕ → ℕ → List ℕ → List ℕ → List Float → List ℕ → Job

@@ -2,7 +2,7 @@
 use Prim.Native.Nat.{ℕ, _+_, _*_, _/_}
 use mathlib.Core.Bool.{cond}
 use mathlib.Core.List.{List, [], _∷_}
-use lib.ListN.{getD, length, set, take, drop}
+use lib.ListN.{getD, length, take, drop}
 use lib.Dec.{leb}
 use lib.Ieee.{Float, nan, le}
 use Rattle.numbers.specs.Numbers.{_⊕_, _⊖_, _⊗_, _⊘_}
@@ -20,11 +20,6 @@ stripAt room i = record {
   high0 = getD room (6 * i + 4) nan;
   high1 = getD room (6 * i + 5) nan;
 }
-
--- the room with s as its strip number i
-unfoldable pub setStrip : List Float → ℕ → Trapezoid → List Float
-setStrip room i s =
-    set (set (set (set (set (set room (6 * i) (s .x0)) (6 * i + 1) (s .x1)) (6 * i + 2) (s .low0)) (6 * i + 3) (s .low1)) (6 * i + 4) (s .high0)) (6 * i + 5) (s .high1)
 
 -- strips as they lie in a room
 unfoldable pub flat : List Trapezoid → List Float
@@ -54,8 +49,3 @@ movedBy s x y = record { x0 = s .x0 ⊕ x; x1 = s .x1 ⊕ x; low0 = s .low0 ⊕ 
 -- of a room, count strips from strip `from` on; an empty part where the room ends before
 unfoldable pub partOf : List Float → ℕ → ℕ → List Float
 partOf room from count = cond (leb (from + count) (capacity room)) (take (6 * count) (drop (6 * from) room)) []
-
--- what a computed claim opens
-unfoldable pub strip-computes : Unit {0}
-unfolding stripAt setStrip flat capacity heightsAt movedBy partOf
-strip-computes = tt

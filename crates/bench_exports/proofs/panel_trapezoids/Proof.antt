@@ -1,6 +1,7 @@
 -- `bench_exports::panel_trapezoids` meets its contract. Assumes nothing.
 use denote.Ref.{now}
-use Rattle.strips.specs.Strips.{trapezoids, stored}
+use Rattle.strips.specs.Strips.{trapezoids}
+use Rattle.strips.specs.Tables.{stored}
 use Rattle.bench_exports.proofs.Told.{told-count, told-none}
 use borrow.Author.Needs.{needs}
 use Rattle.bench_exports.proofs.panel_trapezoids.Statement.{statement}

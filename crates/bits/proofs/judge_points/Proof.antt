@@ -3,11 +3,11 @@ use mathlib.Core.Path.{sym, _∙_, subst}
 use native.Mathlib.Omega.{arith}
 use Prim.Native.Nat.{_≤_}
 use Rattle.bits.specs.declared.Counted.{Counted}
-use Rattle.bits.specs.Fields.{countOf}
 use Rattle.bits.proofs.Judging.{count-most, points-over, points-in, points-no}
 use borrow.Author.Needs.{needs}
 use Rattle.bits.proofs.judge_points.Statement.{statement}
 use Rattle.bits.proofs.judge_points.Tie as tie
+use Rattle.bits.specs.Answers.{countOf}
 
 judge-count-requires : tie.Need-judge-count-requires
 judge-count-requires c κs = search needs

@@ -38,7 +38,7 @@ use denote.Triple.Table.{entered, cited}
 use denote.Triple.Walked.{says, needs, Stays, stay-none, stay-none-slice, walkOf, goes-none, goes-none-slice, Walks, ends-at, walked, walk-meets}
 use denote.Exit.{yes}
 use denote.Triple.Clauses.{ensured, lasts}
-use Rattle.bits.specs.Reading.{bits, taken}
+use Rattle.bits.specs.Reading.{bits}
 use Rattle.bits.specs.declared.BitReader.{BitReader}
 use Rattle.bits.specs.declared.Taken.{Taken}
 use Rattle.bits.proofs.BitReader as T
@@ -57,6 +57,7 @@ use Rattle.bits.proofs.read_field.Key.{name as #bits·read-field}
 use Rattle.bits.proofs.read_field as read-field
 use Rattle.bits.proofs.read_field.Statement as stated
 use Rattle.bits.proofs.read_field.Code as code
+use Rattle.bits.specs.Answers.{taken}
 
 -- the struct's type, over the signature's lifetimes
 abbrev B : Lfts 1 → RattleType

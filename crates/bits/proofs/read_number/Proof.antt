@@ -2,11 +2,11 @@
 use mathlib.Core.Path.{ap, _∙_}
 use Prim.Native.Nat.{_+_}
 use Rattle.bits.specs.declared.Taken.{Taken}
-use Rattle.bits.specs.Reading.{taken}
 use Rattle.bits.proofs.Judging.{number-is, number-end}
 use borrow.Author.Needs.{needs}
 use Rattle.bits.proofs.read_number.Statement.{statement}
 use Rattle.bits.proofs.read_number.Tie as tie
+use Rattle.bits.specs.Answers.{taken}
 
 read-field-requires : tie.Need-read-field-requires
 read-field-requires c κs = search needs

@@ -3,8 +3,9 @@ use Prim.Native.Nat.{ℕ, _-_, _≤_}
 use native.Mathlib.Omega.{arith}
 use lib.ListN.{length, getD}
 use Rattle.trapezoid.specs.Strip.{stripAt}
-use Rattle.index.specs.Buckets.{buckets, entered}
+use Rattle.index.specs.Buckets.{buckets}
 use Rattle.index.proofs.Steps.{bucket-top}
+use Rattle.index.specs.Listing.{entered}
 use Rattle.enter.specs.Gaps.{Blocks}
 use Rattle.enter.specs.EntryRoom.{startOf}
 use Rattle.enter.proofs.GapFilling.{strip-room, fill-turn}

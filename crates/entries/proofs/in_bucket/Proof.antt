@@ -9,7 +9,7 @@ use borrow.Author.Needs.{needs}
 use Rattle.trapezoid.specs.declared.Trapezoid.{Trapezoid}
 use Rattle.trapezoid.specs.Strip.{stripAt}
 use Rattle.index.specs.Buckets.{upFrom}
-use Rattle.index.specs.Buckets.{buckets, bucketIn, covers, keep, entered}
+use Rattle.index.specs.Buckets.{buckets, bucketIn, keep}
 use Rattle.entries.specs.declared.Walked.{Walked}
 use Rattle.entries.specs.declared.Walked.the-variants.{At, Wrong}
 use Rattle.entries.specs.Walk.{follows}
@@ -20,6 +20,7 @@ use Rattle.entries.proofs.in_bucket.Tie as tie
 use Rattle.entries.proofs.in_bucket.Reads as reads
 use Rattle.entries.proofs.in_bucket.Lts as lts
 use Rattle.index.proofs.Index.bucket.Reads as bucket-reads
+use Rattle.index.specs.Listing.{covers, entered}
 
 is : (t : Bool) → lib.Dec.T t → t ≡ true
 is true x = refl

@@ -9,7 +9,7 @@ use borrow.Author.Needs.{needs}
 use Rattle.trapezoid.specs.declared.Trapezoid.{Trapezoid}
 use Rattle.trapezoid.specs.Strip.{stripAt}
 use Rattle.index.specs.Buckets.{upFrom}
-use Rattle.index.specs.Buckets.{buckets, bucketIn, covers, keep, entered}
+use Rattle.index.specs.Buckets.{buckets, bucketIn, keep}
 use Rattle.entries.specs.declared.Walked.{Walked}
 use Rattle.entries.specs.declared.Walked.the-variants.{At, Wrong}
 use Rattle.entries.specs.Walk.{follows}
@@ -21,6 +21,7 @@ use Rattle.entries.proofs.step.Reads as reads
 use Rattle.entries.proofs.step.Lts as lts
 use Rattle.entries.proofs.in_bucket.Reads as in-bucket-reads
 use Rattle.index.proofs.entry.Reads as entry-reads
+use Rattle.index.specs.Listing.{covers, entered}
 use Rattle.trapezoid.proofs.load.Reads as load-reads
 
 -- src/lib.rt:33:9

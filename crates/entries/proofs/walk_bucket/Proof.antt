@@ -10,7 +10,8 @@ use borrow.Author.Needs.{needs}
 use Rattle.trapezoid.specs.declared.Trapezoid.{Trapezoid}
 use Rattle.trapezoid.specs.Strip.{stripAt}
 use Rattle.index.specs.Buckets.{upFrom}
-use Rattle.index.specs.Buckets.{buckets, bucketIn, covers, keep, entered}
+use Rattle.index.specs.Buckets.{buckets, bucketIn, keep}
+use Rattle.index.specs.Listing.{covers, entered}
 use Rattle.entries.specs.declared.Walked.{Walked}
 use Rattle.entries.specs.declared.Walked.the-variants.{At, Wrong}
 use Rattle.entries.specs.Walk.{follows}

@@ -1,9 +1,9 @@
 -- `job::judge` meets its contract. Assumes nothing.
 use mathlib.Core.Path.{sym, ap}
-use Rattle.job.specs.Meaning.{verdictOf}
 use Rattle.job.proofs.Whole.{read-as}
 use Rattle.job.proofs.judge.Statement.{statement}
 use Rattle.job.proofs.judge.Tie as tie
+use Rattle.job.specs.Jobs.{verdictOf}
 
 read-requires : tie.Need-read-requires
 read-requires c κs = tt

@@ -6,9 +6,8 @@ use lib.Ieee.{ofInt, ofBits, div}
 use Rattle.bits.specs.declared.Taken.{Taken}
 use Rattle.bits.specs.declared.Counted.{Counted}
 use Rattle.bits.specs.declared.Measured.{Measured}
-use Rattle.bits.specs.Reading.{taken}
 use Rattle.bits.specs.Fields.{counted, measured}
-use Rattle.bits.specs.Fields.{countOf}
+use Rattle.bits.specs.Answers.{countOf, taken}
 use Rattle.job.proofs.Headers.{front-1, front-2, front-3, front-4, front-in}
 use borrow.Author.Needs.{needs}
 use Rattle.job.proofs.read_front.Statement.{statement}

@@ -4,8 +4,8 @@ use Prim.Native.Nat.{ℕ, _+_, _-_, _*_, _/_, _≤_, _<_}
 use native.Mathlib.Omega.{arith}
 use lib.ListN.{length, getD}
 use Rattle.index.proofs.Steps.{kept-length}
-use Rattle.look.specs.Looking.{countedIn, answerOf, lookOf}
-use Rattle.look.specs.Ready.{Lookable}
+use Rattle.look.specs.Looking.{countedIn}
+use Rattle.look.specs.Ready.{Lookable, answerOf, lookOf}
 use Rattle.look.proofs.Answering.{lists, holds-finite, refused, seen, look-perm, look-finite, sheet-usable, placed-usable, both-pushed}
 use borrow.Author.Needs.{needs}
 use Rattle.look.proofs.look_at.Statement.{statement}

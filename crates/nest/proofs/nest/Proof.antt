@@ -2,11 +2,11 @@
 use mathlib.Core.Path.{_∙_}
 use Rattle.numbers.specs.Numbers.{posZero}
 use Rattle.nesting.specs.Nest.{nestOf}
-use Rattle.report.specs.Lent.{lentOf}
 use Rattle.readied.proofs.Left.{zeros-after, together}
 use Rattle.nest.proofs.Whole.{nest-zero}
 use Rattle.nest.proofs.nest.Statement.{statement}
 use Rattle.nest.proofs.nest.Tie as tie
+use Rattle.filling.specs.Rooms.{lentOf}
 
 zero-requires : tie.Need-zero-requires
 zero-requires c κs = tt

@@ -4,10 +4,11 @@ use native.Mathlib.Omega.{arith}
 use mathlib.Core.Path.{_≡_, refl, _∙_}
 use lib.ListN.{length}
 use borrow.Author.Needs.{needs}
-use Rattle.report.specs.Lent.{lentOf, answered}
+use Rattle.report.specs.Lent.{answered}
 use Rattle.panel.proofs.Telling.{told-short, told-text, placed-of}
 use Rattle.panel.proofs.plan_text.Statement.{statement}
 use Rattle.panel.proofs.plan_text.Tie as tie
+use Rattle.filling.specs.Rooms.{lentOf}
 
 returns : tie.Need-returns
 returns c =

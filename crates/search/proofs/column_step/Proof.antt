@@ -2,8 +2,7 @@
 use Rattle.search.specs.Searching.{answerAt}
 use Rattle.search.proofs.Turns.{counted-in}
 use Rattle.tracks.proofs.Fields.{field-at, first-kept}
-use Rattle.look.specs.Looking.{lookOf}
-use Rattle.look.specs.Ready.{Lookable}
+use Rattle.look.specs.Ready.{Lookable, lookOf}
 use lib.Ieee.{Float}
 use lib.ListN.{length}
 use Prim.Native.Nat.{ℕ, _/_, _+_, _<_, _^_}

@@ -5,7 +5,6 @@ use native.Mathlib.Omega.{arith}
 use Prim.Native.Nat.{ℕ, _+_, _*_, _≤_}
 use lib.Seq.{length-take-le}
 use Rattle.trapezoid.specs.declared.Trapezoid.{Trapezoid}
-use Rattle.strips.specs.Strips.{Loops, stored}
 use Rattle.sets.specs.declared.SetRead.{SetRead}
 use Rattle.sets.specs.Answers.{setRead}
 use Rattle.set_strips.proofs.ReadSets.{set-in, strips-are, none-stored}
@@ -17,6 +16,7 @@ use Rattle.set_strips.proofs.set_strips.Lts as lts
 use Rattle.set_strips.proofs.shorten.Reads as shorten-reads
 use Rattle.sets.proofs.read_set.Reads as read-set-reads
 use Rattle.strips.proofs.trapezoids.Reads as trapezoids-reads
+use Rattle.strips.specs.Tables.{Loops, stored}
 
 read-set-requires : tie.Need-read-set-requires
 read-set-requires c κs = search needs

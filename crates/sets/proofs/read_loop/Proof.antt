@@ -5,7 +5,7 @@ use Prim.Native.Nat.{_+_, _-_, _*_, _≤_}
 use lib.ListN.{take}
 use Rattle.bits.specs.declared.Counted.{Counted}
 use Rattle.bits.specs.Fields.{counted}
-use Rattle.bits.specs.Fields.{countOf}
+use Rattle.bits.specs.Answers.{countOf}
 use Rattle.sets.specs.declared.Run.{Run}
 use Rattle.sets.specs.Answers.{runRead, runFits}
 use Rattle.sets.proofs.Reading.{loop-count, loop-bad, loop-in}

@@ -5,7 +5,7 @@ use mathlib.Core.Path.{ap, _∙_}
 use Prim.Native.Nat.{_+_, _-_}
 use lib.ListN.{length-set}
 use Rattle.bits.specs.declared.PointRead.{PointRead}
-use Rattle.bits.specs.Fields.{pointRead}
+use Rattle.bits.specs.Answers.{pointRead}
 use Rattle.sets.proofs.Reading.{PointsTo, points-start, points-on, points-end, points-all}
 use Rattle.sets.proofs.read_points.Statement.{statement}
 use Rattle.sets.proofs.read_points.Tie as tie

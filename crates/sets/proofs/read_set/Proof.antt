@@ -4,7 +4,7 @@ use mathlib.Core.Path.{ap, _∙_, subst}
 use Prim.Native.Nat.{_+_, _-_, _≤_}
 use Rattle.bits.specs.declared.Counted.{Counted}
 use Rattle.bits.specs.Fields.{counted}
-use Rattle.bits.specs.Fields.{countOf}
+use Rattle.bits.specs.Answers.{countOf}
 use Rattle.sets.proofs.Reading.{set-count, set-in, set-wide}
 use borrow.Author.Needs.{needs}
 use Rattle.sets.proofs.read_set.Statement.{statement}

@@ -2,7 +2,6 @@
 use mathlib.Core.Path.{sym, ap, _∙_}
 use mathlib.Core.List.{List}
 use Rattle.trapezoid.specs.declared.Trapezoid.{Trapezoid}
-use Rattle.strips.specs.Strips.{stored}
 use Rattle.slots.proofs.SlotWalk.{strips-used, nothing-laid}
 use borrow.Author.Needs.{needs}
 use Rattle.slots.proofs.slot_strips.Statement.{statement}
@@ -11,6 +10,7 @@ use Rattle.slots.proofs.slot_strips.Reads as reads
 use Rattle.slots.proofs.slot_strips.Lts as lts
 use Rattle.set_strips.proofs.set_strips.Reads as set-strips-reads
 use Rattle.slots.proofs.in_use.Reads as in-use-reads
+use Rattle.strips.specs.Tables.{stored}
 
 in-use-requires : tie.Need-in-use-requires
 in-use-requires c κs = search needs

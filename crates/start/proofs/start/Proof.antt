@@ -4,12 +4,12 @@ use native.Mathlib.Omega.{arith}
 use native.Mathlib.Nat.{le-of-eq}
 use Prim.Native.Nat.{ℕ, _+_, _≤_, _<_}
 use Rattle.start.proofs.Starting.{whole}
-use Rattle.start.specs.Answered.{lentOf}
 use borrow.Author.Needs.{needs}
 use Rattle.start.proofs.start.Statement.{statement}
 use Rattle.start.proofs.start.Tie as tie
 use Rattle.start.proofs.start.Reads as reads
 use Rattle.start.proofs.start.Lts as lts
+use Rattle.filling.specs.Rooms.{lentOf}
 
 zero-requires : tie.Need-zero-requires
 zero-requires c κs = tt

@@ -8,10 +8,11 @@ use native.Mathlib.Omega.{arith}
 use Rattle.slab.specs.Slab.{up}
 use Rattle.slab.specs.Tables.{edgeAt}
 use Rattle.strips.proofs.EdgeTable.{loops-next, edges-next, loops-end, edges-end}
-use Rattle.strips.specs.Strips.{edges, Loops}
+use Rattle.strips.specs.Strips.{edges}
 use borrow.Author.Needs.{needs}
 use Rattle.strips.proofs.edges.Statement.{statement}
 use Rattle.strips.proofs.edges.Tie as tie
+use Rattle.strips.specs.Tables.{Loops}
 
 abbrev Inv-loop : tie.InvT-loop
 Inv-loop points n ends es₀ first₀ i₀ es first i =

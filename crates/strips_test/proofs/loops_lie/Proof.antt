@@ -6,8 +6,8 @@ use native.Mathlib.Omega.{arith}
 use lib.Dec.{T}
 use mathlib.Core.Path.{subst, sym}
 use borrow.Author.Tests.{eqb-true}
-use Rattle.strips.specs.Strips.{Loops}
 use Rattle.strips.proofs.EdgeTable.{loops-back, loops-done}
+use Rattle.strips.specs.Tables.{Loops}
 use Rattle.strips_test.proofs.loops_lie.Statement.{statement}
 use Rattle.strips_test.proofs.loops_lie.Tie as tie
 

@@ -1,10 +1,10 @@
 -- `trapezoid::store` meets its contract. Assumes nothing.
 use native.Mathlib.Omega.{arith}
 use lib.ListN.{length-set}
-use Rattle.trapezoid.specs.Strip.{setStrip}
 use borrow.Author.Needs.{needs}
 use Rattle.trapezoid.proofs.store.Statement.{statement}
 use Rattle.trapezoid.proofs.store.Tie as tie
+use Rattle.trapezoid.specs.Writing.{setStrip}
 
 mul-at : tie.Need-mul-at
 mul-at c = search needs

@@ -43,7 +43,7 @@ use denote.Triple.Table.{entered, cited}
 use denote.Triple.Walked.{says, needs, Stays, stay-none, walkOf, goes-none, Walks, ends-at, walked, walk-meets}
 use denote.Exit.{yes}
 use denote.Triple.Clauses.{ensured, lasts}
-use Rattle.bits.specs.Reading.{bits, taken}
+use Rattle.bits.specs.Reading.{bits}
 use Rattle.bits.specs.declared.BitReader.{BitReader}
 use Rattle.bits.specs.declared.Taken.{Taken}
 use Rattle.bits.proofs.BitReader as T
@@ -58,6 +58,7 @@ use Rattle.bits.proofs.BitReader.take.Key.{name as #bits·take}
 use Rattle.bits.proofs.BitReader.take as take
 use Rattle.bits.proofs.BitReader.take.Statement as stated
 use Rattle.bits.proofs.BitReader.take.Code as code
+use Rattle.bits.specs.Answers.{taken}
 
 -- the struct's type, over the signature's lifetimes
 abbrev B : Lfts 1 → RattleType
