@@ -11,6 +11,7 @@ use lib.Seq.{take-add}
 use lib.Dec.{eqb}
 use lib.Ieee.{Float, nan}
 use borrow.Author.Tests.{eq-eqb, ne-eqb}
+use Rattle.numbers.proofs.Truth.{below-or-not, same-or-not}
 use Rattle.index.specs.Buckets.{upFrom}
 use Rattle.index.proofs.Flat.{flat-snoc}
 use Rattle.filling.specs.declared.State.{State}
@@ -19,9 +20,10 @@ use Rattle.filling.specs.Rooms.{laid}
 use Rattle.filling.specs.State.{copyAt, standsAt, missesAt, standingTo, withoutTo}
 use Rattle.filling.specs.Order.{countIn}
 use Rattle.filling.specs.Accounts.{Position, positionsOfKind, flatPositions}
+use Rattle.filling.proofs.CountIn.{count-same, count-other, count-append}
 use Rattle.accounts.specs.Counting.{stands, misses, sumTo, countIf, kindTo, standsIn, missesIn}
 use Rattle.accounts.specs.Laying.{setPosition, putPosition}
-use Rattle.accounts.proofs.Counts.{below, same, stands-none, stands-most, sum-few, sum-rise, kind-here, kind-other, kind-rise, kinds-few}
+use Rattle.accounts.proofs.Counts.{stands-none, stands-most, sum-few, sum-rise, kind-here, kind-other, kind-rise, kinds-few}
 use Rattle.accounts.proofs.Segments.{position-long, position-after, position-before, segment-next, put-none-room}
 
 -- ---- lists
@@ -50,7 +52,7 @@ kind-nil k n = refl
 
 positions-more : (k n : ℕ) (cs ds : List Standing) → positionsOfKind k n (cs ++ ds) ≡ positionsOfKind k n cs ++ positionsOfKind k (n + length (positionsOfKind k n cs)) ds
 positions-more k n [] ds = rw (kind-nil k n) (ap (λ (m : ℕ). positionsOfKind k m ds) (omega arith))
-positions-more k n (c ∷ cs) ds = elim (same (c .copy .kind) k) [
+positions-more k n (c ∷ cs) ds = elim (same-or-not (c .copy .kind) k) [
   | inl e ↦
       rw (kind-yes k n c (cs ++ ds) e, kind-yes k n c cs e, positions-more k (suc n) cs ds)
       (let z : suc n + length (positionsOfKind k (suc n) cs) ≡ n + suc (length (positionsOfKind k (suc n) cs)) = omega arith in rw z)
@@ -61,25 +63,6 @@ count-zero : (b : Bool) → countIf b 0 ≡ 0
 unfolding countIf
 count-zero true = refl
 count-zero false = refl
-
-count-yes : (k l : ℕ) (ls : List ℕ) → k ≡ l → countIn k (l ∷ ls) ≡ suc (countIn k ls)
-unfolding countIn
-count-yes k l ls e = rw (eq-eqb k l e, countIn)
-
-count-no : (k l : ℕ) (ls : List ℕ) → (k ≡ l → ⊥) → countIn k (l ∷ ls) ≡ countIn k ls
-unfolding countIn
-count-no k l ls e = rw (ne-eqb k l e, countIn)
-
-count-nil : (k : ℕ) → countIn k [] ≡ 0
-unfolding countIn
-count-nil k = refl
-
-count-append : (k : ℕ) (xs ys : List ℕ) → countIn k (xs ++ ys) ≡ countIn k xs + countIn k ys
-count-append k [] ys = rw (count-nil k) (omega arith)
-count-append k (x ∷ xs) ys = elim (same k x) [
-  | inl e ↦ rw (count-yes k x (xs ++ ys) e, count-yes k x xs e) (let a = count-append k xs ys in omega arith)
-  | inr e ↦ rw (count-no k x (xs ++ ys) e, count-no k x xs e) (count-append k xs ys)
-]
 
 -- ---- the copies of a state
 
@@ -104,7 +87,7 @@ module _ (s : State) where
   one-count : (k m i o : ℕ) → length (positionsOfKind k m (standsAt s i o)) ≡ countIf (eqb (kindAt i) k) (stands o)
   unfolding standsAt copyAt stands countIf
   one-count k m i zero = rw (kind-nil k m) (sym (count-zero (eqb (kindAt i) k)))
-  one-count k m i (suc o) = elim (same (kindAt i) k) [
+  one-count k m i (suc o) = elim (same-or-not (kindAt i) k) [
     | inl e ↦ rw (kind-yes k m (record { copy = record { place = i; kind = kindAt i }; orientation = o; x = getD (s .layout .x) i nan; y = getD (s .layout .y) i nan }) [] e, kind-nil k (suc m), eq-eqb (kindAt i) k e)
     | inr e ↦ rw (kind-no k m (record { copy = record { place = i; kind = kindAt i }; orientation = o; x = getD (s .layout .x) i nan; y = getD (s .layout .y) i nan }) [] e, kind-nil k m, ne-eqb (kindAt i) k e)
   ]
@@ -145,9 +128,9 @@ module _ (s : State) where
 
   missing-one : (k i o : ℕ) → countIn k (map (λ c. c .kind) (missesAt s i o)) ≡ countIf (eqb (kindAt i) k) (misses o)
   unfolding missesAt copyAt misses countIf countIn
-  missing-one k i zero = elim (same (kindAt i) k) [
-    | inl e ↦ rw (eq-eqb (kindAt i) k e) (count-yes k (kindAt i) [] (sym e))
-    | inr e ↦ rw (ne-eqb (kindAt i) k e) (count-no k (kindAt i) [] (λ z. e (sym z)))
+  missing-one k i zero = elim (same-or-not (kindAt i) k) [
+    | inl e ↦ rw (eq-eqb (kindAt i) k e) (count-same k (kindAt i) [] (eq-eqb k (kindAt i) (sym e)))
+    | inr e ↦ rw (ne-eqb (kindAt i) k e) (count-other k (kindAt i) [] (ne-eqb k (kindAt i) (λ z. e (sym z))))
   ]
   missing-one k i (suc o) = sym (count-zero (eqb (kindAt i) k))
 
@@ -196,14 +179,14 @@ module _ (s : State) where
           omega arith
 
       pub place-fits : 5 * (startOf kind + copy) + 5 * stands (number i) ≤ 5 * n
-      place-fits = elim (below 0 (stands (number i))) [
+      place-fits = elim (below-or-not 0 (stands (number i))) [
         | inl l ↦ let m = stands-most (number i) in let a = room-left (omega arith) in let b = start-most (suc kind) in omega arith
         | inr l ↦ let a = kind-rise standsAll (s .order) kind i n (omega arith) in let d = start-suc kind in let b = start-most (suc kind) in omega arith
       ]
 
       -- a copy without a place leaves everything as it is
       kind-still : (k : ℕ) → number i ≡ 0 → kindTo standsAll (s .order) k (i + 1) ≡ kindTo standsAll (s .order) k i
-      kind-still k e = elim (same k kind) [
+      kind-still k e = elim (same-or-not k kind) [
         | inl z ↦ rw z (let a = kind-here standsAll (s .order) i in let b = stands-none (number i) e in omega arith)
         | inr z ↦ kind-other standsAll (s .order) k i z
       ]
@@ -266,13 +249,13 @@ module _ (s : State) where
           → take (5 * kindTo standsAll (s .order) k (i + 1)) (drop (5 * startOf k) (setPosition room (startOf kind + copy) (one o))) ≡ flatPositions (positionsOfKind k 0 (standingTo s (i + 1)))
       part-same before room o k e z f =
           rw (kind-other standsAll (s .order) k i z, positions-same o k e z)
-          (elim (below k kind) [
+          (elim (below-or-not k kind) [
             | inl l ↦ position-before room (startOf kind + copy) (one o) (5 * startOf k) (5 * kindTo standsAll (s .order) k i) (part-before k l)
             | inr l ↦ ap (take (5 * kindTo standsAll (s .order) k i)) (position-after room (startOf kind + copy) (one o) (5 * startOf k) (part-after k (above l) (stands-one o e)))
           ] ∙ f .part k)
         where
           above : kind ≤ k → kind < k
-          above l = elim (below kind k) [ inl m ↦ m | inr m ↦ absurd (z (omega arith)) ]
+          above l = elim (below-or-not kind k) [ inl m ↦ m | inr m ↦ absurd (z (omega arith)) ]
 
       part-next : (before room : List Float) (o : ℕ) → number i ≡ suc o → 5 * n ≤ length room → Filled before room i
           → take (5 * kindTo standsAll (s .order) kind (i + 1)) (drop (5 * startOf kind) (setPosition room (startOf kind + copy) (one o))) ≡ flatPositions (positionsOfKind kind 0 (standingTo s (i + 1)))
@@ -287,7 +270,7 @@ module _ (s : State) where
       filled-with before room o e w f =
           record {
             long = position-long room (startOf kind + copy) (one o) ∙ f .long;
-            part = λ k. elim (same k kind) [
+            part = λ k. elim (same-or-not k kind) [
               | inl z ↦ subst (λ (q : ℕ). take (5 * kindTo standsAll (s .order) q (i + 1)) (drop (5 * startOf q) (setPosition room (startOf kind + copy) (one o))) ≡ flatPositions (positionsOfKind q 0 (standingTo s (i + 1)))) (sym z) (part-next before room o e w f)
               | inr z ↦ part-same before room o k e z f
             ];

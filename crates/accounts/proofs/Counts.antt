@@ -8,22 +8,14 @@ use native.Mathlib.Omega.{arith}
 use native.Mathlib.Numerals.{add-one}
 use lib.ListN.{length, getD, set, replicate, length-set, length-replicate, getD-replicate}
 use lib.Seq.{getD-set-same, getD-set-other}
-use lib.Dec.{eqb, ltb}
-use borrow.Author.Tests.{eq-eqb, ne-eqb, eqb-true, eqb-false, lt-ltb, le-ltb}
-use Rattle.numbers.proofs.Truth.{either}
-use Rattle.numbers.proofs.Rounding.{order}
+use lib.Dec.{ltb}
+use borrow.Author.Tests.{eq-eqb, ne-eqb, lt-ltb, le-ltb}
+use Rattle.numbers.proofs.Truth.{either, below-or-not, same-or-not}
 use Rattle.index.specs.Buckets.{upFrom}
+use Rattle.index.proofs.Flat.{getD-upFrom}
 use Rattle.filling.specs.State.{bySlot}
-use Rattle.filling.proofs.Reading.{getD-upFrom, upFrom-list}
+use Rattle.filling.proofs.Reading.{upFrom-list}
 use Rattle.accounts.specs.Counting.{stands, misses, sumTo, countIf, kindTo, byKind, startsBy}
-
--- ---- two numbers
-
-pub below : (a b : ℕ) → (a < b) ⊎ (b ≤ a)
-below = order
-
-pub same : (a b : ℕ) → (a ≡ b) ⊎ (a ≡ b → ⊥)
-same a b = elim (either (eqb a b)) [ inl e ↦ inl (eqb-true a b e) | inr e ↦ inr (eqb-false a b e) ]
 
 -- ---- one copy
 
@@ -64,7 +56,7 @@ sum-next f n = rw (add-one n)
 pub sum-rise : (f : ℕ → ℕ) (m n : ℕ) → m ≤ n → sumTo f m ≤ sumTo f n
 unfolding sumTo
 sum-rise f m zero h = let e : m ≡ 0 = omega arith in rw e (omega arith)
-sum-rise f m (suc n) h = elim (below m (suc n)) [
+sum-rise f m (suc n) h = elim (below-or-not m (suc n)) [
   | inl l ↦ let r = sum-rise f m n (omega arith) in omega arith
   | inr l ↦ let q : m ≡ suc n = omega arith in rw q (omega arith)
 ]
@@ -93,7 +85,7 @@ module _ (f : ℕ → ℕ) (order : List ℕ) where
   pub kind-rise : (k m n : ℕ) → m ≤ n → kindTo f order k m ≤ kindTo f order k n
   unfolding kindTo
   kind-rise k m zero h = let e : m ≡ 0 = omega arith in rw e (omega arith)
-  kind-rise k m (suc n) h = elim (below m (suc n)) [
+  kind-rise k m (suc n) h = elim (below-or-not m (suc n)) [
     | inl l ↦ let r = kind-rise k m n (omega arith) in omega arith
     | inr l ↦ let q : m ≡ suc n = omega arith in rw q (omega arith)
   ]
@@ -101,7 +93,7 @@ module _ (f : ℕ → ℕ) (order : List ℕ) where
   pub kind-most : (k n : ℕ) → ((i : ℕ) → f i ≤ 1) → kindTo f order k n ≤ n
   unfolding kindTo countIf
   kind-most k zero h = omega arith
-  kind-most k (suc n) h = elim (same (getD order n 0) k) [
+  kind-most k (suc n) h = elim (same-or-not (getD order n 0) k) [
     | inl e ↦ rw (eq-eqb (getD order n 0) k e) (let a = kind-most k n h in let b = h n in omega arith)
     | inr e ↦ rw (ne-eqb (getD order n 0) k e) (let a = kind-most k n h in omega arith)
   ]
@@ -110,9 +102,9 @@ module _ (f : ℕ → ℕ) (order : List ℕ) where
   kinds-step : (m n : ℕ) → sumTo (λ k. kindTo f order k (suc n)) m ≡ sumTo (λ k. kindTo f order k n) m + countIf (ltb (getD order n 0) m) (f n)
   unfolding sumTo kindTo countIf
   kinds-step zero n = rw (le-ltb (getD order n 0) 0 (omega arith))
-  kinds-step (suc m) n = elim (below (getD order n 0) m) [
+  kinds-step (suc m) n = elim (below-or-not (getD order n 0) m) [
     | inl l ↦ rw (kinds-step m n, lt-ltb (getD order n 0) m l, ne-eqb (getD order n 0) m (λ e. omega arith), lt-ltb (getD order n 0) (suc m) (omega arith)) (omega arith)
-    | inr l ↦ elim (below m (getD order n 0)) [
+    | inr l ↦ elim (below-or-not m (getD order n 0)) [
       | inl o ↦ rw (kinds-step m n, le-ltb (getD order n 0) m l, ne-eqb (getD order n 0) m (λ e. omega arith), le-ltb (getD order n 0) (suc m) o) (omega arith)
       | inr o ↦ rw (kinds-step m n, le-ltb (getD order n 0) m l, eq-eqb (getD order n 0) m (omega arith), lt-ltb (getD order n 0) (suc m) (omega arith)) (omega arith)
     ]
@@ -145,7 +137,7 @@ module _ (f : ℕ → ℕ) (order : List ℕ) where
   counted-next t n s c h e =
       record {
         long = length-set t (getD order n 0) (getD t (getD order n 0) 0 + s) ∙ c .long;
-        count = λ k l. elim (same k (getD order n 0)) [
+        count = λ k l. elim (same-or-not k (getD order n 0)) [
           | inl q ↦ rw q (getD-set-same t (getD order n 0) (getD t (getD order n 0) 0 + s) 0 (let z = c .long in omega arith) ∙ (let a = c .count (getD order n 0) h in let b = kind-here n in omega arith))
           | inr q ↦ getD-set-other t (getD order n 0) k (getD t (getD order n 0) 0 + s) 0 q ∙ (c .count k l ∙ sym (kind-other k n q))
         ];
@@ -160,9 +152,9 @@ module _ (f : ℕ → ℕ) (order : List ℕ) where
 -- ---- where each kind starts
 
 pub starts-next : (t : List ℕ) (k sum : ℕ) (f : ℕ → ℕ) → k < length t → sum ≡ sumTo f k → ((q : ℕ) → q < k → getD t q 0 ≡ sumTo f q) → (q : ℕ) → q < k + 1 → getD (set t k sum) q 0 ≡ sumTo f q
-starts-next t k sum f h e u q l = elim (same q k) [
+starts-next t k sum f h e u q l = elim (same-or-not q k) [
   | inl z ↦ rw z (getD-set-same t k sum 0 h ∙ e)
-  | inr z ↦ getD-set-other t k q sum 0 z ∙ u q (elim (below q k) [ inl m ↦ m | inr m ↦ absurd (z (omega arith)) ])
+  | inr z ↦ getD-set-other t k q sum 0 z ∙ u q (elim (below-or-not q k) [ inl m ↦ m | inr m ↦ absurd (z (omega arith)) ])
 ]
 
 pub starts-table : (t : List ℕ) (f : ℕ → ℕ) → length t ≡ 64 → ((q : ℕ) → q < 64 → getD t q 0 ≡ sumTo f q) → t ≡ startsBy f

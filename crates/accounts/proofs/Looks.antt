@@ -8,17 +8,18 @@ use lib.ListN.{length, getD, set, length-map, List·getD-map, List·getD-eq-defa
 use lib.Seq.{getD-set-same, getD-set-other}
 use lib.Ieee.{Float}
 use borrow.Author.Tests.{lt-ltb, le-ltb}
+use Rattle.numbers.proofs.Truth.{below-or-not, same-or-not}
 use Rattle.index.specs.Buckets.{upFrom}
+use Rattle.index.proofs.Flat.{length-upFrom, getD-upFrom}
 use Rattle.kinds.specs.Kinds.{Kind}
 use Rattle.job.specs.Jobs.{Job}
 use Rattle.filling.specs.declared.State.{State}
 use Rattle.filling.specs.Search.{Track}
 use Rattle.filling.specs.State.{bySlot, orientationCounts, slotRows, trackAt, tracksOf}
 use Rattle.filling.specs.Accounts.{looksBySlot, lookCountsOf}
-use Rattle.filling.proofs.Reading.{length-upFrom, getD-upFrom, upFrom-list, upFrom-same}
+use Rattle.filling.proofs.Reading.{upFrom-list, upFrom-same, kinds-many}
 use Rattle.tables.specs.Tabled.{Tabled}
 use Rattle.accounts.specs.Counting.{lookIn}
-use Rattle.accounts.proofs.Counts.{below, same}
 
 -- ---- one slot
 
@@ -38,9 +39,9 @@ module _ (rows : List ℕ) (kinds : ℕ) (looks : List ℕ) (i : ℕ) where
 -- ---- the table
 
 pub table-next : (f : ℕ → ℕ) (t : List ℕ) (i v : ℕ) → i < length t → v ≡ f i → ((q : ℕ) → q < i → getD t q 0 ≡ f q) → (q : ℕ) → q < i + 1 → getD (set t i v) q 0 ≡ f q
-table-next f t i v h e u q l = elim (same q i) [
+table-next f t i v h e u q l = elim (same-or-not q i) [
   | inl z ↦ rw z (getD-set-same t i v 0 h ∙ e)
-  | inr z ↦ getD-set-other t i q v 0 z ∙ u q (elim (below q i) [ inl m ↦ m | inr m ↦ absurd (z (omega arith)) ])
+  | inr z ↦ getD-set-other t i q v 0 z ∙ u q (elim (below-or-not q i) [ inl m ↦ m | inr m ↦ absurd (z (omega arith)) ])
 ]
 
 pub table-end : (f : ℕ → ℕ) (t : List ℕ) → length t ≡ 1024 → ((q : ℕ) → q < 1024 → getD t q 0 ≡ f q) → t ≡ bySlot f
@@ -81,14 +82,10 @@ module _ (j : Job) (s : State) where
   looks-lacked : (k o : ℕ) → getD (orientationCounts j) k 0 ≤ o → getD (getD (lookCountsOf j s) k []) o 0 ≡ 0
   looks-lacked k o h = List·getD-eq-default (getD (lookCountsOf j s) k []) 0 {n = o} (let l = looks-length k in omega arith)
 
-  counts-long : length (orientationCounts j) ≡ length (j .kinds)
-  unfolding orientationCounts
-  counts-long = length-map (j .kinds) (λ k. length (k .orientations))
-
   module _ (rows : List ℕ) (areas : List Float) (t : Tabled j rows areas) where
     look-same : (i : ℕ) → lookIn rows (length (j .kinds)) (s .«look_counts») i ≡ getD (getD (lookCountsOf j s) (i / 16) []) (i % 16) 0
-    look-same i = elim (below (i / 16) (length (j .kinds))) [
-      | inl h ↦ elim (below (i % 16) (getD rows (4 * (i / 16) + 3) 0)) [
+    look-same i = elim (below-or-not (i / 16) (length (j .kinds))) [
+      | inl h ↦ elim (below-or-not (i % 16) (getD rows (4 * (i / 16) + 3) 0)) [
         | inl l ↦
             let e : 16 * (i / 16) + i % 16 ≡ i = omega arith in
             sym (has-orientation rows (length (j .kinds)) (s .«look_counts») i h l)
@@ -96,7 +93,7 @@ module _ (j : Job) (s : State) where
         | inr l ↦ sym (no-orientation rows (length (j .kinds)) (s .«look_counts») i h l) ∙ sym (looks-lacked (i / 16) (i % 16) (let q = t .orientations (i / 16) h in omega arith))
       ]
       | inr h ↦
-          let e : getD (orientationCounts j) (i / 16) 0 ≡ 0 = List·getD-eq-default (orientationCounts j) 0 {n = i / 16} (let l = counts-long in omega arith) in
+          let e : getD (orientationCounts j) (i / 16) 0 ≡ 0 = List·getD-eq-default (orientationCounts j) 0 {n = i / 16} (let l = kinds-many j in omega arith) in
           sym (no-kind rows (length (j .kinds)) (s .«look_counts») i h) ∙ sym (looks-lacked (i / 16) (i % 16) (omega arith))
     ]
 

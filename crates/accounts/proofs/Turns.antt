@@ -6,7 +6,8 @@ use native.Mathlib.Omega.{arith}
 use lib.ListN.{length, getD, set, length-map}
 use lib.Ieee.{Float, nan}
 use Rattle.index.specs.Buckets.{upFrom}
-use Rattle.filling.proofs.Reading.{length-upFrom, upFrom-same}
+use Rattle.index.proofs.Flat.{length-upFrom}
+use Rattle.filling.proofs.Reading.{upFrom-same}
 use Rattle.accounts.specs.Counting.{stands, sumTo, kindTo, standsIn, byKind, startsBy}
 use Rattle.accounts.specs.Laying.{putPosition, stateOf}
 use Rattle.accounts.proofs.Counts.{stands-most, sum-few, sum-same, kinds-few, Counted, counted-next, at-kind}

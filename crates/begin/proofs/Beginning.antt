@@ -12,18 +12,13 @@ use Rattle.filling.specs.declared.Verdict.the-variants.{Accepted, Refused}
 use Rattle.filling.specs.Shapes.{Planner, plannerOf}
 use Rattle.filling.specs.Rooms.{Lent, laid, zeros, zeroRooms, onlyPositions}
 use Rattle.filling.specs.Start.{tablesOf, firstState, firstRooms, prepareVerdict, startVerdict, Start, noStart, goodStart, startJob}
-use Rattle.filling.proofs.Reading.{length-zeros}
+use Rattle.filling.proofs.Reading.{length-zeros, zeros-same}
 use Rattle.filling.proofs.Begin.{start-refused, start-good}
 use Rattle.prepare.specs.declared.Prepared.{Prepared}
 use Rattle.prepare.specs.Ready.{given, PreparedIs}
 use Rattle.started.specs.declared.Started.{Started}
 use Rattle.started.specs.Answers.{notStarted, startedWith}
 use Rattle.begin.specs.Beginning.{Cleared, Begun}
-
--- ---- zeros
-pub zeros-same : {A : Type 0} (z : A) (xs ys : List A) → length xs ≡ length ys → zeros z xs ≡ zeros z ys
-unfolding zeros
-zeros-same z xs ys e = ap (λ (n : ℕ). replicate n z) e
 
 -- ---- refused
 pub not-begun : (k : Refusal) (l : Lent) (shapes sheet : List Float) (entries : List ℕ) → Cleared l shapes sheet entries → Begun (notStarted k) (noStart k l) shapes sheet entries

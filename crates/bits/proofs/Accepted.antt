@@ -10,7 +10,7 @@ use lib.IntN.{pos, negsuc}
 use lib.Ieee.{Float, fin, binary64, le, lt, neg, ofInt, ofBits, div, fits}
 use lib.Ieee.Scale.{finite}
 use borrow.Author.Tests.{leb-true}
-use Rattle.numbers.specs.Numbers.{doubleOf, plusZero, fromInt, posZero, _⊘_}
+use Rattle.numbers.specs.Numbers.{doubleOf, plusZero, fromInt, posZero}
 use Rattle.numbers.specs.declared.Double.{Double}
 use Rattle.numbers.specs.declared.Double.the-variants.{Finite, NotFinite}
 use Rattle.numbers.proofs.Keys.{key, unit, unit-pos, le→key}
@@ -19,6 +19,7 @@ use Rattle.numbers.proofs.Bounds.{Within, value-key}
 use Rattle.numbers.proofs.Ranges.{tested-within, zero-key}
 use Rattle.numbers.proofs.Literals.{milli, milli-num, milli-reach}
 use Rattle.numbers.proofs.Doubles.{Number, Upto, Small, k, o}
+use Rattle.numbers.proofs.Truth.{zero-not-one}
 use Rattle.bits.specs.declared.Refusal.{Refusal}
 use Rattle.bits.specs.declared.Refusal.the-variants.{Truncated, NonFinite, OutOfRange, CountOutOfRange}
 use Rattle.bits.specs.declared.Counted.{Counted}
@@ -33,11 +34,8 @@ use Rattle.bits.specs.Fields.{Field, judgeCount, inSet, judgePoints, cou
 abbrev pub Gives : {A : Type 0} → Reader A → (A → Type 0) → Type 0
 Gives {A} m P = (bytes : List ℕ) (p : ℕ) (a : A) (q : ℕ) → m bytes p ≡ ok a q → P a
 
-never : _≡_ {A = ℕ} 0 1 → ⊥
-never e = omega arith
-
 pub bad-not-ok : {A : Type 0} {k : Refusal} {a : A} {q : ℕ} → bad k ≡ ok a q → ⊥
-bad-not-ok e = never (cc)
+bad-not-ok e = zero-not-one (cc)
 
 pub ok-same : {A : Type 0} {a b : A} {p q : ℕ} → ok a p ≡ ok b q → a ≡ b
 ok-same e = cc
@@ -203,13 +201,13 @@ area-limits = (tt, tt, (refl, refl))
 pub area-in : {x : Float} → Between (areaRange .least) (areaRange .most) x → UpFrom posZero 1000000000000 x
 area-in {x} b = up-from posZero (fromInt 1_000_000_000_000) 1000000000000 x (area-limits .0) (area-limits .1) (area-limits .2) (native.Mathlib.Nat.le-of-eq (sym (zero-key binary64))) b
 
-resolution-limits : T (fits binary64 (fromInt 10_000)) × lib.Ieee.Exact.HasValue (fromInt 10_000) false 10000 1
+pub resolution-most : T (fits binary64 (fromInt 10_000)) × lib.Ieee.Exact.HasValue (fromInt 10_000) false 10000 1
 unfolding fits ofInt
-resolution-limits = (tt, (refl, refl))
+resolution-most = (tt, (refl, refl))
 
-milli-is : fromInt 1 ⊘ fromInt 1_000 ≡ milli
+pub resolution-least : resolutionRange .least ≡ milli
 unfolding ofInt div
-milli-is = refl
+resolution-least = refl
 
 -- as milli-reach gives: 0.001 is above zero
 milli-pos : o ≤ k milli
@@ -220,5 +218,5 @@ milli-pos = z (unit binary64) o (k milli) (unit-pos binary64) milli-reach
 
 pub resolution-in : {x : Float} → Between (resolutionRange .least) (resolutionRange .most) x → UpFrom milli 10000 x
 resolution-in {x} b =
-    up-from milli (fromInt 10_000) 10000 x (milli-num .fit) (resolution-limits .0) (resolution-limits .1) milli-pos
-    (record { num = b .num; low = subst (λ (y : Float). T (le y x)) milli-is (b .low); high = b .high })
+    up-from milli (fromInt 10_000) 10000 x (milli-num .fit) (resolution-most .0) (resolution-most .1) milli-pos
+    (record { num = b .num; low = subst (λ (y : Float). T (le y x)) resolution-least (b .low); high = b .high })

@@ -3,7 +3,6 @@
 ghost use mathlib.Core.Path.{_≡_};
 ghost use Prim.Native.Nat.{_≤_};
 ghost use Rattle.columns.specs.Stands.{columnsOf, reversedOf, regularOf, xOf, lastOf, startOf};
-ghost use Rattle.numbers.specs.Numbers.{plusZero};
 use strips::Rect;
 
 // Column c, 0 to count, stands at x_low + c * resolution, column count + 1 at x_high.
@@ -14,16 +13,6 @@ pub struct Columns {
     pub y_high: f64,
     pub resolution: f64,
     pub count: usize,
-}
-
-// A minus zero becomes plus zero.
-fn plus_zero(x: f64) -> f64
-    ensures { λ r. ⌜ r ≡ plusZero x ⌝ }
-{
-    if x == 0.0 {
-        return 0.0;
-    }
-    x
 }
 
 impl Columns {
@@ -67,9 +56,9 @@ impl Columns {
         ensures { λ r. ⌜ r ≡ xOf self c ⌝ }
     {
         if c <= self.count {
-            return plus_zero(self.regular(c));
+            return numbers::plus_zero(self.regular(c));
         }
-        plus_zero(self.x_high)
+        numbers::plus_zero(self.x_high)
     }
 
     // The last column: the extra one only if the one before it stands short of x_high.

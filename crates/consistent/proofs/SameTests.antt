@@ -7,6 +7,7 @@ use mathlib.Core.List.{List}
 use lib.ListN.{length, getD, take, length-map}
 use lib.Dec.{leb}
 use lib.Ieee.{Float}
+use Rattle.numbers.proofs.Truth.{both-first, both-second}
 use Rattle.trapezoid.specs.Strip.{capacity}
 use Rattle.index.specs.Buckets.{standingCapacity}
 use Rattle.job.specs.Jobs.{Job}
@@ -16,7 +17,6 @@ use Rattle.filling.specs.Rooms.{Rooms}
 use Rattle.filling.specs.Order.{rearranged}
 use Rattle.filling.specs.State.{orientationCounts, plannerAt, orderOf, tracksOf}
 use Rattle.filling.specs.Consistent.{every, stripsFit, boundsFit, takenFits, stripCountsFit, partsFit, trackTableFits, resolutionFits, shapeFits, plannerFits, layoutFits, entriesLie, entriesFor, entriesFit, placedStrips, consistent}
-use Rattle.filling.proofs.Lists.{both-first, both-second}
 use Rattle.tables.specs.Tabled.{Tabled}
 use Rattle.slot_tests.specs.Slots.{Slots, slotsTest}
 use Rattle.consistent.specs.Tests.{stateOf, roomsOf, slotsOf, stateTest, countsTest, standingTest, roomsTest}

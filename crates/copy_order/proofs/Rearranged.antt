@@ -13,6 +13,7 @@ use Rattle.kinds.specs.Kinds.{Kind, copiesOf}
 use Rattle.job.specs.Jobs.{Job, accepted, readJob}
 use Rattle.job.proofs.Accepted.{job-good}
 use Rattle.filling.specs.Order.{countIn, inFull, rearranged}
+use Rattle.filling.proofs.CountIn.{count-none, count-append}
 use Rattle.nesting.specs.CopyOrder.{Numbered, numbered, ahead, copyOrder}
 use Rattle.nesting.specs.Rounds.{noKind, swapped}
 use Rattle.tables.specs.Tabled.{Tabled}
@@ -33,18 +34,6 @@ count-cons k l ls = go (eqb k l)
     go : (t : Bool) → (elim t [ true ↦ suc (countIn k ls) | false ↦ countIn k ls ]) ≡ (elim t [ true ↦ 1 | false ↦ 0 ]) + countIn k ls
     go true = omega arith
     go false = omega arith
-
-count-none : (k : ℕ) → countIn k [] ≡ 0
-unfolding countIn
-count-none k = refl
-
-count-append : (k : ℕ) (xs ys : List ℕ) → countIn k (xs ++ ys) ≡ countIn k xs + countIn k ys
-count-append k [] ys = let e : countIn k [] ≡ 0 = count-none k in omega arith
-count-append k (x ∷ xs) ys =
-    let e : countIn k (x ∷ xs) ≡ one k x + countIn k xs = count-cons k x xs in
-    let f : countIn k (x ∷ xs ++ ys) ≡ one k x + countIn k (xs ++ ys) = count-cons k x (xs ++ ys) in
-    let g : countIn k (xs ++ ys) ≡ countIn k xs + countIn k ys = count-append k xs ys in
-    omega arith
 
 one-same : (k : ℕ) → one k k ≡ 1
 unfolding one

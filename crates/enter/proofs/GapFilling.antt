@@ -10,12 +10,12 @@ use lib.ListN.{length, getD, set, length-set, length-append}
 use lib.Seq.{slice, getD-set-same, getD-set-other, getD-at, ext-getD, length-slice, getD-take, getD-drop}
 use lib.Dec.{T, ltb}
 use lib.Ieee.{Float}
+use borrow.Author.Tests.{lt-ltb, le-ltb}
+use Rattle.numbers.proofs.Truth.{either, below-or-not}
 use Rattle.trapezoid.specs.Strip.{stripAt}
 use Rattle.index.specs.declared.Index.{Index}
 use Rattle.index.specs.Buckets.{buckets, bucketIn}
 use Rattle.index.specs.Listing.{Laid, covers, entered}
-use Rattle.index.proofs.Steps.{dich, lt-ltb, ge-ltb}
-use Rattle.index.proofs.Collecting.{lt-or-ge}
 use Rattle.enter.specs.EntryRoom.{startOf, Rooms, enterOf}
 use Rattle.enter.specs.Gaps.{rooms, entering, Counted, Blocks, filled}
 use Rattle.gaps.specs.OpenGaps.{before, Opened}
@@ -50,7 +50,7 @@ blocks-same at l m e s h B = record {
 }
 
 same-or-not : (a b : ℕ) → (a ≡ b) ⊎ ((a < b) ⊎ (b < a))
-same-or-not a b = go (lt-or-ge a b) (lt-or-ge b a)
+same-or-not a b = go (below-or-not a b) (below-or-not b a)
   where
     go : (a < b) ⊎ (b ≤ a) → (b < a) ⊎ (a ≤ b) → (a ≡ b) ⊎ ((a < b) ⊎ (b < a))
     go (inl h) k = inr (inl h)
@@ -101,7 +101,7 @@ module _ (at : ℕ → ℕ) (up : (b c : ℕ) → b ≤ c → at b ≤ at c) (l 
           ap (λ (k : ℕ). getD (set e (getD s (b + 1) 0) i) k 0) t ∙ (getD-set-same e (getD s (b + 1) 0) i 0 (let y = end in omega arith) ∙ sym (ap (λ (k : ℕ). getD (l b ++ (i ∷ [])) k 0) n ∙ getD-at (l b) i [] 0 (length (l b)) refl))
 
       holds : (c : ℕ) → c < buckets → (c ≡ b) ⊎ ((c < b) ⊎ (b < c)) → (j : ℕ) → j < length (m c) → getD (set e (getD s (b + 1) 0) i) (at c + j) 0 ≡ getD (m c) j 0
-      holds c a (inl q) = subst (λ (d : ℕ). (j : ℕ) → j < length (m d) → getD (set e (getD s (b + 1) 0) i) (at d + j) 0 ≡ getD (m d) j 0) (sym q) (subst (λ (k : List ℕ). (j : ℕ) → j < length k → getD (set e (getD s (b + 1) 0) i) (at b + j) 0 ≡ getD k j 0) (sym here) (λ j z. last j z (lt-or-ge j (length (l b)))))
+      holds c a (inl q) = subst (λ (d : ℕ). (j : ℕ) → j < length (m d) → getD (set e (getD s (b + 1) 0) i) (at d + j) 0 ≡ getD (m d) j 0) (sym q) (subst (λ (k : List ℕ). (j : ℕ) → j < length k → getD (set e (getD s (b + 1) 0) i) (at b + j) 0 ≡ getD k j 0) (sym here) (λ j z. last j z (below-or-not j (length (l b)))))
       holds c a (inr (inl q)) = holds-other c a (λ z. ne z) (λ j z y. apart j z y)
         where
           ne : c ≡ b → ⊥
@@ -138,10 +138,10 @@ module _ (ix : Index) (standing : List Float) (i n : ℕ) (less : i < n) where
 
   mix-after : (b c : ℕ) → b ≤ c → mix b c ≡ entered ix standing i c
   unfolding mix
-  mix-after b c h = rw (ge-ltb c b h, mix)
+  mix-after b c h = rw (le-ltb c b h, mix)
 
   mix-room : (b c : ℕ) → at c + length (mix b c) ≤ at (c + 1)
-  mix-room b c = go (lt-or-ge c b)
+  mix-room b c = go (below-or-not c b)
     where
       go : (c < b) ⊎ (b ≤ c) → at c + length (mix b c) ≤ at (c + 1)
       go (inl h) = let a = start-next ix standing n c in let d = entered-more ix standing (i + 1) n c (omega arith) in let f = ap length (mix-before b c h) in omega arith
@@ -169,7 +169,7 @@ module _ (ix : Index) (standing : List Float) (i n : ℕ) (less : i < n) where
       place = let u = room in let v = start-rise ix standing n (b + 1) buckets (omega arith) in omega arith
 
       there : (d : ℕ) → (d ≡ b → ⊥) → mix (suc b) d ≡ mix b d
-      there d q = other (lt-or-ge d b)
+      there d q = other (below-or-not d b)
         where
           other : (d < b) ⊎ (b ≤ d) → mix (suc b) d ≡ mix b d
           other (inl z) = mix-before (suc b) d (omega arith) ∙ sym (mix-before b d z)
@@ -199,7 +199,7 @@ module _ (ix : Index) (standing : List Float) (i n : ℕ) (less : i < n) where
 
   -- a bucket that the strip is not entered in stays
   pub stays : (c : ℕ) → (lo ≤ c → c ≤ hi → ⊥) → entered ix standing (i + 1) c ≡ entered ix standing i c
-  stays c q = entered-no ix standing i c (go (dich (covers ix (stripAt standing i) c)))
+  stays c q = entered-no ix standing i c (go (either (covers ix (stripAt standing i) c)))
     where
       go : (covers ix (stripAt standing i) c ≡ true) ⊎ (covers ix (stripAt standing i) c ≡ false) → covers ix (stripAt standing i) c ≡ false
       go (inl e) = let t = covers-parts ix standing i c e in absurd (q (t .0) (t .1))
@@ -207,10 +207,10 @@ module _ (ix : Index) (standing : List Float) (i n : ℕ) (less : i < n) where
 
   pub filled-strip : (r : Rooms) → hi < buckets → at buckets ≤ length (r .entries) → Blocks at (entered ix standing i) (r .entries) (r .starts)
       → Blocks at (entered ix standing (i + 1)) (filled i (hi + 1 - lo) lo r .entries) (filled i (hi + 1 - lo) lo r .starts) × (length (filled i (hi + 1 - lo) lo r .entries) ≡ length (r .entries)) × ((j : ℕ) → at buckets ≤ j → getD (filled i (hi + 1 - lo) lo r .entries) j 0 ≡ getD (r .entries) j 0)
-  filled-strip r h w B = go (lt-or-ge hi lo)
+  filled-strip r h w B = go (below-or-not hi lo)
     where
       first : (c : ℕ) → c < buckets → entered ix standing i c ≡ mix lo c
-      first c a = at-c (lt-or-ge c lo)
+      first c a = at-c (below-or-not c lo)
         where
           at-c : (c < lo) ⊎ (lo ≤ c) → entered ix standing i c ≡ mix lo c
           at-c (inl z) = sym (mix-before lo c z ∙ stays c (λ p q. early p))
@@ -220,7 +220,7 @@ module _ (ix : Index) (standing : List Float) (i n : ℕ) (less : i < n) where
           at-c (inr z) = sym (mix-after lo c z)
 
       last : lo ≤ hi → (c : ℕ) → c < buckets → mix (lo + (hi + 1 - lo)) c ≡ entered ix standing (i + 1) c
-      last l c a = at-c (lt-or-ge c (lo + (hi + 1 - lo)))
+      last l c a = at-c (below-or-not c (lo + (hi + 1 - lo)))
         where
           at-c : (c < lo + (hi + 1 - lo)) ⊎ (lo + (hi + 1 - lo) ≤ c) → mix (lo + (hi + 1 - lo)) c ≡ entered ix standing (i + 1) c
           at-c (inl z) = mix-before (lo + (hi + 1 - lo)) c z

@@ -7,11 +7,12 @@ use mathlib.Core.Logic.{_⊎_, inl, inr}
 use mathlib.Core.List.{List, map}
 use lib.ListN.{length, getD}
 use lib.Ieee.{Float}
+use Rattle.numbers.proofs.Truth.{below-or-not}
 use Rattle.trapezoid.specs.Strip.{stripAt}
 use Rattle.index.specs.declared.Index.{Index}
 use Rattle.index.specs.Buckets.{buckets, upFrom, bucketIn}
 use Rattle.index.proofs.Steps.{bucket-top}
-use Rattle.index.proofs.Collecting.{lt-or-ge}
+use Rattle.index.proofs.Flat.{getD-upFrom}
 use Rattle.enter.specs.EntryRoom.{startOf}
 use Rattle.marks.specs.NewEntries.{one, newIn, Within}
 use Rattle.marks.proofs.NewIn.{one-inside, one-outside, new-none, new-next}
@@ -20,7 +21,7 @@ use Rattle.marks.proofs.Marking.{Marking}
 use Rattle.enter.specs.Gaps.{Counted}
 use Rattle.gaps.specs.OpenGaps.{before, Marked}
 use Rattle.gaps.proofs.Before.{before-first, before-next}
-use Rattle.enter.proofs.Starts.{start-gain, start-more, getD-map-upFrom}
+use Rattle.enter.proofs.Starts.{start-gain, start-more}
 
 -- ---- the numbers of new entries, bucket by bucket
 pub gainsOf : Index → List Float → ℕ → ℕ → List ℕ
@@ -28,7 +29,7 @@ gainsOf ix standing c i = map (λ b. length (newIn ix standing c i b)) (upFrom (
 
 pub gains-at : (ix : Index) (standing : List Float) (c i b : ℕ) → b ≤ buckets → getD (gainsOf ix standing c i) b 0 ≡ length (newIn ix standing c i b)
 unfolding gainsOf
-gains-at ix standing c i b h = let e : 0 + b ≡ b = omega arith in getD-map-upFrom (λ b. length (newIn ix standing c i b)) (buckets + 1) 0 b (omega arith) ∙ ap (λ (k : ℕ). length (newIn ix standing c i k)) e
+gains-at ix standing c i b h = let e : 0 + b ≡ b = omega arith in getD-upFrom (λ b. length (newIn ix standing c i b)) (buckets + 1) 0 b 0 (omega arith) ∙ ap (λ (k : ℕ). length (newIn ix standing c i k)) e
 
 pub gains-counted : (ix : Index) (standing : List Float) (c i : ℕ) → Counted ix standing c i (gainsOf ix standing c i)
 gains-counted ix standing c i = record { counts = λ b h. gains-at ix standing c i b (omega arith) }
@@ -36,7 +37,7 @@ gains-counted ix standing c i = record { counts = λ b h. gains-at ix standing c
 -- ---- as many new entries as buckets
 pub before-one : (g : List ℕ) (lo hi : ℕ) → ((b : ℕ) → b < buckets → getD g b 0 ≡ one lo hi b) → (n : ℕ) → n ≤ buckets → before g n ≡ min (hi + 1) n - lo
 before-one g lo hi f zero h = let z = before-first g in omega arith
-before-one g lo hi f (suc n) h = go (before-one g lo hi f n (omega arith)) (f n (omega arith)) (lt-or-ge n lo) (lt-or-ge hi n)
+before-one g lo hi f (suc n) h = go (before-one g lo hi f n (omega arith)) (f n (omega arith)) (below-or-not n lo) (below-or-not hi n)
   where
     next : before g (suc n) ≡ before g n + getD g n 0
     next = ap (before g) (sym (add-one n)) ∙ before-next g n
@@ -94,7 +95,7 @@ none-before g zero z = before-first g
 none-before g (suc n) z = ap (before g) (sym (add-one n)) ∙ (before-next g n ∙ (let a = none-before g n (λ c l. z c (omega arith)) in let b = z n (omega arith) in let q : before g n + getD g n 0 ≡ 0 = omega arith in q))
 
 pub marked-copy : (ix : Index) (standing : List Float) (from to first end : ℕ) (m : List ℕ) → from ≤ to → end ≤ buckets → Within ix standing from to first end → Marking ix standing from to to first end m → Marked (to - from) end (gainsOf ix standing (to - from) from) m
-marked-copy ix standing from to first end m h w W K = record { falls = λ b l p. falls b l p (lt-or-ge b first); late = λ b l u. gains-at ix standing (to - from) from b u ∙ within-late ix standing from to first end b h W l }
+marked-copy ix standing from to first end m h w W K = record { falls = λ b l p. falls b l p (below-or-not b first); late = λ b l u. gains-at ix standing (to - from) from b u ∙ within-late ix standing from to first end b h W l }
   where
     g : List ℕ
     g = gainsOf ix standing (to - from) from

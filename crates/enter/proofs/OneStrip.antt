@@ -8,12 +8,12 @@ use mathlib.Core.List.{List, [], _∷_, _++_}
 use lib.ListN.{length, getD, length-append, List·getD-append}
 use lib.Seq.{getD-at}
 use lib.Ieee.{Float}
+use Rattle.numbers.proofs.Truth.{below-or-not}
 use Rattle.trapezoid.specs.Strip.{stripAt}
 use Rattle.index.specs.declared.Index.{Index}
 use Rattle.index.specs.Buckets.{buckets, bucketIn}
 use Rattle.index.specs.Listing.{Laid, entered}
 use Rattle.index.proofs.Steps.{bucket-top}
-use Rattle.index.proofs.Collecting.{lt-or-ge}
 use Rattle.enter.specs.EntryRoom.{startOf, enterOf}
 use Rattle.moves.specs.Moves.{Moved, Shifted}
 use Rattle.enter.specs.Gaps.{rooms, entering, Blocks}
@@ -37,7 +37,7 @@ module _ (ix : Index) (standing : List Float) (m lo hi width : ℕ) (e₀ st e�
       omega arith
 
   starts-at : (b : ℕ) → b ≤ buckets → getD s b 0 ≡ startOf ix standing (m + 1) b
-  starts-at b h = go (lt-or-ge (lo + width) b) ∙ sym (at b h)
+  starts-at b h = go (below-or-not (lo + width) b) ∙ sym (at b h)
     where
       go : (lo + width < b) ⊎ (b ≤ lo + width) → getD s b 0 ≡ getD st b 0 + min (b - lo) width
       go (inl l) =
@@ -56,7 +56,7 @@ module _ (ix : Index) (standing : List Float) (m lo hi width : ℕ) (e₀ st e�
   up b c h l = L .rise b c h (omega arith)
 
   holds : (b : ℕ) → b < buckets → (j : ℕ) → j < length (entered ix standing (m + 1) b) → getD e (startOf ix standing (m + 1) b + j) 0 ≡ getD (entered ix standing (m + 1) b) j 0
-  holds b h j l = go (lt-or-ge b lo) (lt-or-ge b (lo + width))
+  holds b h j l = go (below-or-not b lo) (below-or-not b (lo + width))
     where
       same : (lo ≤ b → b ≤ hi → ⊥) → entered ix standing (m + 1) b ≡ entered ix standing m b
       same q = stays ix standing m (m + 1) (omega arith) b (λ p r. q (omega arith) (omega arith))
@@ -97,7 +97,7 @@ module _ (ix : Index) (standing : List Float) (m lo hi width : ℕ) (e₀ st e�
           q = same (λ p r. no r)
 
       inside : lo ≤ b → b < lo + width → getD e (startOf ix standing (m + 1) b + j) 0 ≡ getD (entered ix standing (m + 1) b) j 0
-      inside a f = fits (lt-or-ge j (length (entered ix standing m b)))
+      inside a f = fits (below-or-not j (length (entered ix standing m b)))
         where
           more : entered ix standing (m + 1) b ≡ entered ix standing m b ++ (m ∷ [])
           more = entered-yes ix standing m b (covers-yes ix standing m b (omega arith) (omega arith))

@@ -4,55 +4,31 @@ use native.Mathlib.Omega.{arith}
 use native.Mathlib.Numerals.{add-one}
 use mathlib.Core.Path.{_≡_, refl, sym, ap, _∙_, subst}
 use mathlib.Core.Bool.{Bool, true, false, _&&_, true≢false}
-use mathlib.Core.List.{List, [], _∷_, _++_, map, flatMap, append-assoc, append-nil}
-use lib.ListN.{length, getD, take, drop, length-append, length-drop, set}
+use mathlib.Core.List.{List, [], _∷_, _++_, map, flatMap, append-nil}
+use lib.ListN.{length, getD, take, drop, length-append, length-drop, set, length-map}
 use lib.Seq.{slice, take-take, length-slice, getD-take, getD-drop, ext-getD}
 use lib.Dec.{T, leb, leb→le}
 use lib.Ieee.{Float}
+use borrow.Author.Tests.{le-leb}
 use Rattle.trapezoid.specs.Strip.{stripAt}
 use Rattle.index.specs.declared.Index.{Index}
 use Rattle.index.proofs.EntryLists.{entries-by-bucket}
 use Rattle.index.specs.Buckets.{buckets, upFrom, keep, bucketIn, entriesOf}
 use Rattle.index.specs.Listing.{Laid, covers, entered}
 use Rattle.index.proofs.Steps.{keep-yes, keep-no, keep-none}
-use Rattle.index.proofs.Flat.{keep-append}
+use Rattle.index.proofs.Flat.{keep-append, flat-snoc, length-upFrom, getD-upFrom}
 use Rattle.enter.specs.EntryRoom.{entriesIn, startOf, startsOf, Rooms, enterOf}
 use Rattle.marks.specs.NewEntries.{newIn}
-use Rattle.marks.proofs.NewIn.{upFrom-append, is-leb, cleared-to}
+use Rattle.marks.proofs.NewIn.{upFrom-append, cleared-to}
 use Rattle.enter.specs.Gaps.{Counted}
 use Rattle.gaps.specs.OpenGaps.{before}
 use Rattle.gaps.proofs.Before.{before-next, before-first}
 
 -- ---- lists of numbers
-flat-append : {A B : Type 0} (f : A → List B) (xs ys : List A) → flatMap f (xs ++ ys) ≡ flatMap f xs ++ flatMap f ys
-unfolding flatMap
-flat-append f [] ys = refl
-flat-append f (x ∷ xs) ys = ap (λ (l : List _). f x ++ l) (flat-append f xs ys) ∙ sym (append-assoc (f x) (flatMap f xs) (flatMap f ys))
-
-flat-snoc : (f : ℕ → List ℕ) (b : ℕ) → flatMap f (upFrom (b + 1) 0) ≡ flatMap f (upFrom b 0) ++ f b
-unfolding flatMap upFrom
-flat-snoc f b =
+one-more : (f : ℕ → List ℕ) (b : ℕ) → flatMap f (upFrom (b + 1) 0) ≡ flatMap f (upFrom b 0) ++ f b
+one-more f b =
     let z : 0 + b ≡ b = omega arith in
-    ap (flatMap f) (upFrom-append b 1 0) ∙ (flat-append f (upFrom b 0) (upFrom 1 (0 + b)) ∙ rw (z, append-nil (f b)))
-
-length-upFrom : (n c : ℕ) → length (upFrom n c) ≡ n
-unfolding upFrom
-length-upFrom zero c = refl
-length-upFrom (suc n) c = ap suc (length-upFrom n (suc c))
-
-length-map-upFrom : (f : ℕ → ℕ) (n c : ℕ) → length (map f (upFrom n c)) ≡ n
-unfolding upFrom
-length-map-upFrom f zero c = refl
-length-map-upFrom f (suc n) c = ap suc (length-map-upFrom f n (suc c))
-
-pub getD-map-upFrom : (f : ℕ → ℕ) (n c i : ℕ) → i < n → getD (map f (upFrom n c)) i 0 ≡ f (c + i)
-unfolding upFrom
-getD-map-upFrom f zero c i h = absurd (no h)
-  where
-    no : i < zero → ⊥
-    no h = omega arith
-getD-map-upFrom f (suc n) c zero h = let e : c + 0 ≡ c = omega arith in rw e
-getD-map-upFrom f (suc n) c (suc i) h = let e : suc c + i ≡ c + suc i = omega arith in getD-map-upFrom f n (suc c) i (omega arith) ∙ ap f e
+    ap (λ (k : ℕ). flatMap f (upFrom k 0)) (add-one b) ∙ (flat-snoc f b 0 ∙ ap (λ (k : ℕ). flatMap f (upFrom b 0) ++ f k) z)
 
 getD-slice : (f t : ℕ) (l : List ℕ) (j : ℕ) → f + j < t → getD (slice f t l) j 0 ≡ getD l (f + j) 0
 getD-slice f t l j h = getD-drop f (take t l) j 0 ∙ getD-take t l (f + j) 0 h
@@ -75,7 +51,7 @@ covers-parts ix standing i b e = go (leb lo b) (leb b hi) (leb→le lo b) (leb�
 
 pub covers-yes : (ix : Index) (standing : List Float) (i b : ℕ) → bucketIn ix (stripAt standing i .x0) ≤ b → b ≤ bucketIn ix (stripAt standing i .x1) → covers ix (stripAt standing i) b ≡ true
 unfolding covers
-covers-yes ix standing i b h g = rw (is-leb (bucketIn ix (stripAt standing i .x0)) b h, is-leb b (bucketIn ix (stripAt standing i .x1)) g)
+covers-yes ix standing i b h g = rw (le-leb (bucketIn ix (stripAt standing i .x0)) b h, le-leb b (bucketIn ix (stripAt standing i .x1)) g)
 
 -- ---- the entries of one bucket
 module _ (ix : Index) (standing : List Float) where
@@ -111,7 +87,7 @@ module _ (ix : Index) (standing : List Float) where
 
   pub start-next : (n b : ℕ) → startOf ix standing n (b + 1) ≡ startOf ix standing n b + length (entered ix standing n b)
   unfolding startOf
-  start-next n b = ap length (flat-snoc (entered ix standing n) b) ∙ length-append (flatMap (entered ix standing n) (upFrom b 0)) (entered ix standing n b)
+  start-next n b = ap length (one-more (entered ix standing n) b) ∙ length-append (flatMap (entered ix standing n) (upFrom b 0)) (entered ix standing n b)
 
   pub start-last : (n : ℕ) → startOf ix standing n buckets ≡ length (entriesOf ix standing n)
   unfolding startOf
@@ -170,7 +146,7 @@ module _ (ix : Index) (standing : List Float) where
         ∙ (sym (lib.ListN.take-append-drop (getD st b 0) (take (getD st (b + 1) 0) e))
         ∙ (ap (λ (l : List ℕ). l ++ slice (getD st b 0) (getD st (b + 1) 0) e) (take-take (getD st b 0) (getD st (b + 1) 0) e r ∙ prefix b (omega arith))
         ∙ (ap (λ (l : List ℕ). flatMap (entered ix standing n) (upFrom b 0) ++ l) (L .block b (omega arith))
-        ∙ (sym (flat-snoc (entered ix standing n) b) ∙ ap (λ (k : ℕ). flatMap (entered ix standing n) (upFrom k 0)) (add-one b)))))
+        ∙ (sym (one-more (entered ix standing n) b) ∙ ap (λ (k : ℕ). flatMap (entered ix standing n) (upFrom k 0)) (add-one b)))))
 
     pub laid-entries : (e₀ : List ℕ) → length e ≡ length e₀ → ((j : ℕ) → startOf ix standing n buckets ≤ j → getD e j 0 ≡ getD e₀ j 0) → e ≡ entriesIn ix standing n e₀
     unfolding entriesIn
@@ -183,13 +159,13 @@ module _ (ix : Index) (standing : List Float) where
 
     pub laid-table : st ≡ startsOf ix standing n
     unfolding startsOf
-    laid-table = ext-getD 0 st (map (startOf ix standing n) (upFrom (buckets + 1) 0)) (L .table ∙ sym (length-map-upFrom (startOf ix standing n) (buckets + 1) 0)) (λ i h. (let t = L .table in let z : 0 + i ≡ i = omega arith in laid-starts i (omega arith) ∙ sym (getD-map-upFrom (startOf ix standing n) (buckets + 1) 0 i (omega arith) ∙ ap (startOf ix standing n) z)))
+    laid-table = ext-getD 0 st (map (startOf ix standing n) (upFrom (buckets + 1) 0)) (L .table ∙ sym (length-map (upFrom (buckets + 1) 0) (startOf ix standing n) ∙ length-upFrom (buckets + 1) 0)) (λ i h. (let t = L .table in let z : 0 + i ≡ i = omega arith in laid-starts i (omega arith) ∙ sym (getD-upFrom (startOf ix standing n) (buckets + 1) 0 i 0 (omega arith) ∙ ap (startOf ix standing n) z)))
 
 -- ---- the answer
 module _ (ix : Index) (standing : List Float) (n : ℕ) (r : Rooms) where
   pub enter-fits : length (entriesOf ix standing n) ≤ length (r .entries) → record { fits = true; after = record { entries = entriesIn ix standing n (r .entries); starts = startsOf ix standing n } } ≡ enterOf ix standing n r
   unfolding enterOf
-  enter-fits h = rw (is-leb (length (entriesOf ix standing n)) (length (r .entries)) h, enterOf)
+  enter-fits h = rw (le-leb (length (entriesOf ix standing n)) (length (r .entries)) h, enterOf)
 
   pub enter-over : length (r .entries) < length (entriesOf ix standing n) → record { fits = false; after = r } ≡ enterOf ix standing n r
   unfolding enterOf

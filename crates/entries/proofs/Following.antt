@@ -10,11 +10,12 @@ use lib.ListN.{length, getD, take, drop}
 use lib.Seq.{slice, slice-cons, slice-empty}
 use lib.Dec.{ltb, eqb}
 use lib.Ieee.{Float}
+use borrow.Author.Tests.{lt-ltb, le-ltb, eq-eqb, ne-eqb}
+use Rattle.numbers.proofs.Truth.{either}
 use Rattle.trapezoid.specs.Strip.{stripAt}
 use Rattle.index.specs.declared.Index.{Index}
 use Rattle.index.specs.Buckets.{upFrom}
 use Rattle.index.specs.Buckets.{keep, entriesOf}
-use Rattle.index.proofs.Steps.{dich, lt-ltb, ge-ltb, eqb-yes, eqb-no}
 use Rattle.index.specs.Listing.{covers, entered}
 use Rattle.entries.specs.declared.Walked.{Walked}
 use Rattle.entries.specs.declared.Walked.the-variants.{At, Wrong}
@@ -26,22 +27,22 @@ andThen Wrong f = Wrong
 
 pub follows-on : (es : List ℕ) (e i : ℕ) (is : List ℕ) → e < length es → getD es e 0 ≡ i → follows es e (i ∷ is) ≡ follows es (e + 1) is
 unfolding follows
-follows-on es e i is h q = rw (lt-ltb e (length es) h, eqb-yes (getD es e 0) i q, follows)
+follows-on es e i is h q = rw (lt-ltb e (length es) h, eq-eqb (getD es e 0) i q, follows)
 
 pub follows-short : (es : List ℕ) (e i : ℕ) (is : List ℕ) → length es ≤ e → follows es e (i ∷ is) ≡ Wrong
 unfolding follows
-follows-short es e i is h = rw (ge-ltb e (length es) h, follows)
+follows-short es e i is h = rw (le-ltb e (length es) h, follows)
 
 pub follows-other : (es : List ℕ) (e i : ℕ) (is : List ℕ) → e < length es → (getD es e 0 ≡ i → ⊥) → follows es e (i ∷ is) ≡ Wrong
 unfolding follows
-follows-other es e i is h q = rw (lt-ltb e (length es) h, eqb-no (getD es e 0) i q, follows)
+follows-other es e i is h q = rw (lt-ltb e (length es) h, ne-eqb (getD es e 0) i q, follows)
 
 pub follows-none : (es : List ℕ) (e : ℕ) → follows es e [] ≡ At e
 unfolding follows
 follows-none es e = refl
 
 cases : (es : List ℕ) (e i : ℕ) → ((e < length es) × (getD es e 0 ≡ i)) ⊎ ((is : List ℕ) → follows es e (i ∷ is) ≡ Wrong)
-cases es e i = go (ltb e (length es)) (lib.Dec.ltb→lt e (length es)) (lib.Dec.nltb→le e (length es)) (eqb (getD es e 0) i) (lib.Dec.eqb→eq (getD es e 0) i) (λ (t : eqb (getD es e 0) i ≡ false) (q : getD es e 0 ≡ i). true≢false (sym (eqb-yes (getD es e 0) i q) ∙ t)) refl
+cases es e i = go (ltb e (length es)) (lib.Dec.ltb→lt e (length es)) (lib.Dec.nltb→le e (length es)) (eqb (getD es e 0) i) (lib.Dec.eqb→eq (getD es e 0) i) (λ (t : eqb (getD es e 0) i ≡ false) (q : getD es e 0 ≡ i). true≢false (sym (eq-eqb (getD es e 0) i q) ∙ t)) refl
   where
     go : (t : Bool) → (lib.Dec.T t → e < length es) → (lib.Dec.T (mathlib.Core.Bool.not t) → length es ≤ e) → (u : Bool) → (lib.Dec.T u → getD es e 0 ≡ i) → (eqb (getD es e 0) i ≡ false → getD es e 0 ≡ i → ⊥) → eqb (getD es e 0) i ≡ u
         → ((e < length es) × (getD es e 0 ≡ i)) ⊎ ((is : List ℕ) → follows es e (i ∷ is) ≡ Wrong)
@@ -93,7 +94,7 @@ upFrom-on n i h = let e : n - i ≡ suc (n - (i + 1)) = omega arith in rw (e, ad
 
 pub keep-on : (test : ℕ → Bool) (n i : ℕ) → i < n → keep test (upFrom (n - i) i) ≡ keep test (i ∷ []) ++ keep test (upFrom (n - (i + 1)) (i + 1))
 unfolding keep
-keep-on test n i h = ap (keep test) (upFrom-on n i h) ∙ go (dich (test i))
+keep-on test n i h = ap (keep test) (upFrom-on n i h) ∙ go (either (test i))
   where
     go : (test i ≡ true) ⊎ (test i ≡ false) → keep test (i ∷ upFrom (n - (i + 1)) (i + 1)) ≡ keep test (i ∷ []) ++ keep test (upFrom (n - (i + 1)) (i + 1))
     go (inl t) = rw (t, keep)

@@ -17,9 +17,10 @@ use Rattle.filling.specs.Rooms.{Lent, zeros}
 use Rattle.filling.specs.Order.{rearranged}
 use Rattle.filling.specs.Start.{prepareVerdict, startVerdict}
 use Rattle.filling.specs.Fill.{plannedBy, fillOrder, fillJob}
+use Rattle.filling.proofs.Steps.{refuse-yes, refuse-no}
 use Rattle.report.specs.declared.NestResult.{NestResult}
 use Rattle.report.specs.Replies.{reply, replyOf, refusedBy, plannedWhen}
-use Rattle.readied.proofs.Judging.{refuse-yes, refuse-no, when-is, wide, narrow, refused-so}
+use Rattle.readied.proofs.Judging.{when-is, wide, narrow, refused-so}
 
 -- a filling by its start's verdict
 pub fill-when : (j : Job) (l : Lent) (order : List ℕ) → fillJob j order l ≡ plannedWhen (startVerdict j order l) l (plannedBy j l (fillOrder j l order))

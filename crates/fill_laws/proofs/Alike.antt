@@ -22,7 +22,7 @@ use Rattle.filling.specs.Consistent.{placedStrips}
 use Rattle.filling.specs.NextCopy.{newStrips, storeVerdict, winnerVerdict, copyVerdict, stateWith, stateAfter, stored, roomsAfter, noStep, placeCopy, placeNext, coreStep}
 use Rattle.filling.specs.Fill.{fillFrom}
 use Rattle.filling.proofs.FillSteps.{fill-on, fill-stops, fill-ends}
-use Rattle.filling.proofs.Steps.{place-refused, place-taken}
+use Rattle.filling.proofs.Steps.{place-refused, place-taken, no-step-refused}
 
 -- two rooms that hold the same planner and the same standing strips, of equal lengths where copies are stored
 pub record Alike (j : Job) (s : State) (w w′ : Rooms) : Type 0 where
@@ -83,10 +83,6 @@ used-up : (j : Job) (s : State) (w : Rooms) (iv : List Float) → drop (s .taken
 unfolding coreStep placeNext noStep
 used-up j s w iv e = ap (λ l. placeNext j s w iv l .verdict) e
 
-refused-is : (r : Refusal) (s : State) (w : Rooms) (iv : List Float) → noStep r s w iv .verdict ≡ Refused r
-unfolding noStep
-refused-is r s w iv = refl
-
 module _ (j : Job) (iv iv′ : List Float) (wide : length iv ≡ length iv′) (n : ℕ) (more : (s : State) (w w′ : Rooms) → Alike j s w w′ → fillFrom j iv n s w ≡ fillFrom j iv′ n s w′) (s : State) (w w′ : Rooms) (h : Alike j s w w′) where
   abbrev p : Planner
   p = plannerAt j (s .tables) w
@@ -114,8 +110,8 @@ module _ (j : Job) (iv iv′ : List Float) (wide : length iv ≡ length iv′) (
     refuses r d =
         let a = next-is j s w iv k ks e ∙ place-refused p st ts k s w iv r d in
         let b = other ∙ place-refused p st ts k s w′ iv′ r (verdict′ (Refused r) d) in
-        fill-stops j iv n s w r (ap (λ q. q .verdict) a ∙ refused-is r s w iv)
-        ∙ sym (fill-stops j iv′ n s w′ r (ap (λ q. q .verdict) b ∙ refused-is r s w′ iv′))
+        fill-stops j iv n s w r (ap (λ q. q .verdict) a ∙ no-step-refused r s w iv)
+        ∙ sym (fill-stops j iv′ n s w′ r (ap (λ q. q .verdict) b ∙ no-step-refused r s w′ iv′))
 
     takes : copyVerdict p w iv k st ss ts fs ≡ Accepted → fillFrom j iv (suc n) s w ≡ fillFrom j iv′ (suc n) s w′
     takes d =

@@ -7,7 +7,7 @@ use mathlib.Core.List.{List, [], _∷_, _++_}
 use lib.ListN.{length, getD, take, drop, replicate, length-replicate, getD-replicate}
 use lib.Seq.{slice-empty}
 use lib.Dec.{ltb, leb}
-use borrow.Author.Tests.{le-ltb}
+use borrow.Author.Tests.{le-ltb, le-leb}
 use lib.Ieee.{Float}
 use Rattle.numbers.specs.Numbers.{posZero}
 use Rattle.trapezoid.specs.Strip.{capacity}
@@ -28,8 +28,7 @@ use Rattle.filling.specs.State.{plannerAt, standingOf, emptyLayout}
 use Rattle.filling.specs.Consistent.{stripCountsFit, partsFit, entriesFor, placedStrips}
 use Rattle.filling.specs.Start.{apartStrips, insetStrips, tablesOf, firstState, firstRooms, prepareVerdict, startVerdict}
 use Rattle.filling.specs.Fill.{fillFrom, fillOrder}
-use Rattle.filling.proofs.Reading.{length-zeros, at-most}
-use Rattle.filling.proofs.Lists.{both-first, both-second}
+use Rattle.filling.proofs.Reading.{length-zeros}
 use Rattle.filling.proofs.Sizes.{Sized, sized}
 use Rattle.filling.proofs.Steps.{Linked}
 use Rattle.filling.proofs.Begin.{first-order, first-parts, first-counts, first-linked, rearranged-length}
@@ -115,7 +114,7 @@ module _ (bytes : List ℕ) (j : Job) (read : readJob bytes ≡ accepted j) (few
 
   counts : stripCountsFit (before .tables) (before .«placed_strips») w ≡ true
   unfolding stripCountsFit firstState
-  counts = go (leb (tablesOf p .«sheet_strips») (standingCapacity (firstRooms p lent .sheet))) (leb (tablesOf p .«apart_strips») (capacity (firstRooms p lent .shapes))) (leb 0 (standingCapacity (firstRooms p lent .placed))) (first-counts j z lent few) (at-most 0 (standingCapacity placed) (omega arith))
+  counts = go (leb (tablesOf p .«sheet_strips») (standingCapacity (firstRooms p lent .sheet))) (leb (tablesOf p .«apart_strips») (capacity (firstRooms p lent .shapes))) (leb 0 (standingCapacity (firstRooms p lent .placed))) (first-counts j z lent few) (le-leb 0 (standingCapacity placed) (omega arith))
     where
       go : (a b c : Bool) {d : Bool} → a && (b && c) ≡ true → d ≡ true → a && (b && d) ≡ true
       go true true c e f = f

@@ -25,11 +25,11 @@ use Rattle.filling.specs.State.{orientationCounts, apartRoom, insetRoom, planne
 use Rattle.filling.specs.Consistent.{sheetIndex}
 use Rattle.filling.specs.Start.{tablesOf, firstState, firstRooms}
 use Rattle.filling.specs.NextCopy as Next
-use Rattle.filling.specs.NextCopy.{entered, noStep, coreStep}
+use Rattle.filling.specs.NextCopy.{entered, coreStep}
 use Rattle.filling.specs.Fill.{stopped, fillFrom, fillOrder}
 use Rattle.filling.proofs.Sizes.{sized}
 use Rattle.filling.proofs.Steps as Steps
-use Rattle.filling.proofs.Steps.{Took, unchanged, took, core-outcome, refused≢accepted}
+use Rattle.filling.proofs.Steps.{Took, unchanged, took, core-outcome, refused≢accepted, no-step-refused}
 use Rattle.filling.proofs.WithinBounds.{jobs-within}
 use Rattle.filling.proofs.Never31.{Own, own-took}
 use Rattle.choose.specs.Choosing.{world}
@@ -42,7 +42,8 @@ use Rattle.filling_laws.proofs.SameCopy.{stepFrom, stepBy, takenWith, codeOf}
 use Rattle.filling_laws.proofs.SameCore.{same-core}
 use Rattle.fill_laws.specs.Prepared.{Given, given, Prepared, stateBy, roomsBy}
 use Rattle.filling.proofs.FillSteps.{fill-on, fill-stops}
-use Rattle.filling_laws.proofs.ReadyOrder.{kind-in, kinds-many, slots-within}
+use Rattle.filling.proofs.Reading.{kinds-many}
+use Rattle.filling_laws.proofs.ReadyOrder.{kind-in, slots-within}
 use Rattle.fill_laws.proofs.Begin.{own-first, fill-first}
 
 -- what holds after i copies
@@ -106,10 +107,6 @@ stateIn ts order taken next looks t orientation x y =
       «placed_strips» = t .«placed_strips»;
       layout = record { orientation = orientation; x = x; y = y; «unplaced_area» = t .«unplaced_area»; right = t .right };
     }
-
-refused-is : (c : Refusal) (s : State) (w : Rooms) (iv : List Float) → noStep c s w iv .verdict ≡ Verdicts.Refused c
-unfolding noStep
-refused-is c s w iv = refl
 
 -- ---- the code's step is the definition's
 
@@ -195,7 +192,7 @@ module _ (j : Job) (g : Given) (h : Prepared j g) (order : List ℕ) (r : rearra
         pub held-stops : (c : Refusal) → q .outcome ≡ Refused c → (l : Lent) → length (l .rooms .placed) ≡ length placed → length (l .rooms .placed-entries) ≡ length entries → length (l .intervals) ≡ wide → fillOrder j l order ≡ stopped c
         held-stops c o l u v w =
             let iv = l .intervals in
-            let e : coreStep j S W iv .verdict ≡ Verdicts.Refused c = ap (λ (z : Next.Step). z .verdict) (sym (step-is iv w D d)) ∙ (ap (λ (z : Outcome). stepBy z S W iv D .verdict) o ∙ refused-is c S W iv) in
+            let e : coreStep j S W iv .verdict ≡ Verdicts.Refused c = ap (λ (z : Next.Step). z .verdict) (sym (step-is iv w D d)) ∙ (ap (λ (z : Outcome). stepBy z S W iv D .verdict) o ∙ no-step-refused c S W iv) in
             sym (b .same l u v w) ∙ (ap (λ (m : ℕ). fillFrom j iv m S W) count ∙ fill-stops j iv (length order - suc i) S W c e)
 
         -- a copy taken

@@ -31,14 +31,14 @@ use Rattle.place.specs.Standing.{Standing, Fixed}
 use Rattle.place.specs.Placing.{Placed, verdictOf, done, numberOf, xOf, yOf}
 use Rattle.filling_laws.proofs.SameCopy.{stepFrom, stepBy, takenWith}
 use Rattle.filling_laws.proofs.ReadyStrips.{AllFit}
-use Rattle.fill_laws.specs.Prepared.{Given, Prepared, stateBy, roomsBy, placeAfter, fillingIn}
+use Rattle.fill_laws.specs.Prepared.{Given, Prepared, stateBy, roomsBy, nextAfter, fillingIn}
 use Rattle.filling.proofs.FillSteps.{fill-ends}
 use Rattle.fill_laws.proofs.Begin.{laid-none}
 use Rattle.fill_laws.proofs.Between.{Held, held-first, codeWith, slots-below, held-stops, held-next}
 use Rattle.fill_laws.proofs.Ready.{Doubles, held-fixed, held-counts, held-standing}
 
 -- each copy brings the end nearer
-pub after-less : (v : Verdict) (i m n : ℕ) → i < n → m ≡ placeAfter v i n → n - m < n - i
+pub after-less : (v : Verdict) (i m n : ℕ) → i < n → m ≡ nextAfter v i n → n - m < n - i
 after-less Verdicts.Accepted i m n h e = omega arith
 after-less (Verdicts.Refused c) i m n h e = omega arith
 
@@ -215,7 +215,7 @@ module _ (g : Given) (order : List ℕ) (placed₀ : List Float) (entries₀ sta
           ∙ ap₂ (λ (s m : ℕ). codeIn g (length room₀ / 2) (getD (g .areas) (getD order i 0) nan) s m t placed entries starts tracks) es en))
 
       stage-next : (j : Job) (h : Prepared j g) → rearranged j order ≡ true
-          → StageIn (verdictOf (q .outcome)) j (h .lent) order (length room₀) (placeAfter (verdictOf (q .outcome)) i (length order)) (q .totals) placed′
+          → StageIn (verdictOf (q .outcome)) j (h .lent) order (length room₀) (nextAfter (verdictOf (q .outcome)) i (length order)) (q .totals) placed′
           entries′ tracks′ spots′
       stage-next j h r = go (q .outcome) refl
         where
@@ -240,7 +240,7 @@ module _ (g : Given) (order : List ℕ) (placed₀ : List Float) (entries₀ sta
               (within _ (length-field 0 1 2048 4096 tracks)) (within _ (length-field nan 2 0 4096 spots)) (within _ (length-field nan 2 1 4096 spots)) small
               taken lp le)
 
-          go : (o : Outcome) → q .outcome ≡ o → StageIn (verdictOf o) j (h .lent) order (length room₀) (placeAfter (verdictOf o) i (length order)) (q .totals)
+          go : (o : Outcome) → q .outcome ≡ o → StageIn (verdictOf o) j (h .lent) order (length room₀) (nextAfter (verdictOf o) i (length order)) (q .totals)
               placed′ entries′ tracks′ spots′
           go (At c) e = on (λ iv. ap (λ (z : Outcome). stepBy z (stateIn j order i tracks t spots) (roomsBy (plannerOf j) (h .lent) placed entries) iv
               (doneIn q placed′ entries′ starts′ tracks′)) e)
@@ -253,11 +253,11 @@ module _ (g : Given) (order : List ℕ) (placed₀ : List Float) (entries₀ sta
                 placed′ entries′ starts′ (lookCounts tracks′) (nextColumns tracks′) left-is c e l (a .0 ∙ lp) (a .1 ∙ le) (a .2),
           )
 
-      after-upto : (v : Verdict) → placeAfter v i (length order) ≤ length order
+      after-upto : (v : Verdict) → nextAfter v i (length order) ≤ length order
       after-upto Verdicts.Accepted = omega arith
       after-upto (Verdicts.Refused c) = omega arith
 
-      pub going-next : (v′ : Verdict) (i′ : ℕ) → v′ ≡ verdictOf (q .outcome) → i′ ≡ placeAfter v′ i (length order)
+      pub going-next : (v′ : Verdict) (i′ : ℕ) → v′ ≡ verdictOf (q .outcome) → i′ ≡ nextAfter v′ i (length order)
           → Going g order placed₀ entries₀ starts₀ gains₀ room₀ tracks₀ spots₀ placed′ entries′ starts′ gains′ room′ tracks′ spots′ v′ (q .totals) i′
       going-next v′ i′ ev ei =
           record {
@@ -265,7 +265,7 @@ module _ (g : Given) (order : List ℕ) (placed₀ : List Float) (entries₀ sta
             laid = L;
             stage = λ j h r.
                 subst₂ (λ (u : Verdict) (m : ℕ). StageIn u j (h .lent) order (length room₀) m (q .totals) placed′ entries′ tracks′ spots′) (sym ev)
-                (sym (ei ∙ ap (λ (u : Verdict). placeAfter u i (length order)) ev)) (stage-next j h r);
+                (sym (ei ∙ ap (λ (u : Verdict). nextAfter u i (length order)) ev)) (stage-next j h r);
             doubles = fit;
             placed-long = lp ∙ G .placed-long;
             entries-long = le ∙ G .entries-long;

@@ -12,18 +12,17 @@ use Rattle.numbers.proofs.Doubles.{finite}
 use Rattle.trapezoid.specs.Strip.{capacity}
 use Rattle.index.specs.declared.Index.{Index}
 use Rattle.index.specs.Listing.{Laid}
-use Rattle.strips.specs.declared.Rect.{Rect}
 use Rattle.job.specs.Jobs.{Job}
 use Rattle.job.proofs.Accepted.{job-good}
 use Rattle.filling.specs.declared.State.{State}
 use Rattle.filling.specs.declared.Tables.{Tables}
-use Rattle.filling.specs.Shapes.{Planner, plannerOf, Shape}
+use Rattle.filling.specs.Shapes.{Planner, plannerOf}
 use Rattle.filling.specs.Rooms.{Rooms, laid, zeros}
 use Rattle.filling.specs.Order.{rearranged}
-use Rattle.filling.specs.State.{bySlot, slotShape, Part, flatParts, flatBounds, orientationCounts, apartRoom, insetRoom, plannerAt}
+use Rattle.filling.specs.State.{bySlot, slotShape, Part, flatParts, orientationCounts, apartRoom, insetRoom, plannerAt}
 use Rattle.filling.specs.Consistent.{sheetIndex, consistent}
 use Rattle.filling.specs.Start.{partsFrom, tablesOf, firstState, firstRooms}
-use Rattle.filling.proofs.Reading.{length-bySlot}
+use Rattle.filling.proofs.Reading.{length-bySlot, length-bounds, kinds-many, parts-length}
 use Rattle.filling.proofs.Sizes.{sized}
 use Rattle.filling.proofs.Begin.{first-linked}
 use Rattle.filling.proofs.WithinBounds.{jobs-within}
@@ -34,27 +33,16 @@ use Rattle.place.specs.declared.Totals.{Totals}
 use Rattle.place.specs.Standing.{Standing, Fixed}
 use Rattle.filling_laws.proofs.ReadyNumbers.{RectFits}
 use Rattle.filling_laws.proofs.ReadyStrips.{AllFit, drop-fit}
-use Rattle.filling_laws.proofs.ReadyOrder.{kinds-many}
 use Rattle.filling_laws.proofs.Ready.{InDoubles, ready-fixed, ready-counts, ready-standing}
 use Rattle.fill_laws.specs.Prepared.{Given, given, Prepared, stateBy, roomsBy}
 use Rattle.fill_laws.proofs.Between.{Held, Own′, given-is, kind-below, slots-below}
 
 -- ---- the tables' lengths
 
-length-bounds : (l : List Rect) → length (flatBounds l) ≡ 4 * length l
-unfolding flatBounds
-length-bounds [] = refl
-length-bounds (b ∷ l) = let e = length-bounds l in omega arith
-
 length-parts : (l : List Part) → length (flatParts l) ≡ 4 * length l
 unfolding flatParts
 length-parts [] = refl
 length-parts (b ∷ l) = let e = length-parts l in omega arith
-
-length-partsFrom : (a b : ℕ) (l : List Shape) → length (partsFrom a b l) ≡ length l
-unfolding partsFrom
-length-partsFrom a b [] = refl
-length-partsFrom a b (s ∷ l) = ap suc (length-partsFrom _ _ l)
 
 bounds-long : (p : Planner) → length (tablesOf p .«inset_bounds») ≡ 4096
 unfolding tablesOf
@@ -68,7 +56,7 @@ pub parts-long : (p : Planner) → length (tablesOf p .parts) ≡ 4096
 unfolding tablesOf
 parts-long p =
     let a = length-parts (partsFrom 0 0 (bySlot (slotShape p))) in
-    let b = length-partsFrom 0 0 (bySlot (slotShape p)) in
+    let b = parts-length (bySlot (slotShape p)) 0 0 in
     let c = length-bySlot (slotShape p) in
     omega arith
 

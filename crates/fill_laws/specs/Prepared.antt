@@ -92,10 +92,10 @@ abbrev pub roomsBy : Planner → Rooms → List Float → List ℕ → Rooms
 roomsBy p lent placed entries =
     record { shapes = firstRooms p lent .shapes; sheet = firstRooms p lent .sheet; placed = placed; sheet-entries = firstRooms p lent .sheet-entries; placed-entries = entries }
 
--- where the filling goes on after place i of n
-abbrev pub placeAfter : Verdict → ℕ → ℕ → ℕ
-placeAfter Accepted i n = i + 1
-placeAfter (Refused k) i n = n
+-- where copies or turns go on after number i of n
+abbrev pub nextAfter : Verdict → ℕ → ℕ → ℕ
+nextAfter Accepted i n = i + 1
+nextAfter (Refused k) i n = n
 
 -- the state at the end, or the refusal first met
 abbrev pub fillingBy : Verdict → Planner → List ℕ → List ℕ → List ℕ → Totals → List ℕ → List Float → List Float → Filling

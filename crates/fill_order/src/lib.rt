@@ -11,7 +11,7 @@ ghost use Rattle.filling.specs.Shapes.{plannerOf};
 ghost use Rattle.filling.specs.Rooms.{Lent};
 ghost use Rattle.filling.specs.Order.{rearranged};
 ghost use Rattle.filling.specs.Fill.{fillOrder};
-ghost use Rattle.fill_laws.specs.Prepared.{givenIn, Prepared, placeAfter, fillingIn};
+ghost use Rattle.fill_laws.specs.Prepared.{givenIn, Prepared, nextAfter, fillingIn};
 use choose::Grid;
 use filling::Verdict;
 use index::Entry;
@@ -23,10 +23,10 @@ pub struct Filled {
     pub totals: Totals,
 }
 
-// The place that comes after place i of n: none after a refusal.
-fn place_after(v: Verdict, i: usize, n: usize) -> usize
+// The copy or turn that comes after number i of n: none after a refusal. Only crates of ours call it.
+pub fn next_after(v: Verdict, i: usize, n: usize) -> usize
     requires { ⌜ i < n ⌝ }
-    ensures { λ r. ⌜ r ≡ placeAfter v i n ⌝ }
+    ensures { λ r. ⌜ r ≡ nextAfter v i n ⌝ }
 {
     match v {
         Verdict::Accepted => i + 1,
@@ -99,7 +99,7 @@ fn fill_copies(
         t = totals;
         let o = step.outcome;
         verdict = place::verdict_of(o);
-        i = place_after(verdict, i, n);
+        i = next_after(verdict, i, n);
     }
     Filled {
         verdict: verdict,

@@ -9,9 +9,8 @@ use lib.ListN.{length, getD, set, take, drop, replicate, length-append, length-m
 use lib.Seq.{take-at, drop-at}
 use lib.Dec.{T, ltb, eqb, eqb→eq, nltb→le}
 use lib.Ieee.{Float, nan}
-use borrow.Author.Tests.{lt-ltb}
-use Rattle.numbers.proofs.Truth.{either}
-use Rattle.numbers.proofs.Rounding.{order}
+use borrow.Author.Tests.{lt-ltb, le-leb}
+use Rattle.numbers.proofs.Truth.{either, below-or-not, clash, both-first}
 use Rattle.numbers.specs.Numbers.{posZero}
 use Rattle.trapezoid.specs.Strip.{flat, capacity, partOf}
 use Rattle.index.specs.Buckets.{stripNumbers, standingCapacity}
@@ -33,8 +32,7 @@ use Rattle.filling.specs.Order.{rearranged, inFull}
 use Rattle.filling.specs.State.{bySlot, slotShape, orientationCounts, slotRows, Part, partAt, boundsAt, apartRoom, insetRoom, shapeAt, plannerAt, orderOf, standingTo, standingOf, withoutTo, withoutOf, rememberedOf, trackAt, tracksOf, emptyLayout}
 use Rattle.filling.specs.Consistent.{every, partFits, partsFit, stripCountsFit, placedStrips}
 use Rattle.filling.specs.Start.{apartStrips, insetStrips, tablesOf, firstState, firstRooms, prepareVerdict, startVerdict, Start, noStart, goodStart, startJob, startGiven, startOf}
-use Rattle.filling.proofs.Lists.{both-first, clash}
-use Rattle.filling.proofs.Reading.{Sixfold, sixfold-nil, sixfold-flat, sixfold-all, AllSixfold, take-laid, getD-bySlot, length-bySlot, bounds-slot, starts, starts-within, at-most, laid-long, rows-every, part-read, part-slot, rows-read, slot-kind, slot-turn, sixteen-get, toCome}
+use Rattle.filling.proofs.Reading.{Sixfold, sixfold-nil, sixfold-flat, sixfold-all, AllSixfold, take-laid, getD-bySlot, length-bySlot, bounds-slot, starts, starts-within, laid-long, rows-every, part-read, part-slot, rows-read, slot-kind, slot-turn, sixteen-get, toCome}
 use Rattle.filling.proofs.Sizes.{Sized}
 use Rattle.filling.proofs.Steps.{Linked, refused≢accepted, later-accepted}
 
@@ -168,8 +166,8 @@ module _ (j : Job) (w : Rooms) where
   unfolding partFits
   part-fits i h =
       let l = length-bySlot (slotShape (plannerOf j)) in
-      let a = at-most (starts (λ s. s .apart) 0 Slots i + capacity (getD Slots i noShape .apart)) (capacity (apartStrips (plannerOf j))) (apart-within i (omega arith)) in
-      let b = at-most (starts (λ s. s .inset) 0 Slots i + capacity (getD Slots i noShape .inset)) (capacity (insetStrips (plannerOf j) ++ Rest)) (inset-within i (omega arith)) in
+      let a = le-leb (starts (λ s. s .apart) 0 Slots i + capacity (getD Slots i noShape .apart)) (capacity (apartStrips (plannerOf j))) (apart-within i (omega arith)) in
+      let b = le-leb (starts (λ s. s .inset) 0 Slots i + capacity (getD Slots i noShape .inset)) (capacity (insetStrips (plannerOf j) ++ Rest)) (inset-within i (omega arith)) in
       rw (part-is i h, apart-room, inset-room) (ap₂ _&&_ a b)
 
   sheet-read : take (6 * tablesOf (plannerOf j) .«sheet_strips») (firstRooms (plannerOf j) w .sheet) ≡ plannerOf j .sheet
@@ -199,7 +197,7 @@ module _ (j : Job) (z : Sized j) where
   -- an orientation that no slot is for has no strips
   pub lacking : (i o : ℕ) → ltb i 64 && ltb o 16 ≡ false → shapeOf (plannerOf j) i o ≡ noShape
   unfolding shapeOf
-  lacking i o e = kind (order i (length (plannerOf j .shapes)))
+  lacking i o e = kind (below-or-not i (length (plannerOf j .shapes)))
     where
       turn : i < length (plannerOf j .shapes)
           → (o < length (getD (plannerOf j .shapes) i [])) ⊎ (length (getD (plannerOf j .shapes) i []) ≤ o) → shapeOf (plannerOf j) i o ≡ noShape
@@ -211,7 +209,7 @@ module _ (j : Job) (z : Sized j) where
 
       kind : (i < length (plannerOf j .shapes)) ⊎ (length (plannerOf j .shapes) ≤ i) → shapeOf (plannerOf j) i o ≡ noShape
       kind (inr l) = ap (λ (row : List Shape). getD row o noShape) (List·getD-eq-default (plannerOf j .shapes) [] l)
-      kind (inl l) = turn l (order o (length (getD (plannerOf j .shapes) i [])))
+      kind (inl l) = turn l (below-or-not o (length (getD (plannerOf j .shapes) i [])))
 
   shapes-read : (w : Rooms) → slotRows (shapeAt (tablesOf (plannerOf j)) (firstRooms (plannerOf j) w .shapes)) 0 (orientationCounts j) ≡ plannerOf j .shapes
   unfolding slotShape shapeOf
@@ -243,7 +241,7 @@ module _ (j : Job) (z : Sized j) where
       let a = laid-long (p .sheet) (zeros posZero (w .sheet)) in
       let b = laid-long (apartStrips p ++ insetStrips p) (zeros posZero (w .shapes)) in
       let c = length-append (apartStrips p) (insetStrips p) in
-      rw (at-most (length (p .sheet) / 6) (min (length (laid (p .sheet) (zeros posZero (w .sheet))) / 6) stripNumbers) (omega arith), at-most (length (apartStrips p) / 6) (length (laid (apartStrips p ++ insetStrips p) (zeros posZero (w .shapes))) / 6) (omega arith), at-most 0 (min (length (zeros posZero (w .placed)) / 6) stripNumbers) (omega arith))
+      rw (le-leb (length (p .sheet) / 6) (min (length (laid (p .sheet) (zeros posZero (w .sheet))) / 6) stripNumbers) (omega arith), le-leb (length (apartStrips p) / 6) (length (laid (apartStrips p ++ insetStrips p) (zeros posZero (w .shapes))) / 6) (omega arith), le-leb 0 (min (length (zeros posZero (w .placed)) / 6) stripNumbers) (omega arith))
 
   pub tracks-read : (order : List ℕ) → tracksOf j (firstState (plannerOf j) order) ≡ map (map (λ s. record { next-column = column 0; look-count = 0 })) (plannerOf j .shapes)
   unfolding tracksOf firstState trackAt rememberedOf

@@ -2,17 +2,17 @@
 -- plain planner has them, those without a place are its own, and each look count is that of its searches. Assumes nothing.
 use mathlib.Core.Path.{_≡_, refl, sym, ap, ap₂, subst, subst₂, _∙_}
 use mathlib.Core.Logic.{_⊎_, inl, inr}
-use mathlib.Core.Bool.{Bool, true, false, not}
+use mathlib.Core.Bool.{Bool, true, false}
 use mathlib.Core.List.{List, [], _∷_, _++_, map}
 use Prim.Native.Nat.{ℕ, zero, suc, _+_, _-_, _≤_, _<_}
 use native.Mathlib.Omega.{arith}
 use lib.ListN.{length, getD, set, replicate}
-use lib.Dec.{T, ltb, ltb→lt, nltb→le}
 use lib.Ieee.{Float}
-use Rattle.numbers.proofs.Truth.{either}
+use Rattle.numbers.proofs.Truth.{either, below-or-not}
 use Rattle.height.specs.declared.Look.{Look}
 use Rattle.height.specs.declared.Look.the-variants.{Free, Full}
 use Rattle.job.specs.Jobs.{Job, Answer, accepted, refused, readJob}
+use Rattle.index.proofs.Flat.{length-upFrom}
 use Rattle.filling.specs.declared.State.{State}
 use Rattle.filling.specs.declared.Verdict.the-variants.{Accepted}
 use Rattle.filling.specs.Shapes.{Planner, plannerOf, Shape, Copy, Standing, copiesFrom, standingStrips}
@@ -27,7 +27,7 @@ use Rattle.filling.specs.Accounts.{lookCountsOf}
 use Rattle.filling.specs.Fill.{fillOrder, fillGiven, fillOf}
 use Rattle.filling.specs.Calls.{Call, After, afterCalls, refusals, stateOutcome, plainOutcome, plainAfter}
 use Rattle.filling.proofs.FirstFree.{FullFrom, FoundAt, skip, none-free, found-at, found-nowhere, Grows, grows-append, look-grows}
-use Rattle.filling.proofs.Reading.{length-upFrom, rows-length, toCome}
+use Rattle.filling.proofs.Reading.{rows-length, toCome}
 use Rattle.filling.proofs.Sizes.{Sized, sized}
 use Rattle.filling.proofs.Rows.{Relation, Row, Table, table-map, table-get, table-set, fresh-table, same-found, row-searched, table-counts}
 use Rattle.filling.proofs.Steps as Steps
@@ -37,15 +37,8 @@ use Rattle.filling.proofs.Begin.{tracks-read, first-linked, first-to-co
 
 -- ---- one orientation
 
-below-or : (d c : ℕ) → (d < c) ⊎ (c ≤ d)
-below-or d c = go (ltb d c) (ltb→lt d c) (nltb→le d c)
-  where
-    go : (b : Bool) → (T b → d < c) → (T (not b) → c ≤ d) → (d < c) ⊎ (c ≤ d)
-    go true h k = inl (h tt)
-    go false h k = inr (k tt)
-
 join : (f : ℕ → Look) (c e : ℕ) → FullFrom f 0 c → FullFrom f c e → FullFrom f 0 e
-join f c e h k d i j = go (below-or d c)
+join f c e h k d i j = go (below-or-not d c)
   where
     go : (d < c) ⊎ (c ≤ d) → f d ≡ Full
     go (inl l) = h d i l
@@ -80,7 +73,7 @@ module _ (p : Planner) (st : List Float) (s : Shape) where
   unfolding plainSearched
   searched-reversed fs o = rw (o, plainSearched)
 
-  looks-open : (c : ℕ) (f : Found) → reversedFor p s ≡ false → looks p s (column c) f ≡ columnsFrom c (lastOf p s) f
+  pub looks-open : (c : ℕ) (f : Found) → reversedFor p s ≡ false → looks p s (column c) f ≡ columnsFrom c (lastOf p s) f
   unfolding looks
   looks-open c f o = rw (o, looks)
 

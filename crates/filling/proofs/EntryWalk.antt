@@ -10,13 +10,12 @@ use mathlib.Core.List.{List, [], _∷_}
 use lib.ListN.{length, getD, take, drop, length-drop}
 use lib.Seq.{drop-cons}
 use lib.Dec.{T, eqb, eqb→eq, eqb-refl}
-use Rattle.numbers.proofs.Truth.{either, is-true}
+use Rattle.numbers.proofs.Truth.{either, is-true, clash}
 use Rattle.entries.specs.declared.Walked.{Walked}
 use Rattle.entries.specs.declared.Walked.the-variants.{At, Wrong}
 use Rattle.entries.specs.Walk.{follows}
 use Rattle.entries.proofs.Following.{follows-on, follows-short, follows-other, follows-none}
 use Rattle.filling.specs.Consistent.{sameNumbers, entriesLie}
-use Rattle.filling.proofs.Lists.{clash}
 
 abbrev pub ends : Walked → Bool
 ends (At e) = true

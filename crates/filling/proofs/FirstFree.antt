@@ -1,7 +1,7 @@
 -- The first free column of some, and a full column that stays full where more copies stand. Assumes nothing.
 use mathlib.Core.Path.{_≡_, refl, sym, ap, _∙_}
 use mathlib.Core.Logic.{_⊎_, inl, inr}
-use mathlib.Core.Bool.{Bool, true, false, cond}
+use mathlib.Core.Bool.{Bool, true, false}
 use mathlib.Core.List.{List, [], _∷_, _++_, flatMap, List·Memᴰ, List·Memᴰ·append-cases, List·Memᴰ·cases-cons, List·Memᴰ·not-nil, List·Memᴰ·head, List·Memᴰ·tail, Memᴰ·append-left, Memᴰ·append-right}
 use Prim.Native.Nat.{ℕ, zero, suc, _+_, _-_, _*_, _/_, _≤_, _<_}
 use native.Mathlib.Nat.{eq-or-lt-of-le}
@@ -12,6 +12,7 @@ use lib.Ieee.{Float, nan, binary64, fits, lt}
 use lib.Ieee.Fits.{sub-fits}
 use Rattle.numbers.proofs.Truth.{either}
 use Rattle.numbers.specs.Numbers.{_⊕_, _⊖_, smaller, larger}
+use Rattle.numbers.proofs.Doubles.{larger-fits, smaller-fits}
 use Rattle.trapezoid.specs.declared.Trapezoid.{Trapezoid}
 use Rattle.trapezoid.specs.declared.Heights.{Heights}
 use Rattle.trapezoid.specs.Strip.{stripAt, capacity, heightsAt}
@@ -20,6 +21,7 @@ use Rattle.index.specs.declared.Meeting.{Meeting}
 use Rattle.index.specs.declared.Meeting.the-variants.{Apart, Forbidden}
 use Rattle.index.specs.Buckets.{upFrom, keep}
 use Rattle.index.specs.Intervals.{intervalOf, meetingOf, intervalIn, forbiddenOf, countsOf, countedOf}
+use Rattle.index.proofs.Flat.{upFrom-mem, flatMap-mem}
 use Rattle.height.specs.declared.Look.{Look}
 use Rattle.height.specs.declared.Look.the-variants.{Free, Full}
 use Rattle.height.specs.Smallest.{heightOf}
@@ -28,7 +30,7 @@ use Rattle.look.specs.Looking.{countedIn}
 use Rattle.filling.specs.Columns.{Ranges, ranges, columnAt}
 use Rattle.filling.specs.Shapes.{Planner, Shape}
 use Rattle.filling.specs.Search.{Found, at, nowhere, firstFree, rangesOf, intervalsAt, lookAt}
-use Rattle.filling.proofs.Lists.{Within, keep-within, append-within, flatMap-mem, mem-flatMap}
+use Rattle.filling.proofs.Lists.{Within, keep-within, append-within, mem-flatMap}
 use Rattle.filling.proofs.FullStays.{Counts, AllCount, full-stays}
 use Rattle.filling.proofs.Reading.{Sixfold}
 
@@ -45,11 +47,11 @@ answers Full = inl refl
 answers (Free y) = inr (y, refl)
 
 module _ (f : ℕ → Look) where
-  first-full : (n c : ℕ) → f c ≡ Full → firstFree f (suc n) c ≡ firstFree f n (suc c)
+  pub first-full : (n c : ℕ) → f c ≡ Full → firstFree f (suc n) c ≡ firstFree f n (suc c)
   unfolding firstFree
   first-full n c e = rw (e, firstFree)
 
-  first-free : (n c : ℕ) (y : Float) → f c ≡ Free y → firstFree f (suc n) c ≡ at c y
+  pub first-free : (n c : ℕ) (y : Float) → f c ≡ Free y → firstFree f (suc n) c ≡ at c y
   unfolding firstFree
   first-free n c y e = rw (e, firstFree)
 
@@ -130,15 +132,6 @@ grows-append st new s =
           rw (List·getD-append st new nan (6 * i) (omega arith), List·getD-append st new nan (6 * i + 1) (omega arith), List·getD-append st new nan (6 * i + 2) (omega arith), List·getD-append st new nan (6 * i + 3) (omega arith), List·getD-append st new nan (6 * i + 4) (omega arith), List·getD-append st new nan (6 * i + 5) (omega arith));
     }
 
-upFrom-mem : (n c b : ℕ) → List·Memᴰ b (upFrom n c) → (c ≤ b) × (b < c + n)
-unfolding upFrom
-upFrom-mem zero c b m = absurd (List·Memᴰ·not-nil m)
-upFrom-mem (suc n) c b m = go (upFrom-mem n (suc c) b) (List·Memᴰ·cases-cons m)
-  where
-    go : (List·Memᴰ b (upFrom n (suc c)) → (suc c ≤ b) × (b < suc c + n)) → (b ≡ c) ⊎ List·Memᴰ b (upFrom n (suc c)) → (c ≤ b) × (b < c + suc n)
-    go rec (inl e) = (omega arith, omega arith)
-    go rec (inr k) = let r = rec k in let a = r .0 in let d = r .1 in (omega arith, omega arith)
-
 mem-upFrom : (n c b : ℕ) → c ≤ b → b < c + n → List·Memᴰ b (upFrom n c)
 unfolding upFrom
 mem-upFrom zero c b h l = absurd (omega arith)
@@ -149,22 +142,6 @@ mem-upFrom (suc n) c b h l = go (λ g. mem-upFrom n (suc c) b g (omega arith)) (
     go rec (inr k) = List·Memᴰ·tail (rec k)
 
 -- ---- the counted intervals
-
-smaller-fits : (a b : Float) → T (fits binary64 a) → T (fits binary64 b) → T (fits binary64 (smaller a b))
-unfolding smaller
-smaller-fits a b p q = go (lt b a)
-  where
-    go : (t : Bool) → T (fits binary64 (cond t b a))
-    go true = q
-    go false = p
-
-larger-fits : (a b : Float) → T (fits binary64 a) → T (fits binary64 b) → T (fits binary64 (larger a b))
-unfolding larger
-larger-fits a b p q = go (lt a b)
-  where
-    go : (t : Bool) → T (fits binary64 (cond t b a))
-    go true = q
-    go false = p
 
 abbrev EndsFit : Interval → Type 0
 EndsFit i = T (fits binary64 (i .from)) × T (fits binary64 (i .to))

@@ -1,6 +1,7 @@
 pub mod Computing
 pub mod Lists
 pub mod Reading
+pub mod CountIn
 pub mod FullStays
 pub mod FirstFree
 pub mod Sizes

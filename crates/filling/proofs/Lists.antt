@@ -1,54 +1,16 @@
--- `keep`, `map` and `flatMap` by membership. Assumes nothing.
-use mathlib.Core.Path.{_≡_, refl, sym, ap, _∙_}
+-- `keep` and `flatMap` by membership. Assumes nothing.
+use mathlib.Core.Path.{_≡_}
 use mathlib.Core.Logic.{_⊎_, inl, inr}
-use mathlib.Core.Bool.{Bool, true, false, _&&_, true≢false}
-use mathlib.Core.List.{List, [], _∷_, _++_, map, flatMap, List·Memᴰ, List·Memᴰ·head, List·Memᴰ·tail, Memᴰ·append-left, Memᴰ·append-right, List·Memᴰ·append-cases, List·Memᴰ·cases-cons, List·Memᴰ·not-nil}
+use mathlib.Core.Bool.{Bool}
+use mathlib.Core.List.{List, [], _∷_, _++_, flatMap, List·Memᴰ, Memᴰ·append-left, Memᴰ·append-right, List·Memᴰ·append-cases, List·Memᴰ·cases-cons, List·Memᴰ·not-nil}
 use Rattle.index.specs.Buckets.{keep}
+use Rattle.index.proofs.Flat.{flatMap-mem}
 use Rattle.height.proofs.SmallestHeight.{keep-mem, mem-keep}
-
-pub both-first : (a b : Bool) → a && b ≡ true → a ≡ true
-both-first true b e = refl
-both-first false b e = e
-
-pub both-second : (a b : Bool) → a && b ≡ true → b ≡ true
-both-second true b e = e
-both-second false b e = absurd (true≢false (sym e))
-
-pub clash : {b : Bool} → b ≡ true → b ≡ false → ⊥
-clash p q = true≢false (sym p ∙ q)
 
 abbrev pub Within {ℓ} : {A : Type ℓ} → List A → List A → Type ℓ
 Within {A = A} xs ys = (a : A) → List·Memᴰ a xs → List·Memᴰ a ys
 
-module _ {A B : Type 0} (f : A → B) where
-  pub mem-map : (a : A) (as′ : List A) → List·Memᴰ a as′ → List·Memᴰ (f a) (map f as′)
-  mem-map a as′ (List·Memᴰ·head e) = List·Memᴰ·head (ap f e)
-  mem-map a as′ (List·Memᴰ·tail m) = List·Memᴰ·tail (mem-map a _ m)
-
-  pub map-mem : (b : B) (as′ : List A) → List·Memᴰ b (map f as′) → (a : A) × List·Memᴰ a as′ × (b ≡ f a)
-  map-mem b [] m = absurd (List·Memᴰ·not-nil m)
-  map-mem b (a ∷ as′) m = go (map-mem b as′) (List·Memᴰ·cases-cons m)
-    where
-      tailed : ((c : A) × List·Memᴰ c as′ × (b ≡ f c)) → (c : A) × List·Memᴰ c (a ∷ as′) × (b ≡ f c)
-      tailed h = (h .0, List·Memᴰ·tail (h .1), h .2)
-
-      go : (List·Memᴰ b (map f as′) → (c : A) × List·Memᴰ c as′ × (b ≡ f c)) → (b ≡ f a) ⊎ List·Memᴰ b (map f as′) → (c : A) × List·Memᴰ c (a ∷ as′) × (b ≡ f c)
-      go below (inl e) = (a, List·Memᴰ·head refl, e)
-      go below (inr n) = tailed (below n)
-
 module _ {A B : Type 0} where
-  pub flatMap-mem : (f : A → List B) (b : B) (zs : List A) → List·Memᴰ b (flatMap f zs) → (a : A) × List·Memᴰ a zs × List·Memᴰ b (f a)
-  unfolding flatMap
-  flatMap-mem f b [] m = absurd (List·Memᴰ·not-nil m)
-  flatMap-mem f b (z ∷ zs) m = go (flatMap-mem f b zs) (List·Memᴰ·append-cases (f z) m)
-    where
-      tailed : ((a : A) × List·Memᴰ a zs × List·Memᴰ b (f a)) → (a : A) × List·Memᴰ a (z ∷ zs) × List·Memᴰ b (f a)
-      tailed h = (h .0, List·Memᴰ·tail (h .1), h .2)
-
-      go : (List·Memᴰ b (flatMap f zs) → (a : A) × List·Memᴰ a zs × List·Memᴰ b (f a)) → List·Memᴰ b (f z) ⊎ List·Memᴰ b (flatMap f zs) → (a : A) × List·Memᴰ a (z ∷ zs) × List·Memᴰ b (f a)
-      go below (inl n) = (z, List·Memᴰ·head refl, n)
-      go below (inr n) = tailed (below n)
-
   pub mem-flatMap : (g : A → List B) (b : B) (zs : List A) (a : A) → List·Memᴰ a zs → List·Memᴰ b (g a) → List·Memᴰ b (flatMap g zs)
   unfolding flatMap
   mem-flatMap g b [] a m n = absurd (List·Memᴰ·not-nil m)

@@ -9,6 +9,7 @@ use lib.ListN.{length, getD, set, take, drop, replicate, length-append, length-d
 use lib.Seq.{take-at}
 use lib.Dec.{T, eqb, eqb-refl, leb, ltb, nltb→le}
 use lib.Ieee.{Float}
+use borrow.Author.Tests.{le-leb}
 use Rattle.numbers.proofs.Truth.{either}
 use Rattle.numbers.specs.Numbers.{posZero}
 use Rattle.trapezoid.specs.Strip.{capacity}
@@ -33,7 +34,7 @@ use Rattle.filling.specs.Consistent.{every, bounded, stripsFit, takenFit
 use Rattle.filling.specs.Start.{apartStrips, insetStrips, tablesOf, firstState, firstRooms, prepareVerdict, startVerdict, noStart, startGiven, startOf}
 use Rattle.filling.specs.NextCopy.{intervalCounts, anyAbove, newStrips, storeVerdict, winnerVerdict, copyVerdict, stateWith, stateAfter, stored, roomsAfter, Step, noStep, placeCopy, placeNext, coreStep, stepJob, stepGiven, nextCopyOf}
 use Rattle.filling.specs.Calls.{Call, nextCopy, After, callStep, afterCalls}
-use Rattle.filling.proofs.Reading.{at-most, length-laid, length-zeros, laid-long, take-laid, Sixteen, no-turns, and-turns}
+use Rattle.filling.proofs.Reading.{length-laid, length-zeros, laid-long, take-laid, Sixteen, no-turns, and-turns}
 use Rattle.filling.proofs.Sizes.{Sized, sized}
 use Rattle.filling.proofs.Rows.{Row, no-more, and-more, Table, no-kind, and-kind}
 use Rattle.filling.proofs.Steps as Steps
@@ -48,10 +49,10 @@ use Rattle.filling.proofs.WithinBounds.{jobs-within}
 
 fits-one : (p : Planner) (st : List Float) (n : ℕ) (s : Shape) (t : Track) (fs : List Found) → Tracked p st n s t fs → trackFits n (lastOf p s) t ≡ true
 unfolding trackFits columnFits
-fits-one p st n s t fs (fresh m l e, f) = rw (m, l, at-most 0 (lastOf p s) (omega arith), at-most 0 (suc (lastOf p s) + n) (omega arith))
-fits-one p st n s t fs (closed o m l e, f) = rw (m, l, at-most 0 (suc (lastOf p s) + n) (omega arith))
-fits-one p st n s t fs (reached c y gs o b h m e l, f) = rw (m, at-most c (lastOf p s) b, at-most (t .look-count) (suc (lastOf p s) + n) (omega arith))
-fits-one p st n s t fs (spent gs o h m e l, f) = rw (m, at-most (t .look-count) (suc (lastOf p s) + n) (omega arith))
+fits-one p st n s t fs (fresh m l e, f) = rw (m, l, le-leb 0 (lastOf p s) (omega arith), le-leb 0 (suc (lastOf p s) + n) (omega arith))
+fits-one p st n s t fs (closed o m l e, f) = rw (m, l, le-leb 0 (suc (lastOf p s) + n) (omega arith))
+fits-one p st n s t fs (reached c y gs o b h m e l, f) = rw (m, le-leb c (lastOf p s) b, le-leb (t .look-count) (suc (lastOf p s) + n) (omega arith))
+fits-one p st n s t fs (spent gs o h m e l, f) = rw (m, le-leb (t .look-count) (suc (lastOf p s) + n) (omega arith))
 
 fits-row : (p : Planner) (st : List Float) (n : ℕ) {ss : List Shape} {ts : List Track} {fss : List (List Found)} → Row (Tracked p st n) ss ts fss → tracksFit p n ss ts ≡ true
 unfolding tracksFit
@@ -123,7 +124,7 @@ pub own-consistent : (j : Job) (order : List ℕ) (s : State) (w : Rooms) (q : P
 unfolding consistent takenFits entriesFit
 own-consistent j order s w q z b r h =
     let few : length (withoutOf s) ≤ 4096 = unfold withoutOf in (let a = without-few s (s .taken) in let f = h .few in let g = z .few in omega arith) in
-    rw (at-most (s .taken) (j .copies) (h .few), h .counts, h .parts, h .order-kept, r, h .kept .linked .plan, b .own, h .kept .linked .stand, h .fine .strips, layout-fits j s b few (h .fine), fits-table (plannerOf j) (standingStrips (plannerOf j) (standingOf s)) (s .taken) (h .kept .paired .table), h .sheet-entries, h .placed-entries)
+    rw (le-leb (s .taken) (j .copies) (h .few), h .counts, h .parts, h .order-kept, r, h .kept .linked .plan, b .own, h .kept .linked .stand, h .fine .strips, layout-fits j s b few (h .fine), fits-table (plannerOf j) (standingStrips (plannerOf j) (standingOf s)) (s .taken) (h .kept .paired .table), h .sheet-entries, h .placed-entries)
 
 -- ---- a copy taken
 
@@ -188,7 +189,7 @@ module _ (j : Job) (z : Sized j) (b : WithinBounds (plannerOf j)) (order : List 
 
         counts-more : (t : Tables) (n m : ℕ) (w : Rooms) (placed : List Float) (es : List ℕ) → leb (t .«sheet_strips») (standingCapacity (w .sheet)) && (leb (t .«apart_strips») (capacity (w .shapes)) && leb n (standingCapacity (w .placed))) ≡ true
             → m ≤ standingCapacity placed → leb (t .«sheet_strips») (standingCapacity (w .sheet)) && (leb (t .«apart_strips») (capacity (w .shapes)) && leb m (standingCapacity placed)) ≡ true
-        counts-more t n m w placed es c l = go (leb (t .«sheet_strips») (standingCapacity (w .sheet))) (leb (t .«apart_strips») (capacity (w .shapes))) c (at-most m (standingCapacity placed) l)
+        counts-more t n m w placed es c l = go (leb (t .«sheet_strips») (standingCapacity (w .sheet))) (leb (t .«apart_strips») (capacity (w .shapes))) c (le-leb m (standingCapacity placed) l)
           where
             go : (x y : Bool) → x && (y && leb n (standingCapacity (w .placed))) ≡ true → leb m (standingCapacity placed) ≡ true → x && (y && leb m (standingCapacity placed)) ≡ true
             go true true u v = v

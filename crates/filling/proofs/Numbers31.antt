@@ -9,7 +9,7 @@ use native.Mathlib.Omega.{arith}
 use lib.ListN.{length, getD}
 use lib.Seq.{getD-append-add}
 use lib.Ieee.{Float, nan, le, lt}
-use Rattle.numbers.proofs.Truth.{either}
+use Rattle.numbers.proofs.Truth.{either, both-first, both-second}
 use Rattle.numbers.specs.Numbers.{_⊕_, larger, fromInt, posZero}
 use Rattle.trapezoid.specs.Strip.{stripAt, capacity}
 use Rattle.index.specs.Buckets.{upFrom}
@@ -24,7 +24,6 @@ use Rattle.filling.specs.Choice.{Choice, choiceOf, choices, wins, best, 
 use Rattle.filling.specs.State.{standingOf, withoutOf}
 use Rattle.filling.specs.Consistent.{every, bounded, stripFits, stripsFit, boundsFit, plannerFits, resolutionFits, shapeFits, layoutFits}
 use Rattle.filling.specs.NextCopy.{newStrips, entered, stateWith, layoutAfter, stateAfter}
-use Rattle.filling.proofs.Lists.{both-first, both-second}
 use Rattle.filling.proofs.FirstFree.{FoundAt, found-at, grows-append}
 use Rattle.filling.proofs.Reading.{Sixfold, capacity-append}
 use Rattle.filling.proofs.Steps.{new-sixfold, standing-sixfold, standing-more}

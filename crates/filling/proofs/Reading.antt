@@ -1,36 +1,30 @@
 -- What was laid into a room or a table by slot is read out again. Assumes nothing.
 use mathlib.Core.Path.{_≡_, refl, sym, ap, ap₂, subst, _∙_}
 use mathlib.Core.Logic.{_⊎_, inl, inr, _≢_}
-use mathlib.Core.Bool.{Bool, true, false, not, cond}
+use mathlib.Core.Bool.{Bool, true, cond}
 use mathlib.Core.List.{List, [], _∷_, _++_, map, flatMap, append-nil, append-assoc}
 use Prim.Native.Nat.{ℕ, zero, suc, _+_, _-_, _*_, _/_, _%_, _≤_, _<_}
 use native.Mathlib.Omega.{arith}
 use lib.ListN.{length, getD, set, take, drop, replicate, length-append, length-map, length-set, length-drop, length-replicate, List·getD-map}
 use lib.Seq.{sets, take-at, drop-at, ext-getD, getD-set-same, getD-set-other, length-sets, drop-drop}
 use lib.Arith.{digits-div, digits-mod}
-use lib.Dec.{T, leb, nleb→lt}
+use lib.Dec.{leb}
 use lib.Ieee.{Float, nan}
-use Rattle.numbers.proofs.Truth.{either}
+use borrow.Author.Tests.{le-leb}
 use Rattle.trapezoid.specs.declared.Trapezoid.{Trapezoid}
 use Rattle.trapezoid.specs.Strip.{flat, capacity, partOf}
 use Rattle.index.specs.Buckets.{upFrom}
+use Rattle.index.proofs.Flat.{length-upFrom, getD-upFrom}
 use Rattle.strips.specs.declared.Rect.{Rect}
 use Rattle.job.specs.Jobs.{Job}
 use Rattle.filling.specs.Shapes.{Shape, noShape, Copy, copiesFrom}
 use Rattle.filling.specs.Rooms.{laid, zeros}
-use Rattle.filling.specs.State.{bySlot, slotRows, Part, flatParts, partAt, flatBounds, boundsAt, orderOf}
+use Rattle.filling.specs.State.{bySlot, slotRows, Part, flatParts, partAt, flatBounds, boundsAt, orderOf, orientationCounts}
 use Rattle.filling.specs.Consistent.{every}
 use Rattle.filling.specs.Start.{partsFrom}
 use Rattle.filling.specs.declared.State.{State}
 
 -- ---- rooms
-
-pub at-most : (a b : ℕ) → a ≤ b → leb a b ≡ true
-at-most a b h = go (either (leb a b)) (nleb→lt a b)
-  where
-    go : (leb a b ≡ true) ⊎ (leb a b ≡ false) → (T (not (leb a b)) → b < a) → leb a b ≡ true
-    go (inl e) f = e
-    go (inr e) f = let g : b < a = f (rw e tt) in absurd (omega arith)
 
 pub length-laid : {A : Type 0} (xs room : List A) → length xs ≤ length room → length (laid xs room) ≡ length room
 unfolding laid
@@ -43,6 +37,10 @@ laid-long xs room = simp length-append (omega arith)
 pub length-zeros : {A : Type 0} (z : A) (room : List A) → length (zeros z room) ≡ length room
 unfolding zeros
 length-zeros z room = length-replicate (length room) z
+
+pub zeros-same : {A : Type 0} (z : A) (xs ys : List A) → length xs ≡ length ys → zeros z xs ≡ zeros z ys
+unfolding zeros
+zeros-same z xs ys e = ap (λ (n : ℕ). replicate n z) e
 
 pub take-laid : {A : Type 0} (xs room : List A) (n : ℕ) → length xs ≡ n → take n (laid xs room) ≡ xs
 unfolding laid
@@ -82,20 +80,22 @@ flat-append (s ∷ ss) ts = ap (λ (l : List Float). s .x0 ∷ s .x1 ∷ s .low0
 pub sixfold-flat : (l : List Trapezoid) → Sixfold (flat l)
 sixfold-flat l = sixfold-of (length l) (flat l) (length-flat l)
 
+-- ---- bounds: four numbers each
+
+pub length-bounds : (bs : List Rect) → length (flatBounds bs) ≡ 4 * length bs
+unfolding flatBounds
+length-bounds [] = refl
+length-bounds (b ∷ bs) = let e = length-bounds bs in omega arith
+
+-- ---- kinds
+
+pub kinds-many : (j : Job) → length (orientationCounts j) ≡ length (j .kinds)
+unfolding orientationCounts
+kinds-many j = length-map (j .kinds) (λ k. length (k .orientations))
+
 -- ---- by slot
 
-pub length-upFrom : (n c : ℕ) → length (upFrom n c) ≡ n
-unfolding upFrom
-length-upFrom zero c = refl
-length-upFrom (suc n) c = ap suc (length-upFrom n (suc c))
-
 module _ {A : Type 0} where
-  pub getD-upFrom : (f : ℕ → A) (n c i : ℕ) (d : A) → i < n → getD (map f (upFrom n c)) i d ≡ f (c + i)
-  unfolding upFrom
-  getD-upFrom f zero c i d h = absurd (omega arith)
-  getD-upFrom f (suc n) c zero d h = ap f (omega arith)
-  getD-upFrom f (suc n) c (suc i) d h = let e : suc c + i ≡ c + suc i = omega arith in getD-upFrom f n (suc c) i d (omega arith) ∙ ap f e
-
   pub getD-bySlot : (f : ℕ → A) (i : ℕ) (d : A) → i < 1024 → getD (bySlot f) i d ≡ f i
   unfolding bySlot
   getD-bySlot f i d h = getD-upFrom f 1024 0 i d h ∙ ap f (omega arith)
@@ -171,7 +171,7 @@ module _ (f : Shape → List Float) where
   here a pre part rest e s =
       let l = length-append pre (part ++ rest) in
       let m = length-append part rest in
-      let b : leb (a + length part / 6) (length (pre ++ (part ++ rest)) / 6) ≡ true = at-most (a + length part / 6) (length (pre ++ (part ++ rest)) / 6) (omega arith) in
+      let b : leb (a + length part / 6) (length (pre ++ (part ++ rest)) / 6) ≡ true = le-leb (a + length part / 6) (length (pre ++ (part ++ rest)) / 6) (omega arith) in
       let d : drop (6 * a) (pre ++ (part ++ rest)) ≡ part ++ rest = drop-at pre (part ++ rest) (6 * a) e in
       rw (b, d) (take-at part rest (6 * (length part / 6)) s)
 
@@ -207,7 +207,7 @@ parts-are [] a b i d h = absurd (omega arith)
 parts-are (s ∷ ss) a b zero d h = refl
 parts-are (s ∷ ss) a b (suc i) d h = parts-are ss (a + capacity (s .apart)) (b + capacity (s .inset)) i d (omega arith)
 
-parts-length : (ss : List Shape) (a b : ℕ) → length (partsFrom a b ss) ≡ length ss
+pub parts-length : (ss : List Shape) (a b : ℕ) → length (partsFrom a b ss) ≡ length ss
 unfolding partsFrom
 parts-length [] a b = refl
 parts-length (s ∷ ss) a b = ap suc (parts-length ss (a + capacity (s .apart)) (b + capacity (s .inset)))

@@ -100,6 +100,21 @@ pub data Outcome (j : Job) (s : State) (w : Rooms) (r : Step) : Type 0 where
 pub refused≢accepted : {k : Refusal} → Refused k ≡ Accepted → ⊥
 refused≢accepted e = let z : _≡_ {A = ℕ} 0 1 = cc in omega arith
 
+pub accepted≢refused : {k : Refusal} → Accepted ≡ Refused k → ⊥
+accepted≢refused e = refused≢accepted (sym e)
+
+pub no-step-refused : (k : Refusal) (s : State) (w : Rooms) (iv : List Float) → noStep k s w iv .verdict ≡ Refused k
+unfolding noStep
+no-step-refused k s w iv = refl
+
+pub refuse-yes : (t : Bool) (k : Refusal) (v : Verdict) → t ≡ true → refuseIf t k v ≡ Refused k
+unfolding refuseIf
+refuse-yes t k v e = rw (e, refuseIf)
+
+pub refuse-no : (t : Bool) (k : Refusal) (v : Verdict) → t ≡ false → refuseIf t k v ≡ v
+unfolding refuseIf
+refuse-no t k v e = rw (e, refuseIf)
+
 pub later-accepted : (t : Bool) (k : Refusal) (v : Verdict) → refuseIf t k v ≡ Accepted → (t ≡ false) × (v ≡ Accepted)
 unfolding refuseIf
 later-accepted true k v e = absurd (refused≢accepted e)

@@ -6,23 +6,23 @@ use Prim.Native.Nat.{ℕ, zero, suc, _+_, _-_, _*_, _/_, _^_, _≤_, _<_, min}
 use native.Mathlib.Nat.{le-trans, le-of-eq, suc-mul, mul-one, mul-assoc, mul-right-comm, mul-le-mul-right, mul-pos, le-div-iff-mul-le}
 use native.Mathlib.Omega.{arith}
 use lib.Dec.{T, lit≤, lit<}
-use lib.Ieee.{Float, binary64, fits, le, neg, toUnsigned, unlike, ofInt, div}
+use lib.Ieee.{Float, binary64, fits, le, neg, toUnsigned, unlike, ofInt}
 use lib.Ieee.Fits.{mul-fits}
 use lib.Ieee.Scale.{finite}
 use Rattle.numbers.specs.Numbers.{_⊕_, _⊗_, _⊘_, fromInt, posZero}
-use Rattle.numbers.proofs.Truth.{is-true}
+use Rattle.numbers.proofs.Truth.{is-true, below-or-not, holds}
 use Rattle.numbers.proofs.Keys.{mag, negative, shift, unit-pos, finite-real, key→le}
-use Rattle.numbers.proofs.Rounding.{near, near-mono, key-pos, order}
+use Rattle.numbers.proofs.Rounding.{near, near-mono, key-pos}
 use Rattle.numbers.proofs.Operations.{neg-fin, neg-key, mul-key, mul-real, div-key}
 use Rattle.numbers.proofs.Bounds.{near-whole, value-key, within-finite}
 use Rattle.numbers.proofs.RoundDown.{floor-is}
-use Rattle.numbers.proofs.Ranges.{int-num, zero-num, zero-key, zero-add, nonneg-minus, div-within, floor-within}
+use Rattle.numbers.proofs.Ranges.{int-num, zero-num, zero-key, zero-add, nonneg-minus, div-within, floor-within, tested-within}
 use Rattle.numbers.proofs.Literals.{milli, milli-num, milli-reach}
 use Rattle.numbers.proofs.Doubles as Doubles
 use Rattle.numbers.proofs.Doubles.{k, o, u, Finite, Number, Upto, Small, add-mono}
 use Rattle.trapezoid.proofs.Sizes.{small-more}
-use Rattle.bits.specs.Fields.{resolutionRange}
-use Rattle.bits.proofs.Accepted.{UpFrom}
+use Rattle.bits.proofs.Accepted.{UpFrom, resolution-least}
+use Rattle.index.specs.Listing.{Bounded}
 use Rattle.filling.specs.Consistent.{bounded, resolutionFits}
 
 -- a test of two numbers from their keys
@@ -30,6 +30,17 @@ pub le-of-keys : {x y : Float} → Finite x → Finite y → k x ≤ k y → le 
 le-of-keys {x} {y} X Y h = is-true (le x y) (key→le binary64 x y (X .fit) (Y .fit) (finite-real x (X .isFinite)) (finite-real y (Y .isFinite)) h)
 
 -- ---- "not finite or beyond ±1,000,000"
+
+limit-low : T (fits binary64 (neg (fromInt 1_000_000))) × lib.Ieee.Exact.HasValue (neg (fromInt 1_000_000)) true 1000000 1
+unfolding fits neg ofInt
+limit-low = (tt, (refl, refl))
+
+limit-high : T (fits binary64 (fromInt 1_000_000)) × lib.Ieee.Exact.HasValue (fromInt 1_000_000) false 1000000 1
+unfolding fits ofInt
+limit-high = (tt, (refl, refl))
+
+pub tested-bounded : (x : Float) → T (fits binary64 x) → le (neg (fromInt 1_000_000)) x ≡ true → le x (fromInt 1_000_000) ≡ true → Bounded 1000000 x
+tested-bounded x f l h = let t = tested-within binary64 1000000 (neg (fromInt 1_000_000)) (fromInt 1_000_000) x (limit-low .0) (limit-high .0) f (limit-low .1) (limit-high .1) (holds l) (holds h) (lit≤ tt) in record { fine = t .0; bound = t .1 }
 
 limit : Number (fromInt 1_000_000) × (k (fromInt 1_000_000) ≡ o + 1000000 * u)
 limit = int-num binary64 1000000 (lit≤ tt)
@@ -55,23 +66,19 @@ small-bounded {n} {x} S h =
 
 -- ---- "a .. resolution .. beyond its range"
 
-least-is : resolutionRange .least ≡ milli
-unfolding ofInt div
-least-is = refl
-
 pub resolution-fits : {r : Float} → UpFrom milli 10000 r → resolutionFits r ≡ true
 unfolding resolutionFits
 resolution-fits {r} R =
     let M = int-num binary64 10000 (lit≤ tt) in
     let F = Doubles.finite (R .num) in
-    rw (ap (λ (x : Float). le x r) least-is ∙ le-of-keys (Doubles.finite milli-num) F (R .low), le-of-keys F (Doubles.finite (M .0)) (subst (λ (n : ℕ). k r ≤ n) (sym (M .1)) (R .high .atMost)))
+    rw (ap (λ (x : Float). le x r) resolution-least ∙ le-of-keys (Doubles.finite milli-num) F (R .low), le-of-keys F (Doubles.finite (M .0)) (subst (λ (n : ℕ). k r ≤ n) (sym (M .1)) (R .high .atMost)))
 
 -- ---- column c's distance from the first: c × resolution
 
 -- a quotient that reaches c is at least c less one before it is rounded
 pub quotient-from : (a b c : ℕ) → 0 < b → c ≤ 2 ^ 53 → c * u ≤ near binary64 a b → c * b ≤ a + b
 quotient-from a b zero p h l = let z : 0 * b ≡ 0 = native.Mathlib.Nat.zero-mul b in omega arith
-quotient-from a b (suc m) p h l = elim (order a (m * b)) [
+quotient-from a b (suc m) p h l = elim (below-or-not a (m * b)) [
   | inl g ↦ absurd (no (m * u) (suc m * u) (near binary64 a b) u (suc-mul m u) l (le-trans (near-mono binary64 a b m 1 p (lit< tt) (le-trans (le-of-eq (mul-one a)) (native.Mathlib.Nat.le-of-lt g))) (le-of-eq (near-whole binary64 m (omega arith)))) (unit-pos binary64))
   | inr g ↦ last (m * b) (suc m * b) (suc-mul m b) g
 ]

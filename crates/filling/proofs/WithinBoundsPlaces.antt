@@ -9,17 +9,17 @@ use lib.Dec.{T, lit≤, leb, leb→le}
 use lib.Ieee.{Float, nan, inf, fin, binary64, fits, le, lt, toUnsigned}
 use lib.Ieee.Fits.{sub-fits}
 use Rattle.numbers.specs.Numbers.{_⊕_, _⊖_, _⊗_, _⊘_, fromInt, smaller, larger, plusZero}
-use Rattle.numbers.proofs.Truth.{holds, fails}
+use Rattle.numbers.proofs.Truth.{holds, fails, both-first}
 use Rattle.numbers.proofs.Keys.{real, finite-real, nlt→key, le→key}
 use Rattle.numbers.proofs.Rounding.{finite-of-key, key-finite}
 use Rattle.numbers.proofs.Patterns.{plus-number}
 use Rattle.numbers.proofs.Literals.{milli}
-use Rattle.numbers.proofs.Doubles.{k, o, u, Finite, Number, Upto, Small, finite, lt-no, add-upto, sub-upto, sub-number, sub-nonneg}
+use Rattle.numbers.proofs.Doubles.{k, o, u, Finite, Number, Upto, Small, finite, lt-no, add-upto, sub-upto, sub-number, sub-nonneg, larger-fits}
 use Rattle.trapezoid.specs.declared.Trapezoid.{Trapezoid}
 use Rattle.trapezoid.specs.declared.Heights.{Heights}
 use Rattle.trapezoid.specs.Strip.{stripAt, capacity, heightsAt}
 use Rattle.trapezoid.proofs.Sizes.{small-more}
-use Rattle.slab.proofs.Sizes.{All, all-append}
+use Rattle.slab.proofs.Merging.{All, all-append}
 use Rattle.strips.specs.declared.Rect.{Rect}
 use Rattle.strips.proofs.Sizes.{Framed}
 use Rattle.index.specs.declared.Interval.{Interval}
@@ -33,7 +33,6 @@ use Rattle.bits.proofs.Accepted.{UpFrom}
 use Rattle.filling.specs.Columns.{Ranges, ranges, reversed, columns, regularColumn, columnAt}
 use Rattle.filling.specs.Shapes.{Planner, Shape}
 use Rattle.filling.specs.Search.{rangesOf, reversedFor, intervalsAt, lookAt}
-use Rattle.filling.proofs.Lists.{both-first}
 use Rattle.filling.proofs.Numbers31.{Yielded}
 use Rattle.filling.proofs.WithinBoundsNumbers.{column-upto}
 
@@ -61,14 +60,6 @@ all-kept P Q test (a ∷ l) h f = go (test a) refl (all-kept P Q test l (h .1) f
 
 abbrev Fitted : List Interval → Type 0
 Fitted is = All (λ (i : Interval). T (fits binary64 (i .to))) is
-
-larger-fits : (x y : Float) → T (fits binary64 x) → T (fits binary64 y) → T (fits binary64 (larger x y))
-unfolding larger
-larger-fits x y p q = go (lt x y)
-  where
-    go : (t : Bool) → T (fits binary64 (cond t y x))
-    go true = q
-    go false = p
 
 interval-fits : (pa pb qa qb : Heights) → T (fits binary64 (intervalOf pa pb qa qb .to))
 unfolding intervalOf

@@ -13,7 +13,8 @@ use Rattle.numbers.proofs.Doubles.{k, Number, Small, finite}
 use Rattle.trapezoid.specs.declared.Trapezoid.{Trapezoid}
 use Rattle.trapezoid.specs.Strip.{stripAt, flat, capacity, movedBy}
 use Rattle.trapezoid.proofs.Sizes.{Sized, small-more, moved-sized, moved-order}
-use Rattle.slab.proofs.Sizes.{Good, All}
+use Rattle.slab.proofs.Sizes.{Good}
+use Rattle.slab.proofs.Merging.{All}
 use Rattle.strips.specs.declared.Rect.{Rect}
 use Rattle.strips.specs.Strips.{bounds, trapezoids}
 use Rattle.strips.proofs.Sizes.{Framed, bounds-framed, trapezoids-good}

@@ -11,7 +11,7 @@ use lib.Seq.{length-take-le}
 use lib.Dec.{T, leb}
 use lib.Ieee.{Float, nan, binary64, fits}
 use borrow.Author.Tests.{leb-true}
-use Rattle.numbers.proofs.Truth.{either}
+use Rattle.numbers.proofs.Truth.{either, both-first, both-second}
 use Rattle.numbers.proofs.Doubles.{k, o, u}
 use Rattle.numbers.proofs.Literals.{milli}
 use Rattle.trapezoid.specs.Strip.{stripAt, capacity}
@@ -34,7 +34,6 @@ use Rattle.filling.specs.Order.{rearranged}
 use Rattle.filling.specs.State as States
 use Rattle.filling.specs.State.{orientationCounts, apartRoom, insetRoom, shapeAt, plannerAt, orderOf, trackAt, tracksOf}
 use Rattle.filling.specs.Consistent.{every, stripsFit, boundsFit, takenFits, stripCountsFit, partsFit, columnFits, trackFits, trackTableFits, resolutionFits, shapeFits, plannerFits, layoutFits, entriesFit, sheetIndex, placedStrips, consistent}
-use Rattle.filling.proofs.Lists.{both-first, both-second}
 use Rattle.columns.specs.Stands.{columnsOf, xOf, lastOf}
 use Rattle.columns.proofs.Same as Same
 use Rattle.columns.proofs.Steps.{last-bound}

@@ -11,9 +11,9 @@ use lib.Ieee.{Float, binary64, toUnsigned, unlike}
 use lib.Ieee.Fits.{mul-fits}
 use borrow.Author.Tests.{leb-true}
 use Rattle.numbers.specs.Numbers.{_⊕_, _⊖_, _⊗_, _⊘_, fromInt, posZero, plusZero}
-use Rattle.numbers.proofs.Truth.{either}
+use Rattle.numbers.proofs.Truth.{either, below-or-not}
 use Rattle.numbers.proofs.Keys.{mag, negative, shift, unit-pos, finite-real}
-use Rattle.numbers.proofs.Rounding.{near, near-mono, key-pos, order}
+use Rattle.numbers.proofs.Rounding.{near, near-mono, key-pos}
 use Rattle.numbers.proofs.Operations.{mul-key, mul-real, div-key}
 use Rattle.numbers.proofs.Bounds.{near-whole, within-finite}
 use Rattle.numbers.proofs.RoundDown.{floor-is, floor-lt}
@@ -250,7 +250,7 @@ module _ {r xl xh : Float} (R : UpFrom milli 10000 r) (L : Bounded 2000000 xl) (
         z e d r l h u a b c f = omega arith
 
     exact-few : exact ≤ 4010001 * u
-    exact-few = elim (order (k xh) (k xl)) [
+    exact-few = elim (below-or-not (k xh) (k xl)) [
       | inl p ↦ z exact (4010001 * u) (reversed-exact p)
       | inr p ↦ w exact (k xl) (k xh) u (exact-near p) (H .bound .atMost) (L .bound .atLeast)
     ]
@@ -277,7 +277,7 @@ module _ {r xl xh : Float} (R : UpFrom milli 10000 r) (L : Bounded 2000000 xl) (
         W = record { atLeast = y (k product) (4010002 * u) product-from; atMost = z (k product) exact u product-close exact-few }
 
     sum-upto : k xl + k product ≤ o + (o + 3000000 * u)
-    sum-upto = elim (order (k xh) (k xl)) [
+    sum-upto = elim (below-or-not (k xh) (k xl)) [
       | inl p ↦ z (k xl) (k product) exact u product-close (reversed-exact p) (L .bound .atMost)
       | inr p ↦ w (k xl) (k product) exact (k xh) u product-close (exact-near p) (H .bound .atMost)
     ]

@@ -1,47 +1,34 @@
 -- What refusal 31's tests say of bounds and of the resolution. Assumes nothing.
 use Prim.Native.Nat.{ℕ, _+_, _-_, _*_, _≤_, _<_}
 use native.Mathlib.Omega.{arith}
-use mathlib.Core.Path.{_≡_, refl, ap, subst, _∙_}
+use mathlib.Core.Path.{_≡_, ap, subst, _∙_}
 use mathlib.Core.Logic.{_⊎_, inl, inr}
 use mathlib.Core.Bool.{true, false}
 use lib.Dec.{T, lit≤, lit<}
-use lib.Ieee.{Float, binary64, fits, le, neg, ofInt, div}
-use lib.Ieee.Exact.{HasValue}
+use lib.Ieee.{Float, binary64, fits, le, neg}
 use lib.Ieee.Scale.{finite}
 use Rattle.numbers.specs.Numbers.{fromInt}
-use Rattle.numbers.proofs.Truth.{holds}
+use Rattle.numbers.proofs.Truth.{holds, both-first, both-second}
 use Rattle.numbers.proofs.Keys.{mid, unit, key, mag, le→key}
 use Rattle.numbers.proofs.Operations.{num-or-zero, minus-zero-key}
 use Rattle.numbers.proofs.Bounds.{value-key, within-finite}
 use Rattle.numbers.proofs.RoundDown.{le-real}
-use Rattle.numbers.proofs.Ranges.{tested-within}
-use Rattle.numbers.proofs.Literals.{milli, milli-num}
+use Rattle.numbers.proofs.Literals.{milli, milli-num, milli-thousandth}
 use Rattle.numbers.proofs.Doubles as Doubles
 use Rattle.numbers.proofs.Doubles.{k, o, u, Finite, Number}
 use Rattle.bits.specs.Fields.{resolutionRange}
-use Rattle.bits.proofs.Accepted.{UpFrom, resolution-in}
+use Rattle.bits.proofs.Accepted.{UpFrom, resolution-in, resolution-least, resolution-most}
 use Rattle.strips.specs.declared.Rect.{Rect}
 use Rattle.index.specs.Listing.{Bounded}
 use Rattle.filling.specs.Consistent.{bounded, boundsFit, resolutionFits}
-use Rattle.filling.proofs.Lists.{both-first, both-second}
+use Rattle.filling.proofs.WithinBoundsNumbers.{tested-bounded}
 use Rattle.columns.proofs.Sizes.{BoundedRect, Resolving}
 
 -- ---- "not finite or beyond ±1,000,000"
 
-limit-low : T (fits binary64 (neg (fromInt 1_000_000))) × HasValue (neg (fromInt 1_000_000)) true 1000000 1
-unfolding fits neg ofInt
-limit-low = (tt, (refl, refl))
-
-limit-high : T (fits binary64 (fromInt 1_000_000)) × HasValue (fromInt 1_000_000) false 1000000 1
-unfolding fits ofInt
-limit-high = (tt, (refl, refl))
-
 pub bounded-is : {x : Float} → T (fits binary64 x) → bounded x ≡ true → Bounded 1000000 x
 unfolding bounded
-bounded-is {x} f e =
-    let a = both-second (finite x) _ e in
-    let r = tested-within binary64 1000000 (neg (fromInt 1_000_000)) (fromInt 1_000_000) x (limit-low .0) (limit-high .0) f (limit-low .1) (limit-high .1) (holds (both-first (le (neg (fromInt 1_000_000)) x) _ a)) (holds (both-second (le (neg (fromInt 1_000_000)) x) _ a)) (lit≤ tt) in
-    record { fine = r .0; bound = r .1 }
+bounded-is {x} f e = let a = both-second (finite x) _ e in tested-bounded x f (both-first (le (neg (fromInt 1_000_000)) x) _ a) (both-second (le (neg (fromInt 1_000_000)) x) _ a)
 
 -- the four doubles of a rectangle
 pub record RectFits (b : Rect) : Type 0 where
@@ -64,22 +51,9 @@ bounds-are {b} f e =
 
 -- ---- "a .. resolution .. beyond its range"
 
-least-is : resolutionRange .least ≡ milli
-unfolding ofInt div
-least-is = refl
-
-most-is : T (fits binary64 (fromInt 10_000)) × HasValue (fromInt 10_000) false 10000 1
-unfolding fits ofInt
-most-is = (tt, (refl, refl))
-
 milli-above : o < k milli
 unfolding key mag mid unit
 milli-above = lit< tt
-
--- 0.001 as a double is above the thousandth
-milli-thousandth : u ≤ 1000 * (k milli - o)
-unfolding key mag mid unit
-milli-thousandth = lit≤ tt
 
 pub resolution-is : {r : Float} → T (fits binary64 r) → resolutionFits r ≡ true → UpFrom milli 10000 r
 unfolding resolutionFits
@@ -92,10 +66,10 @@ resolution-is {r} f e = resolution-in (record { num = num (num-or-zero binary64 
     high = holds (both-second (le (resolutionRange .least) r) _ e)
 
     from : k milli ≤ k r
-    from = le→key binary64 milli r (milli-num .fit) f (subst (λ (x : Float). T (le x r)) least-is low)
+    from = le→key binary64 milli r (milli-num .fit) f (subst (λ (x : Float). T (le x r)) resolution-least low)
 
     upto : k r ≤ o + 10000 * u
-    upto = subst (λ (n : ℕ). k r ≤ n) (value-key binary64 (fromInt 10_000) false 10000 (most-is .0) (most-is .1)) (le→key binary64 r (fromInt 10_000) f (most-is .0) high)
+    upto = subst (λ (n : ℕ). k r ≤ n) (value-key binary64 (fromInt 10_000) false 10000 (resolution-most .0) (resolution-most .1)) (le→key binary64 r (fromInt 10_000) f (resolution-most .0) high)
 
     F : Finite r
     F = record { fit = f; isFinite = within-finite binary64 r 10000 f (le-real (resolutionRange .least) r low) (lit≤ tt) (record { atLeast = z (k milli) (k r) (10000 * u) milli-above from; atMost = upto }) }

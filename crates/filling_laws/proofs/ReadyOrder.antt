@@ -3,13 +3,13 @@ use Prim.Native.Nat.{ℕ, zero, suc, _+_, _-_, _*_, _<_, _≤_}
 use native.Mathlib.Omega.{arith}
 use mathlib.Core.Path.{_≡_, refl, sym, ap, subst, _∙_}
 use mathlib.Core.Logic.{_⊎_, inl, inr}
-use mathlib.Core.Bool.{true, false}
+use mathlib.Core.Bool.{true}
 use mathlib.Core.List.{List, [], _∷_, map}
 use lib.ListN.{length, getD, drop, drop-of-length-le}
 use lib.Seq.{getD-take, drop-cons}
 use lib.Dec.{eqb, eqb→eq}
-use Rattle.numbers.proofs.Truth.{holds, either}
-use Rattle.numbers.proofs.Rounding.{order}
+use borrow.Author.Tests.{ne-eqb}
+use Rattle.numbers.proofs.Truth.{holds, either, below-or-not, both-first, both-second}
 use Rattle.kinds.specs.Kinds.{Kind, copiesOf}
 use Rattle.kinds.proofs.Accepted.{Every, GoodKind}
 use Rattle.job.specs.Jobs.{Job}
@@ -18,9 +18,10 @@ use Rattle.filling.specs.declared.State.{State}
 use Rattle.filling.specs.Rooms.{Rooms}
 use Rattle.filling.specs.Order.{countIn, inFull, rearranged}
 use Rattle.filling.specs.State.{orientationCounts, orderOf}
-use Rattle.filling.proofs.Lists.{both-first, both-second}
 use Rattle.filling.proofs.Begin.{rearranged-length}
 use Rattle.filling.specs.Consistent.{consistent}
+use Rattle.filling.proofs.CountIn.{count-other, count-same}
+use Rattle.filling.proofs.Reading.{kinds-many}
 use Rattle.filling_laws.proofs.Ready.{tests-of}
 
 -- how many of a list are one of the n kinds from k on
@@ -28,21 +29,10 @@ abbrev inside : ℕ → ℕ → List ℕ → ℕ
 inside k zero l = 0
 inside k (suc n) l = countIn k l + inside (suc k) n l
 
-count-yes : (k x : ℕ) (l : List ℕ) → eqb k x ≡ true → countIn k (x ∷ l) ≡ suc (countIn k l)
-unfolding countIn
-count-yes k x l e = rw (e, countIn)
-
-count-no : (k x : ℕ) (l : List ℕ) → eqb k x ≡ false → countIn k (x ∷ l) ≡ countIn k l
-unfolding countIn
-count-no k x l e = rw (e, countIn)
-
-apart : (k x : ℕ) → (k ≡ x → ⊥) → eqb k x ≡ false
-apart k x h = elim (either (eqb k x)) [ inl e ↦ absurd (h (eqb→eq k x (holds e))) | inr e ↦ e ]
-
 -- one that is none of them
 inside-other : (k n x : ℕ) (l : List ℕ) → (x < k) ⊎ (k + n ≤ x) → inside k n (x ∷ l) ≡ inside k n l
 inside-other k zero x l h = refl
-inside-other k (suc n) x l h = rw (count-no k x l (apart k x (no h)), inside-other (suc k) n x l (on h))
+inside-other k (suc n) x l h = rw (count-other k x l (ne-eqb k x (no h)), inside-other (suc k) n x l (on h))
   where
     no : (x < k) ⊎ (k + suc n ≤ x) → k ≡ x → ⊥
     no (inl h) e = omega arith
@@ -55,8 +45,8 @@ inside-other k (suc n) x l h = rw (count-no k x l (apart k x (no h)), inside-oth
 inside-more : (k n x : ℕ) (l : List ℕ) → inside k n (x ∷ l) ≤ suc (inside k n l)
 inside-more k zero x l = omega arith
 inside-more k (suc n) x l = elim (either (eqb k x)) [
-  | inl e ↦ let s = eqb→eq k x (holds e) in let a = count-yes k x l e in let b = inside-other (suc k) n x l (inl (omega arith)) in omega arith
-  | inr e ↦ let a = count-no k x l e in let b = inside-more (suc k) n x l in omega arith
+  | inl e ↦ let s = eqb→eq k x (holds e) in let a = count-same k x l e in let b = inside-other (suc k) n x l (inl (omega arith)) in omega arith
+  | inr e ↦ let a = count-other k x l e in let b = inside-more (suc k) n x l in omega arith
 ]
 
 inside-none : (k n : ℕ) → inside k n [] ≡ 0
@@ -85,7 +75,7 @@ full-inside k (a ∷ ks) l e =
 -- every place of a rearrangement of the job's copies holds a kind of the job
 pub kind-in : (j : Job) (l : List ℕ) → j .copies ≡ copiesOf (j .kinds) → rearranged j l ≡ true → (i : ℕ) → i < length l → getD l i 0 < length (j .kinds)
 unfolding rearranged
-kind-in j l t e i h = elim (order (getD l i 0) (length (j .kinds))) [
+kind-in j l t e i h = elim (below-or-not (getD l i 0) (length (j .kinds))) [
   | inl g ↦ g
   | inr g ↦ absurd (no (length l) (j .copies) (copiesOf (j .kinds)) (inside 0 (length (j .kinds)) l) (eqb→eq (length l) (j .copies) (holds (both-first (eqb (length l) (j .copies)) _ e))) t (full-inside 0 (j .kinds) l (both-second (eqb (length l) (j .copies)) _ e)) (inside-less (length (j .kinds)) l i h g))
 ]
@@ -94,14 +84,6 @@ kind-in j l t e i h = elim (order (getD l i 0) (length (j .kinds))) [
     no a b c d e f g h = omega arith
 
 -- ---- the next copy
-map-length : {A B : Type 0} (f : A → B) (l : List A) → length (map f l) ≡ length l
-map-length f [] = refl
-map-length f (a ∷ l) = ap suc (map-length f l)
-
-pub kinds-many : (j : Job) → length (orientationCounts j) ≡ length (j .kinds)
-unfolding orientationCounts
-kinds-many j = map-length (λ k. length (k .orientations)) (j .kinds)
-
 pub most-turns : (ks : List Kind) → Every GoodKind ks → (k : ℕ) → getD (map (λ a. length (a .orientations)) ks) k 0 ≤ 16
 most-turns [] g k = omega arith
 most-turns (a ∷ ks) g zero = g .0 .orientationsMost

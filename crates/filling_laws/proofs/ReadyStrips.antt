@@ -8,6 +8,8 @@ use mathlib.Core.List.{List, [], _∷_, map}
 use lib.ListN.{length, getD, take, drop}
 use lib.Dec.{T, leb}
 use lib.Ieee.{Float, nan, binary64, fits, lt}
+use Rattle.numbers.proofs.Patterns.{nan-fits}
+use Rattle.numbers.proofs.Truth.{both-first, both-second}
 use Rattle.trapezoid.specs.declared.Trapezoid.{Trapezoid}
 use Rattle.trapezoid.specs.Strip.{stripAt, capacity, partOf}
 use Rattle.index.specs.Buckets.{upFrom}
@@ -16,16 +18,11 @@ use Rattle.filling.specs.Shapes.{Shape, Planner}
 use Rattle.filling.specs.Search.{Track, lastOf}
 use Rattle.filling.specs.State.{slotRows}
 use Rattle.filling.specs.Consistent.{every, bounded, stripFits, stripsFit, trackFits, tracksFit, trackTableFits}
-use Rattle.filling.proofs.Lists.{both-first, both-second}
 use Rattle.filling_laws.proofs.ReadyNumbers.{bounded-is}
 
 -- ---- every number of a list is a double: so is every list of doubles in code
 abbrev pub AllFit : List Float → Type 0
 AllFit l = (i : ℕ) → T (fits binary64 (getD l i nan))
-
-nan-fits : T (fits binary64 nan)
-unfolding fits
-nan-fits = tt
 
 none-fit : AllFit []
 none-fit i = nan-fits

@@ -12,6 +12,7 @@ use lib.ListN.{length, getD, set, length-set}
 use lib.Seq.{sets, getD-set-other}
 use lib.Ieee.{Float}
 use Rattle.numbers.specs.Numbers.{_⊕_}
+use Rattle.numbers.proofs.Truth.{either}
 use Rattle.index.specs.Buckets.{upFrom}
 use Rattle.filling.specs.Columns.{columnAt}
 use Rattle.filling.specs.Shapes.{Planner, Shape}
@@ -30,12 +31,9 @@ use Rattle.search.specs.Searching.{Tracked, tracked, searchOf}
 use Rattle.choose.specs.declared.Choice.{Choice}
 use Rattle.choose.specs.declared.Winner.{Winner}
 use Rattle.choose.specs.declared.Winner.the-variants.{At, Nowhere, Overflow}
-use Rattle.choose.specs.Choosing.{boundsAt, partAt, insetPart, apartPart, winnerOf, winsOf, firstOf, againstOf, betterOf, World, world, columnsAt, looksAt, Chosen, chosen, won, orientationOf, bettered, chooseFrom}
+use Rattle.choose.specs.Choosing.{boundsAt, partAt, insetPart, apartPart, winnerOf, winsOf, againstOf, betterOf, World, world, columnsAt, looksAt, Chosen, chosen, won, orientationOf, bettered, chooseFrom}
+use Rattle.choose.proofs.Turns.{first-true, first-false}
 use Rattle.filling_laws.proofs.SameSearch.{foundOf, countFor, foundFor, looksFor, TrackedFor, same-over, same-fine}
-
-dich : (b : Bool) → (b ≡ true) ⊎ (b ≡ false)
-dich true = inl refl
-dich false = inr refl
 
 -- ---- the winner
 abbrev pub choiceIn : Definition.Choice → Choice
@@ -60,7 +58,7 @@ best-none a = refl
 -- one more at the end wins only over the best before it
 snoc-yes : (a d : Definition.Choice) (as′ : List Definition.Choice) → Definition.wins d (best a as′) ≡ true → best a (as′ ++ d ∷ []) ≡ d
 snoc-yes a d [] h = best-yes a d [] (ap (Definition.wins d) (sym (best-none a)) ∙ h) ∙ best-none d
-snoc-yes a d (b ∷ bs) h = go (dich (Definition.wins b a)) (snoc-yes a d bs) (snoc-yes b d bs)
+snoc-yes a d (b ∷ bs) h = go (either (Definition.wins b a)) (snoc-yes a d bs) (snoc-yes b d bs)
   where
     go : (Definition.wins b a ≡ true) ⊎ (Definition.wins b a ≡ false) → (Definition.wins d (best a bs) ≡ true → best a (bs ++ d ∷ []) ≡ d) → (Definition.wins d (best b bs) ≡ true → best b (bs ++ d ∷ []) ≡ d) → best a (b ∷ bs ++ d ∷ []) ≡ d
     go (inl e) f g = best-yes a b (bs ++ d ∷ []) e ∙ g (ap (Definition.wins d) (sym (best-yes a b bs e)) ∙ h)
@@ -68,7 +66,7 @@ snoc-yes a d (b ∷ bs) h = go (dich (Definition.wins b a)) (snoc-yes a d bs) (s
 
 snoc-no : (a d : Definition.Choice) (as′ : List Definition.Choice) → Definition.wins d (best a as′) ≡ false → best a (as′ ++ d ∷ []) ≡ best a as′
 snoc-no a d [] h = best-no a d [] (ap (Definition.wins d) (sym (best-none a)) ∙ h)
-snoc-no a d (b ∷ bs) h = go (dich (Definition.wins b a)) (snoc-no a d bs) (snoc-no b d bs)
+snoc-no a d (b ∷ bs) h = go (either (Definition.wins b a)) (snoc-no a d bs) (snoc-no b d bs)
   where
     go : (Definition.wins b a ≡ true) ⊎ (Definition.wins b a ≡ false) → (Definition.wins d (best a bs) ≡ false → best a (bs ++ d ∷ []) ≡ best a bs) → (Definition.wins d (best b bs) ≡ false → best b (bs ++ d ∷ []) ≡ best b bs) → best a (b ∷ bs ++ d ∷ []) ≡ best a (b ∷ bs)
     go (inl e) f g = best-yes a b (bs ++ d ∷ []) e ∙ (g (ap (Definition.wins d) (sym (best-yes a b bs e)) ∙ h) ∙ sym (best-yes a b bs e))
@@ -78,21 +76,13 @@ wins-same : (a b : Definition.Choice) → winsOf (choiceIn a) (choiceIn b) ≡ D
 unfolding winsOf Definition.wins
 wins-same a b = refl
 
-first-yes : (a b : Choice) → winsOf b a ≡ true → firstOf a b ≡ At b
-unfolding firstOf
-first-yes a b e = rw (e, firstOf)
-
-first-no : (a b : Choice) → winsOf b a ≡ false → firstOf a b ≡ At a
-unfolding firstOf
-first-no a b e = rw (e, firstOf)
-
 better-one : (cs : List Definition.Choice) (d : Definition.Choice) → betterOf (bestOf cs) (At (choiceIn d)) ≡ bestOf (cs ++ d ∷ [])
 better-one [] d = ap (λ (z : Definition.Choice). At (choiceIn z)) (sym (best-none d))
-better-one (a ∷ as′) d = go (dich (Definition.wins d (best a as′)))
+better-one (a ∷ as′) d = go (either (Definition.wins d (best a as′)))
   where
     go : (Definition.wins d (best a as′) ≡ true) ⊎ (Definition.wins d (best a as′) ≡ false) → betterOf (bestOf (a ∷ as′)) (At (choiceIn d)) ≡ bestOf (a ∷ as′ ++ d ∷ [])
-    go (inl e) = first-yes (choiceIn (best a as′)) (choiceIn d) (wins-same d (best a as′) ∙ e) ∙ ap (λ (z : Definition.Choice). At (choiceIn z)) (sym (snoc-yes a d as′ e))
-    go (inr e) = first-no (choiceIn (best a as′)) (choiceIn d) (wins-same d (best a as′) ∙ e) ∙ ap (λ (z : Definition.Choice). At (choiceIn z)) (sym (snoc-no a d as′ e))
+    go (inl e) = first-true (choiceIn (best a as′)) (choiceIn d) (wins-same d (best a as′) ∙ e) ∙ ap (λ (z : Definition.Choice). At (choiceIn z)) (sym (snoc-yes a d as′ e))
+    go (inr e) = first-false (choiceIn (best a as′)) (choiceIn d) (wins-same d (best a as′) ∙ e) ∙ ap (λ (z : Definition.Choice). At (choiceIn z)) (sym (snoc-no a d as′ e))
 
 better-nowhere : (cs : List Definition.Choice) → betterOf (bestOf cs) Nowhere ≡ bestOf (cs ++ [])
 better-nowhere [] = refl
@@ -256,7 +246,7 @@ module _ (p : Planner) (standing : List Float) (capacity : ℕ) (inset-bounds : 
   pub choose-over : (n o : ℕ) (cs : List Definition.Choice) (counts next : List ℕ) → slot + o + n ≤ length counts → aboveFrom counts next n o ≡ true → chooseFrom worldOf slot n o (chosen (bestOf cs) counts next) .winner ≡ Overflow
   choose-over zero o cs counts next b h = absurd (true≢false (sym h ∙ none-zero counts next o))
   choose-over (suc n) o cs counts next b h =
-      go (dich (anyAbove capacity (made o counts next)))
+      go (either (anyAbove capacity (made o counts next)))
       (λ e. choose-over n (suc o) (cs ++ choiceOf p o (shapeIn (slot + o)) (found o counts next)) (set counts (slot + o) (count o counts next)) (set next (slot + o) (number o counts next))
       (let l = length-set counts (slot + o) (count o counts next) in omega arith)
       (ap (λ (z : List Track). anyAbove capacity (intervalCounts p standing (shapesFrom n (suc o)) z (searchAll p standing (shapesFrom n (suc o)) z))) (tracks-same counts next o (count o counts next) (number o counts next) n (suc o) (omega arith))

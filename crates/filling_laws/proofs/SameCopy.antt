@@ -12,6 +12,7 @@ use lib.Seq.{sets}
 use lib.Dec.{ltb}
 use lib.Ieee.{Float}
 use Rattle.numbers.specs.Numbers.{_⊕_, larger, posZero}
+use Rattle.numbers.proofs.Truth.{either}
 use Rattle.trapezoid.specs.Strip.{capacity}
 use Rattle.index.specs.declared.Index.{Index}
 use Rattle.index.specs.Buckets.{upFrom, entriesOf, standingCapacity}
@@ -31,6 +32,7 @@ use Rattle.filling.specs.State.{rememberedNumber}
 use Rattle.filling.specs.Consistent.{sheetIndex, entriesFor}
 use Rattle.filling.specs.NextCopy as Next
 use Rattle.filling.specs.NextCopy.{anyAbove, intervalCounts, newStrips, storeVerdict, winnerVerdict, copyVerdict, entered, stateWith, layoutAfter, stateAfter, stored, roomsAfter, noStep, placeFound, placeCopy}
+use Rattle.filling.proofs.Steps.{refuse-yes, refuse-no}
 use Rattle.choose.specs.declared.Choice.{Choice}
 use Rattle.choose.specs.declared.Winner.{Winner}
 use Rattle.choose.specs.declared.Winner.the-variants as Winners
@@ -46,10 +48,6 @@ use Rattle.place.specs.declared.Step.{Step}
 use Rattle.place.specs.Placing.{totalsOf, step, afterOf, withoutOf, PutLeft, put, putLeft, putOf, settleOf, Among, Placed, placeWith, placeOf, numberOf, xOf, yOf}
 use Rattle.place.proofs.Putting.{chosen-among}
 use Rattle.filling_laws.proofs.SameChoice.{choiceIn, bestOf, worldOf, shapeIn, shapesFrom, tracksFrom, foundsFrom, trackedFrom, aboveFrom, choose-over, choose-fine}
-
-dich : (b : Bool) → (b ≡ true) ⊎ (b ≡ false)
-dich true = inl refl
-dich false = inr refl
 
 -- ---- the definition's step, from what the code leaves
 
@@ -86,14 +84,6 @@ getD-shapes f zero c i h = absurd (no h)
     no h = omega arith
 getD-shapes f (suc n) c zero h = let e : c + 0 ≡ c = omega arith in rw e
 getD-shapes f (suc n) c (suc i) h = let e : suc c + i ≡ c + suc i = omega arith in getD-shapes f n (suc c) i (omega arith) ∙ ap f e
-
-refuse-yes : (t : Bool) (r : Refusal) (v : Verdict) → t ≡ true → refuseIf t r v ≡ Verdicts.Refused r
-unfolding refuseIf
-refuse-yes t r v e = rw (e, refuseIf)
-
-refuse-no : (t : Bool) (r : Refusal) (v : Verdict) → t ≡ false → refuseIf t r v ≡ v
-unfolding refuseIf
-refuse-no t r v e = rw (e, refuseIf)
 
 module _ (p : Planner) (k : ℕ) (s : State) (w : Rooms) (intervals : List Float) (inset-bounds : List Float) (parts : List ℕ) (apart inset : List Float) (n : ℕ) (starts : List ℕ)
     (room : 6 * s .«placed_strips» ≤ length (w .placed)) (slots : 16 * k + n ≤ length (s .«look_counts»)) where
@@ -373,11 +363,11 @@ module _ (p : Planner) (k : ℕ) (s : State) (w : Rooms) (intervals : List Float
 
       by-choices : (l : List Definition.Choice) → cs ≡ l → stepFrom s w intervals codeOf ≡ placeCopy p standing ts k s w intervals
       by-choices [] e = same-nowhere e
-      by-choices (a ∷ as′) e = same-at a as′ e (dich (few (best a as′) (inside-is a as′ e))) (dich (tight (best a as′) (inside-is a as′ e)))
+      by-choices (a ∷ as′) e = same-at a as′ e (either (few (best a as′) (inside-is a as′ e))) (either (tight (best a as′) (inside-is a as′ e)))
 
     -- the definition's step is what the code leaves
     pub same-step : stepFrom s w intervals codeOf ≡ placeCopy p standing ts k s w intervals
-    same-step = go (dich (anyAbove room-of (intervalCounts p standing ss ts (searchAll p standing ss ts))))
+    same-step = go (either (anyAbove room-of (intervalCounts p standing ss ts (searchAll p standing ss ts))))
       where
         go : (anyAbove room-of (intervalCounts p standing ss ts (searchAll p standing ss ts)) ≡ true) ⊎ (anyAbove room-of (intervalCounts p standing ss ts (searchAll p standing ss ts)) ≡ false) → stepFrom s w intervals codeOf ≡ placeCopy p standing ts k s w intervals
         go (inl h) = same-over h

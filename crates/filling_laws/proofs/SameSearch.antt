@@ -6,12 +6,13 @@ use native.Mathlib.Omega.{arith}
 use native.Mathlib.Numerals.{add-one}
 use mathlib.Core.Path.{_≡_, refl, sym, ap, _∙_, subst}
 use mathlib.Core.Logic.{_⊎_, inl, inr}
-use mathlib.Core.Bool.{Bool, true, false, _||_, true≢false}
+use mathlib.Core.Bool.{true, false, _||_, true≢false}
 use mathlib.Core.List.{List, [], _∷_, map}
 use lib.ListN.{length, getD, set, length-set}
 use lib.Seq.{getD-set-same, set-set, set-getD}
 use lib.Dec.{ltb}
 use lib.Ieee.{Float}
+use Rattle.numbers.proofs.Truth.{either}
 use Rattle.index.specs.declared.Interval.{Interval}
 use Rattle.index.specs.Buckets.{upFrom}
 use Rattle.height.specs.declared.Look.{Look}
@@ -25,6 +26,8 @@ use Rattle.filling.specs.Search as Filling
 use Rattle.filling.specs.Search.{rangesOf, reversedFor, intervalsAt, lookAt, firstFree, Remembered, column, none, remembered, columnsFrom}
 use Rattle.filling.specs.State.{rememberedOf, rememberedNumber}
 use Rattle.filling.specs.NextCopy.{anyAbove}
+use Rattle.filling.proofs.Demand3.{looks-open}
+use Rattle.filling.proofs.FirstFree.{first-free, first-full}
 use Rattle.columns.specs.declared.Columns.{Columns}
 use Rattle.columns.specs.Stands.{columnsOf, reversedOf, regularOf, xOf, lastOf, startFrom, startOf}
 use Rattle.columns.proofs.Steps.{start-reversed, start-none, start-at}
@@ -33,10 +36,6 @@ use Rattle.search.specs.declared.Found.{Found}
 use Rattle.search.specs.declared.Found.the-variants.{At, Nowhere, Overflow}
 use Rattle.search.specs.Searching.{answerAt, Looked, looked, counted, searchFrom, nextOf, Tracked, tracked, remembering, searchOf}
 use Rattle.search.proofs.Turns.{search-end, search-overflow, search-free, search-full}
-
-dich : (b : Bool) → (b ≡ true) ⊎ (b ≡ false)
-dich true = inl refl
-dich false = inr refl
 
 -- what the definition finds, as the code says it
 abbrev pub foundOf : Filling.Found → Found
@@ -49,14 +48,6 @@ looksTo look zero c = []
 looksTo look (suc n) c = c ∷ elim (look c) [ Free y ↦ [] | Full ↦ looksTo look n (suc c) ]
 
 module _ (look : ℕ → Look) where
-  first-free : (n c : ℕ) (y : Float) → look c ≡ Free y → firstFree look (suc n) c ≡ Filling.at c y
-  unfolding firstFree
-  first-free n c y e = rw (e, firstFree)
-
-  first-full : (n c : ℕ) → look c ≡ Full → firstFree look (suc n) c ≡ firstFree look n (suc c)
-  unfolding firstFree
-  first-full n c e = rw (e, firstFree)
-
   looks-free : (n c : ℕ) (y : Float) → look c ≡ Free y → looksTo look (suc n) c ≡ c ∷ []
   unfolding looksTo
   looks-free n c y e = rw (e, looksTo)
@@ -82,8 +73,8 @@ module _ (look : ℕ → Look) where
       same d = omega arith
 
       go : (l : Look) → look c ≡ l → From (suc c) (firstFree look n (suc c)) → From c (firstFree look (suc n) c)
-      go (Free y) e h = subst (From c) (sym (first-free n c y e)) (same c)
-      go Full e h = subst (From c) (sym (first-full n c e)) (from-more c (firstFree look n (suc c)) h)
+      go (Free y) e h = subst (From c) (sym (first-free look n c y e)) (same c)
+      go Full e h = subst (From c) (sym (first-full look n c e)) (from-more c (firstFree look n (suc c)) h)
 
   columns-cons : (c last : ℕ) (f : Filling.Found) → c ≤ last → From (suc c) f → columnsFrom c last f ≡ c ∷ columnsFrom (suc c) last f
   unfolding columnsFrom upFrom
@@ -107,8 +98,8 @@ module _ (look : ℕ → Look) where
       inside = omega (arith, h)
 
       go : (l : Look) → look c ≡ l → columnsFrom (suc c) last (firstFree look n (suc c)) ≡ looksTo look n (suc c) → From (suc c) (firstFree look n (suc c)) → columnsFrom c last (firstFree look (suc n) c) ≡ looksTo look (suc n) c
-      go (Free y) e b g = ap (columnsFrom c last) (first-free n c y e) ∙ (columns-one c last y ∙ sym (looks-free n c y e))
-      go Full e b g = ap (columnsFrom c last) (first-full n c e) ∙ (columns-cons c last (firstFree look n (suc c)) inside g ∙ (ap (λ (z : List ℕ). c ∷ z) b ∙ sym (looks-full n c e)))
+      go (Free y) e b g = ap (columnsFrom c last) (first-free look n c y e) ∙ (columns-one c last y ∙ sym (looks-free n c y e))
+      go Full e b g = ap (columnsFrom c last) (first-full look n c e) ∙ (columns-cons c last (firstFree look n (suc c)) inside g ∙ (ap (λ (z : List ℕ). c ∷ z) b ∙ sym (looks-full n c e)))
 
 -- ---- the n columns from c on
 module _ (f : ℕ → Answer) (look : ℕ → Look) (capacity : ℕ) (count : ℕ → ℕ)
@@ -138,7 +129,7 @@ module _ (f : ℕ → Answer) (look : ℕ → Look) (capacity : ℕ) (count : �
   -- 22 where a look of the definition's list lacks room
   pub over-found : (n c : ℕ) (counts : List ℕ) → anyAbove capacity (map count (looksTo look n c)) ≡ true → searchFrom f slot n c counts .found ≡ Overflow
   over-found zero c counts h = absurd (true≢false (sym h ∙ above-start c))
-  over-found (suc n) c counts h = go (dich (ltb capacity (count c))) (look c) refl (over-found n (c + 1) (counted slot counts))
+  over-found (suc n) c counts h = go (either (ltb capacity (count c))) (look c) refl (over-found n (c + 1) (counted slot counts))
     where
       go : (ltb capacity (count c) ≡ true) ⊎ (ltb capacity (count c) ≡ false) → (l : Look) → look c ≡ l
           → (anyAbove capacity (map count (looksTo look n (c + 1))) ≡ true → searchFrom f slot n (c + 1) (counted slot counts) .found ≡ Overflow) → searchFrom f slot (suc n) c counts .found ≡ Overflow
@@ -152,7 +143,7 @@ module _ (f : ℕ → Answer) (look : ℕ → Look) (capacity : ℕ) (count : �
   pub fine-found : (n c : ℕ) (counts : List ℕ) → slot < length counts → anyAbove capacity (map count (looksTo look n c)) ≡ false
       → searchFrom f slot n c counts ≡ looked (foundOf (firstFree look n c)) (set counts slot (getD counts slot 0 + length (looksTo look n c)))
   fine-found zero c counts b h = fine-start c counts
-  fine-found (suc n) c counts b h = go (dich (ltb capacity (count c))) (look c) refl (fine-found n (c + 1) (counted slot counts) (subst (λ (z : ℕ). slot < z) (sym (length-set counts slot (getD counts slot 0 + 1))) b))
+  fine-found (suc n) c counts b h = go (either (ltb capacity (count c))) (look c) refl (fine-found n (c + 1) (counted slot counts) (subst (λ (z : ℕ). slot < z) (sym (length-set counts slot (getD counts slot 0 + 1))) b))
     where
       more : (a b m : ℕ) → a ≡ b + 1 → a + m ≡ b + suc m
       more a b m e = omega arith
@@ -236,10 +227,6 @@ module _ (p : Planner) (standing : List Float) (s : Shape) (capacity : ℕ) wher
   looks-reversed none g e = refl
   looks-reversed (column c) g e = rw (e, Filling.looks)
 
-  looks-column : (c : ℕ) (g : Filling.Found) → reversedFor p s ≡ false → Filling.looks p s (column c) g ≡ columnsFrom c (Filling.lastOf p s) g
-  unfolding Filling.looks
-  looks-column c g e = rw (e, Filling.looks)
-
   -- the looks at one orientation, by its number in the table
   abbrev pub foundFor : ℕ → Filling.Found
   foundFor m = Filling.search p standing s (rememberedOf m)
@@ -307,7 +294,7 @@ module _ (p : Planner) (standing : List Float) (s : Shape) (capacity : ℕ) wher
       looks-is : looksFor (suc c) ≡ looksTo lookFor (lastOf columnsFor + 1 - c) c
       unfolding rememberedOf
       looks-is =
-          looks-column c (foundFor (suc c)) r
+          looks-open p standing s c (foundFor (suc c)) r
           ∙ (ap (columnsFrom c (Filling.lastOf p s)) found-is ∙ columns-are lookFor (lastOf columnsFor + 1 - c) c (Filling.lastOf p s) (sym n-is))
 
       live-over : anyAbove capacity (map countFor (looksFor (suc c))) ≡ true → searchOf answersFor columnsFor slot counts next .found ≡ Overflow
@@ -333,7 +320,7 @@ module _ (p : Planner) (standing : List Float) (s : Shape) (capacity : ℕ) wher
     looks-zero = refl
 
     start-zero : getD next slot 0 ≡ 0 → startOf columnsFor (lastOf columnsFor) (getD next slot 0) ≡ lastOf columnsFor + 1
-    start-zero e = go (dich (reversedOf columnsFor))
+    start-zero e = go (either (reversedOf columnsFor))
       where
         go : (reversedOf columnsFor ≡ true) ⊎ (reversedOf columnsFor ≡ false) → startOf columnsFor (lastOf columnsFor) (getD next slot 0) ≡ lastOf columnsFor + 1
         go (inl r) = start-reversed columnsFor (lastOf columnsFor) (getD next slot 0) r
@@ -345,7 +332,7 @@ module _ (p : Planner) (standing : List Float) (s : Shape) (capacity : ℕ) wher
     -- 22: a look that is made lacks room
     pub same-over : (m : ℕ) → getD next slot 0 ≡ m → anyAbove capacity (map countFor (looksFor m)) ≡ true → searchOf answersFor columnsFor slot counts next .found ≡ Overflow
     same-over zero e h = absurd (idle-none 0 looks-zero h)
-    same-over (suc c) e h = go (dich (reversedFor p s))
+    same-over (suc c) e h = go (either (reversedFor p s))
       where
         go : (reversedFor p s ≡ true) ⊎ (reversedFor p s ≡ false) → searchOf answersFor columnsFor slot counts next .found ≡ Overflow
         go (inl r) = absurd (idle-none (suc c) (looks-reversed (rememberedOf (suc c)) (foundFor (suc c)) r) h)
@@ -354,7 +341,7 @@ module _ (p : Planner) (standing : List Float) (s : Shape) (capacity : ℕ) wher
     -- else the definition's search, its look count and what it remembers
     pub same-fine : (m : ℕ) → getD next slot 0 ≡ m → slot < length counts → anyAbove capacity (map countFor (looksFor m)) ≡ false → searchOf answersFor columnsFor slot counts next ≡ TrackedFor m
     same-fine zero e b h = idle 0 (start-zero e) found-zero looks-zero
-    same-fine (suc c) e b h = go (dich (reversedFor p s))
+    same-fine (suc c) e b h = go (either (reversedFor p s))
       where
         go : (reversedFor p s ≡ true) ⊎ (reversedFor p s ≡ false) → searchOf answersFor columnsFor slot counts next ≡ TrackedFor (suc c)
         go (inl r) = idle (suc c) (start-turned r) (search-reversed (rememberedOf (suc c)) r) (looks-reversed (rememberedOf (suc c)) (foundFor (suc c)) r)

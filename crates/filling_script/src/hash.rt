@@ -6,14 +6,6 @@ use filling::Tables;
 use index::Entry;
 use strips::Rect;
 
-// The bits of x; one pattern for every NaN.
-pub fn bits(x: f64) -> u64 {
-    if x == x {
-        return f64::to_bits(x);
-    }
-    0x7ff8_0000_0000_0000
-}
-
 // One more number.
 fn mix(h: u64, w: u64) -> u64 {
     let mut state = h ^ w;
@@ -21,7 +13,7 @@ fn mix(h: u64, w: u64) -> u64 {
 }
 
 fn mix_double(h: u64, x: f64) -> u64 {
-    mix(h, bits(x))
+    mix(h, numbers::bits_of(x))
 }
 
 fn mix_number(h: u64, n: usize) -> u64 {

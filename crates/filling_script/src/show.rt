@@ -22,7 +22,7 @@ fn word(w: u64) {
 }
 
 fn double(x: f64) {
-    word(hash::bits(x));
+    word(numbers::bits_of(x));
 }
 
 pub fn end() {

@@ -7,7 +7,7 @@ use mathlib.Core.Logic.{_⊎_, inl, inr}
 use mathlib.Core.List.{List}
 use lib.ListN.{length, getD, set, length-set}
 use lib.Seq.{getD-set-same, getD-set-other}
-use Rattle.index.proofs.Collecting.{lt-or-ge}
+use Rattle.numbers.proofs.Truth.{below-or-not}
 use Rattle.moves.specs.Moves.{Moved}
 use Rattle.gaps.specs.OpenGaps.{Inserted, Stepped}
 
@@ -65,7 +65,7 @@ pub stepped-start : (lo : ℕ) (st : List ℕ) → Stepped lo st 0 st
 stepped-start lo st = record { size = refl; done = λ c a. (let q : c - lo ≡ 0 = omega arith in let z : getD st c 0 ≡ getD st c 0 + (c - lo) = omega arith in z); todo = λ c a. refl }
 
 pub stepped-step : (lo : ℕ) (st : List ℕ) (d : ℕ) (s : List ℕ) → lo + (d + 1) < length st → Stepped lo st d s → Stepped lo st (d + 1) (set s (lo + (d + 1)) (getD s (lo + (d + 1)) 0 + (d + 1)))
-stepped-step lo st d s w S = record { size = length-set s (lo + (d + 1)) (getD s (lo + (d + 1)) 0 + (d + 1)) ∙ S .size; done = λ c a. done c (lt-or-ge c (lo + (d + 1))) a; todo = λ c a. getD-set-other s (lo + (d + 1)) c (getD s (lo + (d + 1)) 0 + (d + 1)) 0 (λ q. after c a q) ∙ S .todo c (omega arith) }
+stepped-step lo st d s w S = record { size = length-set s (lo + (d + 1)) (getD s (lo + (d + 1)) 0 + (d + 1)) ∙ S .size; done = λ c a. done c (below-or-not c (lo + (d + 1))) a; todo = λ c a. getD-set-other s (lo + (d + 1)) c (getD s (lo + (d + 1)) 0 + (d + 1)) 0 (λ q. after c a q) ∙ S .todo c (omega arith) }
   where
     after : (c : ℕ) → lo + (d + 1) < c → c ≡ lo + (d + 1) → ⊥
     after c a q = omega arith

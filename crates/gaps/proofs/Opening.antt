@@ -7,7 +7,7 @@ use mathlib.Core.Logic.{_⊎_, inl, inr}
 use mathlib.Core.List.{List}
 use lib.ListN.{length, getD, set, length-set}
 use lib.Seq.{getD-set-same, getD-set-other}
-use Rattle.index.proofs.Collecting.{lt-or-ge}
+use Rattle.numbers.proofs.Truth.{below-or-not}
 use Rattle.moves.specs.Moves.{Moved}
 use Rattle.gaps.specs.OpenGaps.{before, Opened, Marked}
 use Rattle.gaps.proofs.Before.{before-rise, before-pos, before-back}
@@ -66,7 +66,7 @@ module _ (top : ℕ) (st g e₀ : List ℕ) (T : top < length st) (R : (b c : �
   opened-end b e s h z O = record { size = O .size; table = O .table; old = λ c a. O .old c (omega arith); new = λ c a l. new c l (split c); above = O .above; moved = λ c a l. moved c l (split c); kept = λ j a. O .kept j (let t = R 0 b (omega arith) (omega arith) in omega arith); rest = O .rest }
     where
       split : (c : ℕ) → (c < b) ⊎ (b ≤ c)
-      split c = lt-or-ge c b
+      split c = below-or-not c b
 
       none : (c : ℕ) → c < b → before g c ≡ 0
       none c a = let t = before-rise g c b (omega arith) in omega arith

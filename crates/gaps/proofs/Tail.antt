@@ -5,8 +5,8 @@ use mathlib.Core.Path.{_≡_, sym, ap, _∙_, subst}
 use mathlib.Core.Logic.{_⊎_, inl, inr}
 use mathlib.Core.List.{List}
 use lib.ListN.{length, getD}
+use Rattle.numbers.proofs.Truth.{below-or-not}
 use Rattle.index.specs.Buckets.{buckets}
-use Rattle.index.proofs.Collecting.{lt-or-ge}
 use Rattle.moves.specs.Moves.{Moved, Shifted}
 use Rattle.gaps.specs.OpenGaps.{before, Opened}
 use Rattle.gaps.proofs.Before.{before-next}
@@ -43,7 +43,7 @@ module _ (end more : ℕ) (st g e₀ e₁ s₁ : List ℕ) (R : (b c : ℕ) → 
   tail-fits f = let x = same end (native.Mathlib.Nat.le-refl end) in let w = R end buckets h (omega arith) in let q = M .size in omega arith
 
   pub opened-tail : (e s : List ℕ) → Opened end s₁ g e₁ 0 e s → Opened buckets st g e₀ 0 e s
-  opened-tail e s O = record { size = O .size ∙ M .size; table = O .table ∙ S .size; old = λ c a. O .old c a ∙ same c (omega arith); new = λ c a l. new c l (lt-or-ge c end); above = λ c a. O .above c (omega arith) ∙ out c a; moved = λ c a l. moved c l (lt-or-ge c end); kept = kept; rest = rest }
+  opened-tail e s O = record { size = O .size ∙ M .size; table = O .table ∙ S .size; old = λ c a. O .old c a ∙ same c (omega arith); new = λ c a l. new c l (below-or-not c end); above = λ c a. O .above c (omega arith) ∙ out c a; moved = λ c a l. moved c l (below-or-not c end); kept = kept; rest = rest }
     where
       out : (c : ℕ) → buckets < c → getD s₁ c 0 ≡ getD st c 0
       out c a = S .todo c (omega arith)

@@ -11,14 +11,14 @@ use Rattle.numbers.specs.Numbers.{plusZero}
 use Rattle.numbers.proofs.Keys as Keys
 use Rattle.numbers.proofs.Doubles.{k, o, Finite, finite}
 use Rattle.numbers.proofs.Patterns.{plus-number}
+use Rattle.numbers.proofs.Truth.{either, clash, below-or-not}
 use Rattle.index.specs.declared.Interval.{Interval}
 use Rattle.index.specs.Buckets.{upFrom}
 use Rattle.index.specs.Listing.{intervalAt}
-use Rattle.index.proofs.Steps.{dich}
 use Rattle.height.specs.declared.Look.the-variants.{Free, Full}
 use Rattle.height.specs.Smallest.{inside, outside, heightOf}
 use Rattle.height.specs.Raising.{lift, raised, fromLast, FiniteEnd, FiniteEnds}
-use Rattle.height.proofs.SmallestHeight.{clash, Real, real-of, lt-is-true, lt-is-false, le-is-true, le-is-false, inside-key, key-inside, outside-of, of-outside, same-outside, free-height, full-height}
+use Rattle.height.proofs.SmallestHeight.{Real, real-of, lt-is-true, lt-is-false, le-is-true, le-is-false, inside-key, key-inside, outside-of, of-outside, same-outside, free-height, full-height, real-end}
 
 -- ---- one interval
 lift-true : (y : Float) (i : Interval) → inside y i ≡ true → lift y i ≡ i .to
@@ -52,17 +52,17 @@ reached-start yl is L = record { fine = L; from = native.Mathlib.Nat.le-refl (k 
 
 module _ (yl : Float) (is : List Interval) (F : FiniteEnds is) where
   lift-reach : (y : Float) (i : Interval) → List·Memᴰ i is → Reached yl is y → Reached yl is (lift y i) × (k y ≤ k (lift y i))
-  lift-reach y i m R = go (dich (inside y i))
+  lift-reach y i m R = go (either (inside y i))
     where
       up : (k (i .from) < k y) × (k y < k (i .to)) → Reached yl is (i .to) × (k y ≤ k (i .to))
-      up t = (record { fine = F i m .to; from = (let a = R .from in omega (arith, t .1)); first = λ z Z h o. above z Z o (R .first z Z h o) (Rattle.height.proofs.SmallestHeight.lt-or-ge (k z) (k (i .to))) }, omega (arith, t .1))
+      up t = (record { fine = F i m .to; from = (let a = R .from in omega (arith, t .1)); first = λ z Z h o. above z Z o (R .first z Z h o) (below-or-not (k z) (k (i .to))) }, omega (arith, t .1))
         where
           above : (z : Float) → Real z → outside is z ≡ true → k y ≤ k z → (k z < k (i .to)) ⊎ (k (i .to) ≤ k z) → k (i .to) ≤ k z
-          above z Z o h (inl l) = absurd (clash (key-inside Z (F i m) (omega (arith, t .0)) l) (outside-of is z o i m))
+          above z Z o h (inl l) = absurd (clash (key-inside Z (real-end (F i m)) (omega (arith, t .0)) l) (outside-of is z o i m))
           above z Z o h (inr l) = l
 
       go : (inside y i ≡ true) ⊎ (inside y i ≡ false) → Reached yl is (lift y i) × (k y ≤ k (lift y i))
-      go (inl e) = rw (lift-true y i e) (up (inside-key (real-of (R .fine)) (F i m) e))
+      go (inl e) = rw (lift-true y i e) (up (inside-key (real-of (R .fine)) (real-end (F i m)) e))
       go (inr e) = rw (lift-false y i e) (R, native.Mathlib.Nat.le-refl (k y))
 
   pub raised-reach : (js : List Interval) → ((i : Interval) → List·Memᴰ i js → List·Memᴰ i is) → (y : Float) → Reached yl is y → Reached yl is (raised y js) × (k y ≤ k (raised y js))
@@ -77,11 +77,11 @@ module _ (yl : Float) (is : List Interval) (F : FiniteEnds is) where
   pub still : (js : List Interval) → ((i : Interval) → List·Memᴰ i js → List·Memᴰ i is) → (y : Float) → Reached yl is y → k (raised y js) ≤ k y → (i : Interval) → List·Memᴰ i js → inside y i ≡ false
   unfolding raised
   still [] w y R h i m = absurd (List·Memᴰ·not-nil m)
-  still (j ∷ js) w y R h i m = go (dich (inside y j)) (List·Memᴰ·cases-cons m) (λ g. still js (λ a n. w a (List·Memᴰ·tail n)) y R g i)
+  still (j ∷ js) w y R h i m = go (either (inside y j)) (List·Memᴰ·cases-cons m) (λ g. still js (λ a n. w a (List·Memᴰ·tail n)) y R g i)
     where
       no : inside y j ≡ true → ⊥
       no e =
-          let t = inside-key (real-of (R .fine)) (F j (w j (List·Memᴰ·head refl))) e in
+          let t = inside-key (real-of (R .fine)) (real-end (F j (w j (List·Memᴰ·head refl)))) e in
           let l = lift-reach y j (w j (List·Memᴰ·head refl)) R in
           let r = raised-reach js (λ a n. w a (List·Memᴰ·tail n)) (lift y j) (l .0) in
           let q : k (lift y j) ≡ k (j .to) = ap k (lift-true y j e) in

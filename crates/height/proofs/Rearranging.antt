@@ -3,28 +3,22 @@ use Prim.Native.Nat.{ℕ, zero, suc, _+_, _*_, _%_, _≤_, _<_}
 use native.Mathlib.Omega.{arith}
 use mathlib.Core.Path.{_≡_, refl, sym, ap, _∙_, subst}
 use mathlib.Core.Logic.{_⊎_, inl, inr}
-use mathlib.Core.Bool.{Bool, true, false, not}
+use mathlib.Core.Bool.{true, false, not}
 use mathlib.Core.List.{List, [], _∷_, map, List·Memᴰ, List·Memᴰ·head, List·Memᴰ·tail, List·Memᴰ·cases-cons, List·Memᴰ·not-nil}
 use lib.ListN.{length, getD, set, length-set}
 use lib.Seq.{getD-set-same, getD-set-other}
-use lib.Dec.{T, eqb, eqb→eq}
+use lib.Dec.{eqb}
 use lib.Ieee.{Float, nan}
+use borrow.Author.Tests.{eq-eqb, ne-eqb}
 use Rattle.index.specs.declared.Interval.{Interval}
 use Rattle.index.specs.Buckets.{upFrom}
 use Rattle.index.specs.Listing.{intervalAt, intervals}
-use Rattle.index.proofs.Steps.{dich}
 use Rattle.numbers.proofs.Doubles.{k}
+use Rattle.numbers.proofs.Truth.{either, same-or-not, below-or-not}
 use Rattle.height.specs.Smallest.{outside}
 use Rattle.height.specs.Raising.{raised, fromLast, inTurn, swapped, Rearranged, FiniteEnds}
 use Rattle.height.proofs.SmallestHeight.{of-outside}
 use Rattle.height.proofs.Passes.{Reached, raised-reach, still}
-
-same-or-not : (a b : ℕ) → (a ≡ b) ⊎ (a ≡ b → ⊥)
-same-or-not a b = go (eqb a b) (eqb→eq a b) (λ (e : eqb a b ≡ false) (q : a ≡ b). mathlib.Core.Bool.true≢false (sym (Rattle.index.proofs.Steps.eqb-yes a b q) ∙ e)) refl
-  where
-    go : (t : Bool) → (T t → a ≡ b) → (eqb a b ≡ false → a ≡ b → ⊥) → eqb a b ≡ t → (a ≡ b) ⊎ (a ≡ b → ⊥)
-    go true f g e = inl (f tt)
-    go false f g e = inr (g e)
 
 pub rearranged-refl : (n : ℕ) (r : List Float) → Rearranged n r r
 rearranged-refl n r = record { size = refl; to = λ c h. (c, h, refl); back = λ c h. (c, h, refl); rest = λ c h. refl }
@@ -39,7 +33,7 @@ rearranged-trans n r s t A B = record {
 
 -- a rearrangement of fewer
 pub rearranged-more : (m n : ℕ) (r s : List Float) → m ≤ n → Rearranged m r s → Rearranged n r s
-rearranged-more m n r s l A = record { size = A .size; to = λ c h. to c h (Rattle.height.proofs.SmallestHeight.lt-or-ge c m); back = λ c h. back c h (Rattle.height.proofs.SmallestHeight.lt-or-ge c m); rest = λ c h. A .rest c (omega arith) }
+rearranged-more m n r s l A = record { size = A .size; to = λ c h. to c h (below-or-not c m); back = λ c h. back c h (below-or-not c m); rest = λ c h. A .rest c (omega arith) }
   where
     to : (c : ℕ) → c < n → (c < m) ⊎ (m ≤ c) → (j : ℕ) × (j < n) × (intervalAt r c ≡ intervalAt s j)
     to c h (inl g) = let a = A .to c g in (a .0, (let q = a .1 in omega arith), a .2)
@@ -188,15 +182,15 @@ unfolding inTurn
 inTurn-false r n t e = rw (e, inTurn)
 
 pub turn-even : (r : List Float) (n t : ℕ) → t % 2 ≡ 0 → intervals r n ≡ inTurn r n t
-turn-even r n t e = sym (inTurn-true r n t (Rattle.index.proofs.Steps.eqb-yes (t % 2) 0 e))
+turn-even r n t e = sym (inTurn-true r n t (eq-eqb (t % 2) 0 e))
 
 pub turn-odd : (r : List Float) (n t : ℕ) → (t % 2 ≡ 0 → ⊥) → fromLast r n ≡ inTurn r n t
-turn-odd r n t e = sym (inTurn-false r n t (Rattle.index.proofs.Steps.eqb-no (t % 2) 0 e))
+turn-odd r n t e = sym (inTurn-false r n t (ne-eqb (t % 2) 0 e))
 
 -- the passes over a rearranged room run over the intervals that it had
 module _ (n : ℕ) (r s : List Float) (A : Rearranged n r s) (t : ℕ) where
   pub turn-of : (i : Interval) → List·Memᴰ i (inTurn s n t) → List·Memᴰ i (intervals r n)
-  turn-of i m = go (dich (eqb (t % 2) 0))
+  turn-of i m = go (either (eqb (t % 2) 0))
     where
       found : ((d : ℕ) × (d < n) × (i ≡ intervalAt s d)) → List·Memᴰ i (intervals r n)
       found w = let a = A .back (w .0) (w .1) in rw (w .2 ∙ a .2) (mem-intervals r n (a .0) (a .1))
@@ -206,7 +200,7 @@ module _ (n : ℕ) (r s : List Float) (A : Rearranged n r s) (t : ℕ) where
       go (inr e) = found (fromLast-mem s n i (rw (inTurn-false s n t e) at m))
 
   pub of-turn : (i : Interval) → List·Memᴰ i (intervals r n) → List·Memᴰ i (inTurn s n t)
-  of-turn i m = go (dich (eqb (t % 2) 0)) (intervals-mem r n i m)
+  of-turn i m = go (either (eqb (t % 2) 0)) (intervals-mem r n i m)
     where
       go : (eqb (t % 2) 0 ≡ true) ⊎ (eqb (t % 2) 0 ≡ false) → ((d : ℕ) × (d < n) × (i ≡ intervalAt r d)) → List·Memᴰ i (inTurn s n t)
       go (inl e) w = let a = A .to (w .0) (w .1) in rw (w .2 ∙ a .2, inTurn-true s n t e) (mem-intervals s n (a .0) (a .1))

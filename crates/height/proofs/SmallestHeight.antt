@@ -5,32 +5,24 @@ use mathlib.Core.Path.{_≡_, refl, sym, ap, _∙_, subst}
 use mathlib.Core.Logic.{_⊎_, inl, inr}
 use mathlib.Core.Bool.{Bool, true, false, not, _&&_, cond, true≢false}
 use mathlib.Core.List.{List, [], _∷_, map, List·Memᴰ, List·Memᴰ·head, List·Memᴰ·tail, List·Memᴰ·cases-cons, List·Memᴰ·not-nil}
-use lib.Dec.{T, leb, ltb, ltb→lt, nltb→le}
+use lib.Dec.{T, leb}
 use lib.Ieee.{Float, binary64, fits, lt, le}
+use borrow.Author.Tests.{not-true}
 use Rattle.numbers.specs.Numbers.{smaller, plusZero}
 use Rattle.numbers.proofs.Keys as Keys
 use Rattle.numbers.proofs.Keys.{finite-real}
 use Rattle.numbers.proofs.Doubles.{k, Finite, Number, finite, same}
 use Rattle.numbers.proofs.Patterns.{plus-number}
 use Rattle.numbers.proofs.RoundDown.{le-real}
+use Rattle.numbers.proofs.Truth.{either, below-or-not, clash, is-true, fails, both-first, both-second}
 use Rattle.index.specs.declared.Interval.{Interval}
 use Rattle.index.specs.Buckets.{keep}
-use Rattle.index.proofs.Steps.{dich}
 use Rattle.index.proofs.BucketOrder.{smaller-finite}
+use Rattle.index.proofs.Flat.{mem-map, map-mem}
 use Rattle.height.specs.declared.Look.{Look}
 use Rattle.height.specs.declared.Look.the-variants.{Free, Full}
 use Rattle.height.specs.Smallest.{inside, outside, candidates, least, lowest, heightOf}
 use Rattle.height.specs.Raising.{FiniteEnd, FiniteEnds}
-
-pub clash : {b : Bool} → b ≡ true → b ≡ false → ⊥
-clash p q = true≢false (sym p ∙ q)
-
-pub lt-or-ge : (a b : ℕ) → (a < b) ⊎ (b ≤ a)
-lt-or-ge a b = go (ltb a b) (ltb→lt a b) (nltb→le a b)
-  where
-    go : (t : Bool) → (T t → a < b) → (T (not t) → b ≤ a) → (a < b) ⊎ (b ≤ a)
-    go true f g = inl (f tt)
-    go false f g = inr (g tt)
 
 -- ---- tests by keys
 -- a double that is no NaN
@@ -41,26 +33,18 @@ pub record Real (x : Float) : Type 0 where
 pub real-of : {x : Float} → Finite x → Real x
 real-of {x} p = record { fit = p .fit; isReal = finite-real x (p .isFinite) }
 
-is-true : (b : Bool) → T b → b ≡ true
-is-true true t = refl
-is-true false t = absurd t
-
-not-T : (b : Bool) → b ≡ false → T (not b)
-not-T true e = true≢false e
-not-T false e = tt
-
 module _ {x y : Float} (X : Real x) (Y : Real y) where
   pub lt-is-true : lt x y ≡ true → k x < k y
   lt-is-true e = Keys.lt→key binary64 x y (X .fit) (Y .fit) (subst T (sym e) tt)
 
   pub lt-is-false : lt x y ≡ false → k y ≤ k x
-  lt-is-false e = Keys.nlt→key binary64 x y (X .fit) (Y .fit) (X .isReal) (Y .isReal) (not-T (lt x y) e)
+  lt-is-false e = Keys.nlt→key binary64 x y (X .fit) (Y .fit) (X .isReal) (Y .isReal) (fails e)
 
   pub is-lt : k x < k y → lt x y ≡ true
   is-lt h = is-true (lt x y) (Keys.key→lt binary64 x y (X .fit) (Y .fit) (X .isReal) (Y .isReal) h)
 
   pub is-not-lt : k y ≤ k x → lt x y ≡ false
-  is-not-lt h = go (dich (lt x y))
+  is-not-lt h = go (either (lt x y))
     where
       no : k x < k y → ⊥
       no l = omega arith
@@ -73,7 +57,7 @@ module _ {x y : Float} (X : Real x) (Y : Real y) where
   le-is-true e = Keys.le→key binary64 x y (X .fit) (Y .fit) (subst T (sym e) tt)
 
   pub le-is-false : le x y ≡ false → k y < k x
-  le-is-false e = Keys.nle→key binary64 x y (X .fit) (Y .fit) (X .isReal) (Y .isReal) (not-T (le x y) e)
+  le-is-false e = Keys.nle→key binary64 x y (X .fit) (Y .fit) (X .isReal) (Y .isReal) (fails e)
 
   pub is-le : k x ≤ k y → le x y ≡ true
   is-le h = is-true (le x y) (Keys.key→le binary64 x y (X .fit) (Y .fit) (X .isReal) (Y .isReal) h)
@@ -81,28 +65,28 @@ module _ {x y : Float} (X : Real x) (Y : Real y) where
 both : (a b : Bool) → a ≡ true → b ≡ true → (a && b) ≡ true
 both a b p q = rw (p, q)
 
-left : (a b : Bool) → (a && b) ≡ true → a ≡ true
-left true b p = refl
-left false b p = p
+-- an interval whose ends are no NaNs
+pub record RealEnd (i : Interval) : Type 0 where
+  pub from : Real (i .from)
+  pub to : Real (i .to)
 
-right : (a b : Bool) → (a && b) ≡ true → b ≡ true
-right true b p = p
-right false b p = absurd (true≢false (sym p))
+pub real-end : {i : Interval} → FiniteEnd i → RealEnd i
+real-end I = record { from = real-of (I .from); to = real-of (I .to) }
 
-module _ {y : Float} {i : Interval} (Y : Real y) (I : FiniteEnd i) where
+module _ {y : Float} {i : Interval} (Y : Real y) (I : RealEnd i) where
   pub inside-key : inside y i ≡ true → (k (i .from) < k y) × (k y < k (i .to))
   unfolding inside
-  inside-key h = (lt-is-true (real-of (I .from)) Y (left (lt (i .from) y) (lt y (i .to)) h), lt-is-true Y (real-of (I .to)) (right (lt (i .from) y) (lt y (i .to)) h))
+  inside-key h = (lt-is-true (I .from) Y (both-first (lt (i .from) y) (lt y (i .to)) h), lt-is-true Y (I .to) (both-second (lt (i .from) y) (lt y (i .to)) h))
 
   pub key-inside : k (i .from) < k y → k y < k (i .to) → inside y i ≡ true
   unfolding inside
-  key-inside h l = both (lt (i .from) y) (lt y (i .to)) (is-lt (real-of (I .from)) Y h) (is-lt Y (real-of (I .to)) l)
+  key-inside h l = both (lt (i .from) y) (lt y (i .to)) (is-lt (I .from) Y h) (is-lt Y (I .to) l)
 
 -- ---- `outside` and `keep` by membership
 pub outside-of : (is : List Interval) (z : Float) → outside is z ≡ true → (i : Interval) → List·Memᴰ i is → inside z i ≡ false
 unfolding outside
 outside-of [] z c i m = absurd (List·Memᴰ·not-nil m)
-outside-of (j ∷ is) z c i m = go (λ d n. outside-of is z d i n) (dich (inside z j)) (List·Memᴰ·cases-cons m)
+outside-of (j ∷ is) z c i m = go (λ d n. outside-of is z d i n) (either (inside z j)) (List·Memᴰ·cases-cons m)
   where
     go : (outside is z ≡ true → List·Memᴰ i is → inside z i ≡ false) → (inside z j ≡ true) ⊎ (inside z j ≡ false) → (i ≡ j) ⊎ List·Memᴰ i is → inside z i ≡ false
     go below (inl t) e = absurd (true≢false (sym c ∙ rw t))
@@ -116,7 +100,7 @@ of-outside (j ∷ is) z h = rw (h j (List·Memᴰ·head refl), of-outside is z (
 
 -- what no interval can hold is outside
 none-inside : (is : List Interval) (z : Float) → ((i : Interval) → List·Memᴰ i is → inside z i ≡ true → ⊥) → outside is z ≡ true
-none-inside is z h = of-outside is z (λ i m. go i (h i m) (dich (inside z i)))
+none-inside is z h = of-outside is z (λ i m. go i (h i m) (either (inside z i)))
   where
     go : (i : Interval) → (inside z i ≡ true → ⊥) → (inside z i ≡ true) ⊎ (inside z i ≡ false) → inside z i ≡ false
     go i n (inl e) = absurd (n e)
@@ -124,13 +108,13 @@ none-inside is z h = of-outside is z (λ i m. go i (h i m) (dich (inside z i)))
 
 -- doubles of one key are in the same intervals
 pub same-outside : (is : List Interval) (x y : Float) → FiniteEnds is → Real x → Real y → k x ≡ k y → outside is x ≡ true → outside is y ≡ true
-same-outside is x y F X Y e o = none-inside is y (λ i m t. (let a = inside-key Y (F i m) t in clash (key-inside X (F i m) (omega (arith, a .0)) (omega (arith, a .1))) (outside-of is x o i m)))
+same-outside is x y F X Y e o = none-inside is y (λ i m t. (let a = inside-key Y (real-end (F i m)) t in clash (key-inside X (real-end (F i m)) (omega (arith, a .0)) (omega (arith, a .1))) (outside-of is x o i m)))
 
 module _ {A : Type 0} (test : A → Bool) where
   pub keep-mem : (a : A) (bs : List A) → List·Memᴰ a (keep test bs) → List·Memᴰ a bs × (test a ≡ true)
   unfolding keep
   keep-mem a [] m = absurd (List·Memᴰ·not-nil m)
-  keep-mem a (b ∷ bs) m = go (keep-mem a bs) (dich (test b))
+  keep-mem a (b ∷ bs) m = go (keep-mem a bs) (either (test b))
     where
       tailed : List·Memᴰ a bs × (test a ≡ true) → List·Memᴰ a (b ∷ bs) × (test a ≡ true)
       tailed h = (List·Memᴰ·tail (h .0), h .1)
@@ -145,7 +129,7 @@ module _ {A : Type 0} (test : A → Bool) where
 
   pub mem-keep : (a : A) (bs : List A) → List·Memᴰ a bs → test a ≡ true → List·Memᴰ a (keep test bs)
   mem-keep a [] m t = absurd (List·Memᴰ·not-nil m)
-  mem-keep a (b ∷ bs) m t = go (λ n. mem-keep a bs n t) (dich (test b)) (List·Memᴰ·cases-cons m)
+  mem-keep a (b ∷ bs) m t = go (λ n. mem-keep a bs n t) (either (test b)) (List·Memᴰ·cases-cons m)
     where
       go : (List·Memᴰ a bs → List·Memᴰ a (keep test bs)) → (test b ≡ true) ⊎ (test b ≡ false) → (a ≡ b) ⊎ List·Memᴰ a bs → List·Memᴰ a (keep test (b ∷ bs))
       go below (inl u) (inl e) = rw (Rattle.index.proofs.Steps.keep-yes test b bs u) (List·Memᴰ·head e)
@@ -153,29 +137,14 @@ module _ {A : Type 0} (test : A → Bool) where
       go below (inr u) (inl e) = absurd (clash (ap test (sym e) ∙ t) u)
       go below (inr u) (inr n) = rw (Rattle.index.proofs.Steps.keep-no test b bs u) (below n)
 
-mem-map : {A B : Type 0} (f : A → B) (a : A) (as′ : List A) → List·Memᴰ a as′ → List·Memᴰ (f a) (map f as′)
-mem-map f a as′ (List·Memᴰ·head e) = List·Memᴰ·head (ap f e)
-mem-map f a as′ (List·Memᴰ·tail m) = List·Memᴰ·tail (mem-map f a _ m)
-
-map-mem : {A B : Type 0} (f : A → B) (b : B) (as′ : List A) → List·Memᴰ b (map f as′) → (a : A) × List·Memᴰ a as′ × (b ≡ f a)
-map-mem f b [] m = absurd (List·Memᴰ·not-nil m)
-map-mem f b (a ∷ as′) m = go (map-mem f b as′) (List·Memᴰ·cases-cons m)
-  where
-    tailed : ((c : _) × List·Memᴰ c as′ × (b ≡ f c)) → (c : _) × List·Memᴰ c (a ∷ as′) × (b ≡ f c)
-    tailed h = (h .0, List·Memᴰ·tail (h .1), h .2)
-
-    go : (List·Memᴰ b (map f as′) → (c : _) × List·Memᴰ c as′ × (b ≡ f c)) → (b ≡ f a) ⊎ List·Memᴰ b (map f as′) → (c : _) × List·Memᴰ c (a ∷ as′) × (b ≡ f c)
-    go below (inl e) = (a, List·Memᴰ·head refl, e)
-    go below (inr n) = tailed (below n)
-
 -- ---- of some doubles, the greatest up to a bound; and the least
-best : (K : ℕ) (a : Float) (bs : List Float) → k a ≤ K → (c : Float) × List·Memᴰ c (a ∷ bs) × (k c ≤ K) × ((d : Float) → List·Memᴰ d (a ∷ bs) → k d ≤ K → k d ≤ k c)
-best K a [] h = (a, List·Memᴰ·head refl, h, λ d m l. (go d (List·Memᴰ·cases-cons m)))
+pub greatest : (K : ℕ) (a : Float) (bs : List Float) → k a ≤ K → (c : Float) × List·Memᴰ c (a ∷ bs) × (k c ≤ K) × ((d : Float) → List·Memᴰ d (a ∷ bs) → k d ≤ K → k d ≤ k c)
+greatest K a [] h = (a, List·Memᴰ·head refl, h, λ d m l. (go d (List·Memᴰ·cases-cons m)))
   where
     go : (d : Float) → (d ≡ a) ⊎ List·Memᴰ d [] → k d ≤ k a
     go d (inl e) = rw e (native.Mathlib.Nat.le-refl (k a))
     go d (inr m) = absurd (List·Memᴰ·not-nil m)
-best K a (b ∷ bs) h = go (best K a bs h) (lt-or-ge (k (best K a bs h .0)) (k b)) (lt-or-ge K (k b))
+greatest K a (b ∷ bs) h = go (greatest K a bs h) (below-or-not (k (greatest K a bs h .0)) (k b)) (below-or-not K (k b))
   where
     old : (r : (c : Float) × List·Memᴰ c (a ∷ bs) × (k c ≤ K) × ((d : Float) → List·Memᴰ d (a ∷ bs) → k d ≤ K → k d ≤ k c)) → (c : Float) → List·Memᴰ c (a ∷ bs) → (c ≡ a) ⊎ List·Memᴰ c bs → List·Memᴰ c (a ∷ b ∷ bs)
     old r c m (inl e) = List·Memᴰ·head e
@@ -270,7 +239,7 @@ pub record Smallest (y-low y-high : Float) (is : List Interval) (h : Float) : Ty
 abbrev pub NoneFree : Float → Float → List Interval → Type 0
 NoneFree y-low y-high is = (z : Float) → Real z → k y-low ≤ k z → k z ≤ k y-high → outside is z ≡ true → ⊥
 
-lowest-full : (cs : List Float) → lowest cs ≡ Full → (c : Float) → List·Memᴰ c cs → ⊥
+pub lowest-full : (cs : List Float) → lowest cs ≡ Full → (c : Float) → List·Memᴰ c cs → ⊥
 unfolding lowest
 lowest-full [] e c m = List·Memᴰ·not-nil m
 lowest-full (d ∷ cs) e c m = free≢full e
@@ -286,38 +255,32 @@ lowest-free [] h e f = absurd (free≢full (sym e))
     free≢full e = let z : _≡_ {A = ℕ} 0 1 = cc in omega arith
 lowest-free (d ∷ cs) h e f = let z : plusZero (least d cs) ≡ h = cc in (least d cs, least-is d cs, sym z, least-bottom d cs f)
 
-module _ (yl yh : Float) (is : List Interval) (L : Finite yl) (H : Finite yh) (F : FiniteEnds is) where
-  tops : List Float
-  tops = map (λ i. i .to) is
-
-  candidate : (c : Float) → List·Memᴰ c (candidates yl is) → Finite c × (k yl ≤ k c)
+-- ---- candidates, where no end is a NaN
+module _ (yl : Float) (is : List Interval) (L : Real yl) (E : (i : Interval) → List·Memᴰ i is → RealEnd i) where
+  pub candidate-is : (c : Float) → List·Memᴰ c (candidates yl is) → ((c ≡ yl) ⊎ ((i : Interval) × List·Memᴰ i is × (c ≡ i .to))) × (k yl ≤ k c)
   unfolding candidates
-  candidate c m = go (List·Memᴰ·cases-cons m)
+  candidate-is c m = go (List·Memᴰ·cases-cons m)
     where
-      top : ((i : Interval) × List·Memᴰ i is × (c ≡ i .to)) → not (lt c yl) ≡ true → Finite c × (k yl ≤ k c)
-      top t e = (f, lt-is-false (real-of f) (real-of L) (un (lt c yl) e))
-        where
-          f : Finite c
-          f = rw (t .2) (F (t .0) (t .1) .to)
+      top : ((i : Interval) × List·Memᴰ i is × (c ≡ i .to)) → not (lt c yl) ≡ true → ((c ≡ yl) ⊎ ((i : Interval) × List·Memᴰ i is × (c ≡ i .to))) × (k yl ≤ k c)
+      top t e = let R : Real c = rw (t .2) (E (t .0) (t .1) .to) in (inr t, lt-is-false R L (not-true (lt c yl) e))
 
-          un : (b : Bool) → not b ≡ true → b ≡ false
-          un true q = sym q
-          un false q = refl
-
-      go : (c ≡ yl) ⊎ List·Memᴰ c (keep (λ t. not (lt t yl)) (map (λ i. i .to) is)) → Finite c × (k yl ≤ k c)
-      go (inl e) = rw e (L, native.Mathlib.Nat.le-refl (k yl))
+      go : (c ≡ yl) ⊎ List·Memᴰ c (keep (λ t. not (lt t yl)) (map (λ i. i .to) is)) → ((c ≡ yl) ⊎ ((i : Interval) × List·Memᴰ i is × (c ≡ i .to))) × (k yl ≤ k c)
+      go (inl e) = (inl e, rw e (native.Mathlib.Nat.le-refl (k yl)))
       go (inr n) = let w = keep-mem (λ t. not (lt t yl)) c (map (λ i. i .to) is) n in top (map-mem (λ i. i .to) c is (w .0)) (w .1)
+
+  pub candidate-real : (c : Float) → List·Memᴰ c (candidates yl is) → Real c × (k yl ≤ k c)
+  candidate-real c m = let t = candidate-is c m in (elim (t .0) [ inl e ↦ rw e L | inr i ↦ rw (i .2) (E (i .0) (i .1) .to) ], t .1)
 
   top-candidate : (i : Interval) → List·Memᴰ i is → k yl ≤ k (i .to) → List·Memᴰ (i .to) (candidates yl is)
   unfolding candidates
-  top-candidate i m h = List·Memᴰ·tail (mem-keep (λ t. not (lt t yl)) (i .to) (map (λ i. i .to) is) (mem-map (λ i. i .to) i is m) (rw (is-not-lt (real-of (F i m .to)) (real-of L) h)))
+  top-candidate i m h = List·Memᴰ·tail (mem-keep (λ t. not (lt t yl)) (i .to) (map (λ i. i .to) is) (mem-map (λ i. i .to) i is m) (rw (is-not-lt (E i m .to) L h)))
 
   -- at or below a double that lies in no interval there is a candidate that lies in none
-  nearest : (z : Float) → Real z → k yl ≤ k z → outside is z ≡ true → (c : Float) × List·Memᴰ c (candidates yl is) × (k c ≤ k z) × (outside is c ≡ true)
-  nearest z Z h o = (b .0, mem, b .2, none-inside is (b .0) (λ i m t. stuck i m (inside-key (real-of (candidate (b .0) mem .0)) (F i m) t) (lt-or-ge (k z) (k (i .to)))))
+  pub nearest : (z : Float) → Real z → k yl ≤ k z → outside is z ≡ true → (c : Float) × List·Memᴰ c (candidates yl is) × (k c ≤ k z) × (outside is c ≡ true)
+  nearest z Z h o = (b .0, mem, b .2, none-inside is (b .0) (λ i m t. stuck i m (inside-key (candidate-real (b .0) mem .0) (E i m) t) (below-or-not (k z) (k (i .to)))))
     where
       b : (c : Float) × List·Memᴰ c (yl ∷ keep (λ t. not (lt t yl)) (map (λ i. i .to) is)) × (k c ≤ k z) × ((d : Float) → List·Memᴰ d (yl ∷ keep (λ t. not (lt t yl)) (map (λ i. i .to) is)) → k d ≤ k z → k d ≤ k c)
-      b = best (k z) yl (keep (λ t. not (lt t yl)) (map (λ i. i .to) is)) h
+      b = greatest (k z) yl (keep (λ t. not (lt t yl)) (map (λ i. i .to) is)) h
 
       mem : List·Memᴰ (b .0) (candidates yl is)
       mem = unfold candidates in (b .1)
@@ -326,11 +289,18 @@ module _ (yl yh : Float) (is : List Interval) (L : Finite yl) (H : Finite yh) (F
       as-candidate d m l = b .3 d (unfold candidates in m) l
 
       stuck : (i : Interval) → List·Memᴰ i is → (k (i .from) < k (b .0)) × (k (b .0) < k (i .to)) → (k z < k (i .to)) ⊎ (k (i .to) ≤ k z) → ⊥
-      stuck i m t (inl l) = clash (key-inside Z (F i m) (let q = b .2 in omega (arith, t .0)) l) (outside-of is z o i m)
-      stuck i m t (inr l) = let c = candidate (b .0) mem .1 in let q = as-candidate (i .to) (top-candidate i m (omega (arith, t .1))) l in no (k (i .to)) (k (b .0)) q (t .1)
+      stuck i m t (inl l) = clash (key-inside Z (E i m) (let q = b .2 in omega (arith, t .0)) l) (outside-of is z o i m)
+      stuck i m t (inr l) = let c = candidate-real (b .0) mem .1 in let q = as-candidate (i .to) (top-candidate i m (omega (arith, t .1))) l in no (k (i .to)) (k (b .0)) q (t .1)
         where
           no : (p q : ℕ) → p ≤ q → q < p → ⊥
           no p q g h = omega arith
+
+module _ (yl yh : Float) (is : List Interval) (L : Finite yl) (H : Finite yh) (F : FiniteEnds is) where
+  ends : (i : Interval) → List·Memᴰ i is → RealEnd i
+  ends i m = real-end (F i m)
+
+  candidate : (c : Float) → List·Memᴰ c (candidates yl is) → Finite c × (k yl ≤ k c)
+  candidate c m = let t = candidate-is yl is (real-of L) ends c m in (elim (t .0) [ inl e ↦ rw e L | inr i ↦ rw (i .2) (F (i .0) (i .1) .to) ], t .1)
 
   abbrev heights : List Float
   heights = keep (λ c. le c yh && outside is c) (candidates yl is)
@@ -339,11 +309,11 @@ module _ (yl yh : Float) (is : List Interval) (L : Finite yl) (H : Finite yh) (F
   of-heights c m =
       let w = keep-mem (λ c. le c yh && outside is c) c (candidates yl is) m in
       let d = candidate c (w .0) in
-      (d .0, d .1, le-is-true (real-of (d .0)) (real-of H) (left (le c yh) (outside is c) (w .1)), right (le c yh) (outside is c) (w .1))
+      (d .0, d .1, le-is-true (real-of (d .0)) (real-of H) (both-first (le c yh) (outside is c) (w .1)), both-second (le c yh) (outside is c) (w .1))
 
   some-height : (z : Float) → Real z → k yl ≤ k z → k z ≤ k yh → outside is z ≡ true → (c : Float) × List·Memᴰ c heights × (k c ≤ k z)
   some-height z Z h l o =
-      let c = nearest z Z h o in
+      let c = nearest yl is (real-of L) ends z Z h o in
       (c .0, mem-keep (λ c. le c yh && outside is c) (c .0) (candidates yl is) (c .1) (both (le (c .0) yh) (outside is (c .0)) (is-le (real-of (candidate (c .0) (c .1) .0)) (real-of H) (let q = c .2 in omega arith)) (c .3)), c .2)
 
   pub height-full : heightOf yl yh is ≡ Full → NoneFree yl yh is
@@ -357,7 +327,7 @@ module _ (yl yh : Float) (is : List Interval) (L : Finite yl) (H : Finite yh) (F
     from = omega (arith, p .1, n .1);
     upto = omega (arith, p .1, n .2);
     out = same-outside is (w .0) (plusZero (w .0)) F (real-of (n .0)) (real-of (finite (p .0))) (sym (p .1)) (n .3);
-    first = λ z Z g o. first z Z g o (lt-or-ge (k yh) (k z));
+    first = λ z Z g o. first z Z g o (below-or-not (k yh) (k z));
   })
     where
       w : (c : Float) × List·Memᴰ c heights × (h ≡ plusZero c) × ((d : Float) → List·Memᴰ d heights → k c ≤ k d)

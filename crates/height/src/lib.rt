@@ -2,7 +2,6 @@
 ghost use mathlib.Core.Path.{_≡_};
 ghost use Prim.Native.Nat.{ℕ, _+_, _-_, _*_, _/_, _≤_, _<_};
 ghost use lib.ListN.{length};
-ghost use Rattle.numbers.specs.Numbers.{plusZero};
 ghost use Rattle.numbers.proofs.Doubles.{Finite};
 ghost use Rattle.index.specs.Listing.{intervals, intervalAt};
 ghost use Rattle.height.specs.Smallest.{heightOf};
@@ -173,16 +172,6 @@ fn next_turn(room: &mut [f64], n: usize, turn: usize) -> usize
     SORTED_AT + 2
 }
 
-// A minus zero becomes plus zero.
-fn plus_zero(y: f64) -> f64
-    ensures { λ r. ⌜ r ≡ plusZero y ⌝ }
-{
-    if y == 0.0 {
-        return 0.0;
-    }
-    y
-}
-
 // The smallest height from y_low to y_high that lies in none of the first n intervals of the room,
 // which are left in some other order. Only crates of ours call it.
 pub fn height(room: &mut [f64], n: usize, y_low: f64, y_high: f64) -> Look
@@ -201,7 +190,7 @@ pub fn height(room: &mut [f64], n: usize, y_low: f64, y_high: f64) -> Look
         z = raise(room, n, y, turn);
     }
     if y <= y_high {
-        return Look::Free(plus_zero(y));
+        return Look::Free(numbers::plus_zero(y));
     }
     Look::Full
 }

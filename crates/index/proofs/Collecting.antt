@@ -2,23 +2,19 @@
 use Prim.Native.Nat.{ℕ, zero, suc, _+_, _-_, _*_, _/_, _<_, _≤_}
 use native.Mathlib.Omega.{arith}
 use native.Mathlib.Numerals.{add-one}
-use mathlib.Core.Path.{_≡_, refl, sym, ap, _∙_, subst}
+use mathlib.Core.Path.{_≡_, sym, ap, _∙_, subst}
 use mathlib.Core.Logic.{_⊎_, inl, inr}
-use mathlib.Core.Bool.{Bool, true, false}
-use mathlib.Core.List.{List, [], _∷_, _++_, map, append-assoc, append-nil, List·Memᴰ, List·Memᴰ·head, List·Memᴰ·tail}
+use mathlib.Core.List.{List, [], _∷_, _++_, map, append-assoc, append-nil}
 use lib.ListN.{length, getD, set, length-set}
 use lib.Seq.{getD-set-same, getD-set-other}
-use lib.Dec.{ltb}
 use lib.Ieee.{Float, nan}
+use borrow.Author.Tests.{lt-ltb, le-ltb}
+use Rattle.numbers.proofs.Truth.{below-or-not}
 use Rattle.index.specs.declared.Interval.{Interval}
 use Rattle.index.specs.Buckets.{upFrom}
 use Rattle.index.specs.Listing.{Collected, collected, push, pushAll, intervalAt, intervals}
-use Rattle.index.proofs.Steps.{push-true, push-false, lt-ltb, ge-ltb, length-push}
-use Rattle.index.proofs.Flat.{upFrom-mem}
-
-map-same : {A : Type 0} (f g : ℕ → A) (xs : List ℕ) → ((x : ℕ) → List·Memᴰ x xs → f x ≡ g x) → map f xs ≡ map g xs
-map-same f g [] h = refl
-map-same f g (x ∷ xs) h = rw (h x (List·Memᴰ·head refl), map-same f g xs (λ y m. h y (List·Memᴰ·tail m)))
+use Rattle.index.proofs.Steps.{push-true, push-false, length-push}
+use Rattle.index.proofs.Flat.{upFrom-mem, map-same}
 
 pub map-snoc : {A : Type 0} (f : ℕ → A) (n c : ℕ) → map f (upFrom (suc n) c) ≡ map f (upFrom n c) ++ (f (c + n) ∷ [])
 unfolding upFrom
@@ -60,13 +56,6 @@ module _ (r : List Float) (n : ℕ) (i : Interval) (h : n < length r / 2) where
       below : (k : ℕ) → k < 0 + n → k < n
       below k l = omega arith
 
-pub lt-or-ge : (a b : ℕ) → (a < b) ⊎ (b ≤ a)
-lt-or-ge a b = go (ltb a b) (lib.Dec.ltb→lt a b) (lib.Dec.nltb→le a b)
-  where
-    go : (t : Bool) → (lib.Dec.T t → a < b) → (lib.Dec.T (mathlib.Core.Bool.not t) → b ≤ a) → (a < b) ⊎ (b ≤ a)
-    go true f g = inl (f tt)
-    go false f g = inr (g tt)
-
 -- where they fit, they stand after what was there
 pub push-fits : (is : List Interval) (r : List Float) (n : ℕ) → n + length is ≤ length r / 2 → (pushAll (collected r n) is .n ≡ n + length is) × (intervals (pushAll (collected r n) is .room) (n + length is) ≡ intervals r n ++ is)
 unfolding pushAll
@@ -86,7 +75,7 @@ push-fits (i ∷ is) r n h =
 pub push-over : (is : List Interval) (r : List Float) (n : ℕ) → n ≤ length r / 2 + 1 → length r / 2 < n + length is → pushAll (collected r n) is .n ≡ length r / 2 + 1
 unfolding pushAll
 push-over [] r n h l = omega arith
-push-over (i ∷ is) r n h l = go (lt-or-ge n (length r / 2)) (λ k w u v. push-over is k (n + 1) u v) (λ u v. push-over is r (length r / 2 + 1) u v)
+push-over (i ∷ is) r n h l = go (below-or-not n (length r / 2)) (λ k w u v. push-over is k (n + 1) u v) (λ u v. push-over is r (length r / 2 + 1) u v)
   where
     go : (n < length r / 2) ⊎ (length r / 2 ≤ n) → ((k : List Float) → length k ≡ length r → n + 1 ≤ length k / 2 + 1 → length k / 2 < n + 1 + length is → pushAll (collected k (n + 1)) is .n ≡ length k / 2 + 1)
         → (length r / 2 + 1 ≤ length r / 2 + 1 → length r / 2 < length r / 2 + 1 + length is → pushAll (collected r (length r / 2 + 1)) is .n ≡ length r / 2 + 1) → pushAll (push (collected r n) i) is .n ≡ length r / 2 + 1
@@ -96,4 +85,4 @@ push-over (i ∷ is) r n h l = go (lt-or-ge n (length r / 2)) (λ k w u v. push-
         let u : n + 1 ≤ length (after r n i t) / 2 + 1 = rw w (omega arith) in
         let v : length (after r n i t) / 2 < n + 1 + length is = rw w (omega arith) in
         ap (λ (u : Collected). pushAll u is .n) e ∙ (f (after r n i t) w u v ∙ rw w)
-    go (inr t) f g = ap (λ (u : Collected). pushAll u is .n) (push-false r n i (ge-ltb n (length r / 2) t)) ∙ g (omega arith) (omega arith)
+    go (inr t) f g = ap (λ (u : Collected). pushAll u is .n) (push-false r n i (le-ltb n (length r / 2) t)) ∙ g (omega arith) (omega arith)

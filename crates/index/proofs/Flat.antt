@@ -1,14 +1,14 @@
--- Lists of lists: rearranged, swapped, with one that is not empty. Assumes nothing.
+-- Lists: rearranged, mapped, kept, put together; their members; the numbers from c on. Assumes nothing.
 use Prim.Native.Nat.{ℕ, zero, suc, _+_, _-_, _<_, _≤_}
 use native.Mathlib.Omega.{arith}
 use mathlib.Core.Path.{_≡_, refl, sym, ap, _∙_, subst}
 use mathlib.Core.Logic.{_⊎_, inl, inr}
 use mathlib.Core.Bool.{Bool, true, false}
-use mathlib.Core.List.{List, [], _∷_, _++_, flatMap, append-assoc, append-nil, List·Memᴰ, List·Memᴰ·head, List·Memᴰ·tail, List·Memᴰ·cases-cons, List·Memᴰ·not-nil, List·Permᴰ, List·Permᴰ·nil, List·Permᴰ·cons, List·Permᴰ·swap, List·Permᴰ·trans, Permᴰ·refl, Permᴰ·symm, Permᴰ·append-left, Permᴰ·append-right, Permᴰ·middle}
+use mathlib.Core.List.{List, [], _∷_, _++_, map, flatMap, append-assoc, append-nil, List·Memᴰ, List·Memᴰ·head, List·Memᴰ·tail, List·Memᴰ·cases-cons, List·Memᴰ·not-nil, List·Memᴰ·append-cases, List·Permᴰ, List·Permᴰ·nil, List·Permᴰ·cons, List·Permᴰ·swap, List·Permᴰ·trans, Permᴰ·refl, Permᴰ·symm, Permᴰ·append-left, Permᴰ·append-right, Permᴰ·middle}
 use lib.ListN.{length, getD}
 use lib.Seq.{slice, slice-cons}
+use Rattle.numbers.proofs.Truth.{either}
 use Rattle.index.specs.Buckets.{upFrom, keep}
-use Rattle.index.proofs.Steps.{dich}
 
 module _ {A : Type 0} where
   pub perm-of : {l m : List A} → l ≡ m → List·Permᴰ l m
@@ -70,6 +70,36 @@ module _ {A B C : Type 0} where
   flat-swap f [] ys = perm-of (sym (flat-none (λ y. []) ys (λ y m. refl)))
   flat-swap f (x ∷ xs) ys = List·Permᴰ·trans (Permᴰ·append-left (flatMap (f x) ys) (flat-swap f xs ys)) (flat-both (f x) (λ y. flatMap (λ x. f x y) xs) ys)
 
+-- ---- members
+module _ {A B : Type 0} (f : A → B) where
+  pub mem-map : (a : A) (as′ : List A) → List·Memᴰ a as′ → List·Memᴰ (f a) (map f as′)
+  mem-map a as′ (List·Memᴰ·head e) = List·Memᴰ·head (ap f e)
+  mem-map a as′ (List·Memᴰ·tail m) = List·Memᴰ·tail (mem-map a _ m)
+
+  pub map-mem : (b : B) (as′ : List A) → List·Memᴰ b (map f as′) → (a : A) × List·Memᴰ a as′ × (b ≡ f a)
+  map-mem b [] m = absurd (List·Memᴰ·not-nil m)
+  map-mem b (a ∷ as′) m = go (map-mem b as′) (List·Memᴰ·cases-cons m)
+    where
+      tailed : ((c : A) × List·Memᴰ c as′ × (b ≡ f c)) → (c : A) × List·Memᴰ c (a ∷ as′) × (b ≡ f c)
+      tailed h = (h .0, List·Memᴰ·tail (h .1), h .2)
+
+      go : (List·Memᴰ b (map f as′) → (c : A) × List·Memᴰ c as′ × (b ≡ f c)) → (b ≡ f a) ⊎ List·Memᴰ b (map f as′) → (c : A) × List·Memᴰ c (a ∷ as′) × (b ≡ f c)
+      go below (inl e) = (a, List·Memᴰ·head refl, e)
+      go below (inr n) = tailed (below n)
+
+module _ {A B : Type 0} where
+  pub flatMap-mem : (f : A → List B) (b : B) (zs : List A) → List·Memᴰ b (flatMap f zs) → (a : A) × List·Memᴰ a zs × List·Memᴰ b (f a)
+  unfolding flatMap
+  flatMap-mem f b [] m = absurd (List·Memᴰ·not-nil m)
+  flatMap-mem f b (z ∷ zs) m = go (flatMap-mem f b zs) (List·Memᴰ·append-cases (f z) m)
+    where
+      tailed : ((a : A) × List·Memᴰ a zs × List·Memᴰ b (f a)) → (a : A) × List·Memᴰ a (z ∷ zs) × List·Memᴰ b (f a)
+      tailed h = (h .0, List·Memᴰ·tail (h .1), h .2)
+
+      go : (List·Memᴰ b (flatMap f zs) → (a : A) × List·Memᴰ a zs × List·Memᴰ b (f a)) → List·Memᴰ b (f z) ⊎ List·Memᴰ b (flatMap f zs) → (a : A) × List·Memᴰ a (z ∷ zs) × List·Memᴰ b (f a)
+      go below (inl n) = (z, List·Memᴰ·head refl, n)
+      go below (inr n) = tailed (below n)
+
 -- ---- the numbers from c on
 pub upFrom-mem : (k c b : ℕ) → List·Memᴰ b (upFrom k c) → (c ≤ b) × (b < c + k)
 unfolding upFrom
@@ -79,6 +109,26 @@ upFrom-mem (suc k) c b m = go (upFrom-mem k (suc c) b) (List·Memᴰ·cases-cons
     go : (List·Memᴰ b (upFrom k (suc c)) → (suc c ≤ b) × (b < suc c + k)) → (b ≡ c) ⊎ List·Memᴰ b (upFrom k (suc c)) → (c ≤ b) × (b < c + suc k)
     go below (inl e) = (omega arith, omega arith)
     go below (inr n) = let t = below n in (omega (arith, t .0), omega (arith, t .1))
+
+pub length-upFrom : (n c : ℕ) → length (upFrom n c) ≡ n
+unfolding upFrom
+length-upFrom zero c = refl
+length-upFrom (suc n) c = ap suc (length-upFrom n (suc c))
+
+pub getD-upFrom : {A : Type 0} (f : ℕ → A) (n c i : ℕ) (d : A) → i < n → getD (map f (upFrom n c)) i d ≡ f (c + i)
+unfolding upFrom
+getD-upFrom f zero c i d h = absurd (omega arith)
+getD-upFrom f (suc n) c zero d h = ap f (omega arith)
+getD-upFrom f (suc n) c (suc i) d h = let e : suc c + i ≡ c + suc i = omega arith in getD-upFrom f n (suc c) i d (omega arith) ∙ ap f e
+
+pub map-at : {A B : Type 0} (f : A → B) (l : List A) (i : ℕ) (d : B) (e : A) → i < length l → getD (map f l) i d ≡ f (getD l i e)
+map-at f [] i d e h = absurd (omega arith)
+map-at f (a ∷ l) zero d e h = refl
+map-at f (a ∷ l) (suc i) d e h = map-at f l i d e (omega arith)
+
+pub map-same : {A : Type 0} (f g : ℕ → A) (xs : List ℕ) → ((x : ℕ) → List·Memᴰ x xs → f x ≡ g x) → map f xs ≡ map g xs
+map-same f g [] h = refl
+map-same f g (x ∷ xs) h = rw (h x (List·Memᴰ·head refl), map-same f g xs (λ y m. h y (List·Memᴰ·tail m)))
 
 module _ {B : Type 0} (f : ℕ → List B) where
   pub flat-single : (k c b : ℕ) → c ≤ b → b < c + k → ((d : ℕ) → c ≤ d → (d ≡ b → ⊥) → f d ≡ []) → flatMap f (upFrom k c) ≡ f b
@@ -121,7 +171,7 @@ module _ {B : Type 0} (test : ℕ → Bool) (F : ℕ → List B) where
   pub flat-keep : (is : List ℕ) → flatMap F (keep test is) ≡ flatMap (λ i. elim (test i) [ true ↦ F i | false ↦ [] ]) is
   unfolding flatMap keep
   flat-keep [] = refl
-  flat-keep (i ∷ is) = go (flat-keep is) (dich (test i))
+  flat-keep (i ∷ is) = go (flat-keep is) (either (test i))
     where
       go : flatMap F (keep test is) ≡ flatMap (λ i. elim (test i) [ true ↦ F i | false ↦ [] ]) is → (test i ≡ true) ⊎ (test i ≡ false)
           → flatMap F (elim (test i) [ true ↦ i ∷ keep test is | false ↦ keep test is ]) ≡ (elim (test i) [ true ↦ F i | false ↦ [] ]) ++ flatMap (λ i. elim (test i) [ true ↦ F i | false ↦ [] ]) is
@@ -131,7 +181,7 @@ module _ {B : Type 0} (test : ℕ → Bool) (F : ℕ → List B) where
   pub keep-mem : (is : List ℕ) (a : ℕ) → List·Memᴰ a (keep test is) → List·Memᴰ a is
   unfolding keep
   keep-mem [] a m = m
-  keep-mem (i ∷ is) a m = go (keep-mem is a) (dich (test i))
+  keep-mem (i ∷ is) a m = go (keep-mem is a) (either (test i))
     where
       first : (List·Memᴰ a (keep test is) → List·Memᴰ a is) → (a ≡ i) ⊎ List·Memᴰ a (keep test is) → List·Memᴰ a (i ∷ is)
       first below (inl e) = List·Memᴰ·head e
@@ -141,10 +191,19 @@ module _ {B : Type 0} (test : ℕ → Bool) (F : ℕ → List B) where
       go below (inl e) = first below (List·Memᴰ·cases-cons (rw (e, keep) at m))
       go below (inr e) = List·Memᴰ·tail (below (rw (e, keep) at m))
 
+pub keep-same : (f g : ℕ → Bool) (is : List ℕ) → ((i : ℕ) → List·Memᴰ i is → f i ≡ g i) → keep f is ≡ keep g is
+unfolding keep
+keep-same f g [] h = refl
+keep-same f g (i ∷ is) h = go (keep-same f g is (λ j m. h j (List·Memᴰ·tail m))) (h i (List·Memᴰ·head refl)) (either (f i))
+  where
+    go : keep f is ≡ keep g is → f i ≡ g i → (f i ≡ true) ⊎ (f i ≡ false) → keep f (i ∷ is) ≡ keep g (i ∷ is)
+    go below e (inl t) = let u : g i ≡ true = sym e ∙ t in rw (t, u, keep, below)
+    go below e (inr t) = let u : g i ≡ false = sym e ∙ t in rw (t, u, keep, below)
+
 pub keep-append : {A : Type 0} (test : A → Bool) (xs ys : List A) → keep test (xs ++ ys) ≡ keep test xs ++ keep test ys
 unfolding keep
 keep-append test [] ys = refl
-keep-append test (x ∷ xs) ys = go (keep-append test xs ys) (dich (test x))
+keep-append test (x ∷ xs) ys = go (keep-append test xs ys) (either (test x))
   where
     go : keep test (xs ++ ys) ≡ keep test xs ++ keep test ys → (test x ≡ true) ⊎ (test x ≡ false) → keep test (x ∷ (xs ++ ys)) ≡ keep test (x ∷ xs) ++ keep test ys
     go below (inl e) = rw (e, keep, below)

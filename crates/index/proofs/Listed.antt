@@ -7,10 +7,12 @@ use mathlib.Core.Bool.{Bool, true, false, _&&_, _||_, cond}
 use mathlib.Core.List.{List, [], _∷_, _++_, flatMap, List·Memᴰ, List·Memᴰ·head, List·Memᴰ·tail, List·Permᴰ, List·Permᴰ·trans, Permᴰ·refl}
 use lib.ListN.{length, getD}
 use lib.Seq.{slice, slice-cons}
-use lib.Dec.{T, leb, eqb, leb→le, le→leb, eqb→eq}
+use lib.Dec.{T, leb, eqb, leb→le, eqb→eq}
 use lib.Ieee.{Float, binary64, lt}
+use borrow.Author.Tests.{le-leb, eq-eqb, ne-eqb}
 use Rattle.numbers.proofs.Doubles.{k, o, Finite}
 use Rattle.numbers.specs.Numbers.{smaller, larger}
+use Rattle.numbers.proofs.Truth.{either}
 use Rattle.trapezoid.specs.declared.Trapezoid.{Trapezoid}
 use Rattle.trapezoid.specs.Strip.{stripAt, capacity}
 use Rattle.index.specs.declared.Index.{Index}
@@ -19,18 +21,11 @@ use Rattle.index.specs.declared.Moving.{Moving}
 use Rattle.index.specs.Buckets.{buckets, upFrom, keep, bucketIn}
 use Rattle.index.specs.Intervals.{meetingOf, intervalIn, forbiddenOf, countsOf, countedOf}
 use Rattle.index.specs.Listing.{movingOf, heightsOf, meetingAt, pairOf, metIn, entryOf, listEntries, listBucket, listMoving, listed, Usable, Laid, Bounded, Fair, covers, entered}
-use Rattle.index.proofs.Steps.{dich, eqb-yes, eqb-no, entry-true, entry-false, pair-apart, bucket-top}
+use Rattle.index.proofs.Steps.{entry-true, entry-false, pair-apart, bucket-top}
 use Rattle.index.proofs.BucketOrder.{bucket-meets, larger-finite, smaller-finite}
 use Rattle.index.proofs.Flat.{perm-of, flat-same, flat-perm, flat-none, flat-swap, flat-single, flat-slice, flat-keep, keep-flat, keep-mem, upFrom-mem}
 
 -- ---- tests
-leb-yes : (a b : ℕ) → a ≤ b → leb a b ≡ true
-leb-yes a b h = go (leb a b) (le→leb a b h)
-  where
-    go : (t : Bool) → T t → t ≡ true
-    go true x = refl
-    go false x = absurd x
-
 covers-low : (ix : Index) (p : Trapezoid) (b : ℕ) → covers ix p b ≡ true → bucketIn ix (p .x0) ≤ b
 unfolding covers
 covers-low ix p b e = go (leb (bucketIn ix (p .x0)) b) (leb→le (bucketIn ix (p .x0)) b) e
@@ -41,7 +36,7 @@ covers-low ix p b e = go (leb (bucketIn ix (p .x0)) b) (leb→le (bucketIn ix (p
 
 covers-yes : (ix : Index) (p : Trapezoid) (b : ℕ) → bucketIn ix (p .x0) ≤ b → b ≤ bucketIn ix (p .x1) → covers ix p b ≡ true
 unfolding covers
-covers-yes ix p b h k = rw (leb-yes (bucketIn ix (p .x0)) b h, leb-yes b (bucketIn ix (p .x1)) k)
+covers-yes ix p b h k = rw (le-leb (bucketIn ix (p .x0)) b h, le-leb b (bucketIn ix (p .x1)) k)
 
 -- ---- a pair
 module _ (ix : Index) (I : Fair ix) (m : Moving) (M0 : Bounded 4000000 (m .x0)) (M1 : Bounded 4000000 (m .x1)) (p : Trapezoid) (P0 : Bounded 4000000 (p .x0)) (P1 : Bounded 4000000 (p .x1)) where
@@ -64,7 +59,7 @@ module _ (ix : Index) (I : Fair ix) (m : Moving) (M0 : Bounded 4000000 (m .x0)) 
   lists-in b e = rw (e, lists)
 
   none-listed : pairOf m p ≡ [] → (b : ℕ) → lists b ≡ []
-  none-listed e b = go (dich (covers ix p b)) (dich (metIn ix (bucketIn ix (m .x0)) b p))
+  none-listed e b = go (either (covers ix p b)) (either (metIn ix (bucketIn ix (m .x0)) b p))
     where
       go : (covers ix p b ≡ true) ⊎ (covers ix p b ≡ false) → (metIn ix (bucketIn ix (m .x0)) b p ≡ true) ⊎ (metIn ix (bucketIn ix (m .x0)) b p ≡ false) → lists b ≡ []
       go (inr f) t = lists-out b f
@@ -76,24 +71,24 @@ module _ (ix : Index) (I : Fair ix) (m : Moving) (M0 : Bounded 4000000 (m .x0)) 
 
   met-yes : metIn ix (bucketIn ix (m .x0)) met p ≡ true
   unfolding metIn
-  met-yes = go (eqb met (bucketIn ix (m .x0))) (dich (eqb (bucketIn ix (p .x0)) met)) (eqb-no' met (bucketIn ix (m .x0)))
+  met-yes = go (eqb met (bucketIn ix (m .x0))) (either (eqb (bucketIn ix (p .x0)) met)) (eqb-no' met (bucketIn ix (m .x0)))
     where
       eqb-no' : (a b : ℕ) → eqb a b ≡ false → a ≡ b → ⊥
-      eqb-no' a b e q = mathlib.Core.Bool.true≢false (sym (eqb-yes a b q) ∙ e)
+      eqb-no' a b e q = mathlib.Core.Bool.true≢false (sym (eq-eqb a b q) ∙ e)
 
       go : (t : Bool) → (eqb (bucketIn ix (p .x0)) met ≡ true) ⊎ (eqb (bucketIn ix (p .x0)) met ≡ false) → (eqb met (bucketIn ix (m .x0)) ≡ false → met ≡ bucketIn ix (m .x0) → ⊥) → (eqb met (bucketIn ix (m .x0)) || eqb (bucketIn ix (p .x0)) met) ≡ true
       go t (inl e) n = rw e (mathlib.Core.Bool.or-true (eqb met (bucketIn ix (m .x0))))
-      go t (inr e) n = let q : bucketIn ix (p .x0) ≡ met → ⊥ = eqb-no' (bucketIn ix (p .x0)) met e in rw (eqb-yes met (bucketIn ix (m .x0)) (omega (arith, q)))
+      go t (inr e) n = let q : bucketIn ix (p .x0) ≡ met → ⊥ = eqb-no' (bucketIn ix (p .x0)) met e in rw (eq-eqb met (bucketIn ix (m .x0)) (omega (arith, q)))
 
   met-no : (b : ℕ) → bucketIn ix (m .x0) ≤ b → bucketIn ix (p .x0) ≤ b → (b ≡ met → ⊥) → metIn ix (bucketIn ix (m .x0)) b p ≡ false
   unfolding metIn
-  met-no b h k n = rw (eqb-no b (bucketIn ix (m .x0)) (λ e. n (omega arith)), eqb-no (bucketIn ix (p .x0)) b (λ e. n (omega arith)))
+  met-no b h k n = rw (ne-eqb b (bucketIn ix (m .x0)) (λ e. n (omega arith)), ne-eqb (bucketIn ix (p .x0)) b (λ e. n (omega arith)))
 
   once : flatMap lists (upFrom (bucketIn ix (m .x1) + 1 - bucketIn ix (m .x0)) (bucketIn ix (m .x0))) ≡ pairOf m p
-  once = go (dich (lt (larger (p .x0) (m .x0)) (smaller (p .x1) (m .x1))))
+  once = go (either (lt (larger (p .x0) (m .x0)) (smaller (p .x1) (m .x1))))
     where
       others : (b : ℕ) → bucketIn ix (m .x0) ≤ b → (b ≡ met → ⊥) → lists b ≡ []
-      others b h n = at (dich (covers ix p b))
+      others b h n = at (either (covers ix p b))
         where
           at : (covers ix p b ≡ true) ⊎ (covers ix p b ≡ false) → lists b ≡ []
           at (inl e) = lists-in b e ∙ entry-false ix m (bucketIn ix (m .x0)) b p (met-no b h (covers-low ix p b e) n)

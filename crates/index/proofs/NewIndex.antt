@@ -1,10 +1,9 @@
 -- A new index over bounded ends has a width that is finite and above zero; an index of no strips; strips stored after the n first do not matter. Assumes nothing.
 use Prim.Native.Nat.{ℕ, zero, suc, _+_, _-_, _*_, _/_, _<_, _≤_}
 use native.Mathlib.Omega.{arith}
-use mathlib.Core.Path.{_≡_, refl, sym, ap, _∙_, subst}
-use mathlib.Core.Logic.{_⊎_, inl, inr}
-use mathlib.Core.Bool.{Bool, true, false, not, cond}
-use mathlib.Core.List.{List, [], _∷_, _++_, List·Memᴰ, List·Memᴰ·head, List·Memᴰ·tail}
+use mathlib.Core.Path.{_≡_, ap, _∙_, subst}
+use mathlib.Core.Bool.{not, cond}
+use mathlib.Core.List.{List, [], _++_}
 use lib.ListN.{length, getD}
 use lib.Seq.{slice, slice-empty}
 use lib.Dec.{T, lit≤, lit<}
@@ -19,8 +18,7 @@ use Rattle.index.specs.declared.Index.{Index}
 use Rattle.index.specs.Buckets.{buckets, leastWidth, upFrom, keep, indexOf}
 use Rattle.index.specs.Listing.{Laid, Bounded, Fair, covers, entered}
 use Rattle.index.proofs.BucketOrder.{larger-finite}
-use Rattle.index.proofs.Steps.{dich}
-use Rattle.index.proofs.Flat.{upFrom-mem}
+use Rattle.index.proofs.Flat.{upFrom-mem, keep-same}
 
 least-fin : Finite least
 unfolding fits
@@ -60,15 +58,6 @@ unfolding entered upFrom keep
 none-laid ix standing entries starts t z = record { table = t; first = z 0; rise = λ b c h l. rw (z b) (omega arith); within = λ b h. rw (z b) (omega arith); block = λ b h. rw (z b, z (b + 1)) (slice-empty 0 entries); room = omega arith }
 
 -- ---- strips after the first n
-keep-same : (f g : ℕ → Bool) (is : List ℕ) → ((i : ℕ) → List·Memᴰ i is → f i ≡ g i) → keep f is ≡ keep g is
-unfolding keep
-keep-same f g [] h = refl
-keep-same f g (i ∷ is) h = go (keep-same f g is (λ j m. h j (List·Memᴰ·tail m))) (h i (List·Memᴰ·head refl)) (dich (f i))
-  where
-    go : keep f is ≡ keep g is → f i ≡ g i → (f i ≡ true) ⊎ (f i ≡ false) → keep f (i ∷ is) ≡ keep g (i ∷ is)
-    go below e (inl t) = let u : g i ≡ true = sym e ∙ t in rw (t, u, keep, below)
-    go below e (inr t) = let u : g i ≡ false = sym e ∙ t in rw (t, u, keep, below)
-
 pub laid-after : (ix : Index) (s s' : List Float) (n : ℕ) (entries starts : List ℕ) → Laid ix s n entries starts → ((i : ℕ) → i < n → stripAt s i ≡ stripAt s' i) → 6 * n ≤ length s' → Laid ix s' n entries starts
 unfolding entered
 laid-after ix s s' n entries starts L f r =

@@ -7,22 +7,19 @@ use mathlib.Core.Logic.{_⊎_, inl, inr}
 use mathlib.Core.Bool.{Bool, true, false, _&&_, _||_}
 use mathlib.Core.List.{List, [], _∷_, _++_, map, flatMap, append-assoc}
 use lib.ListN.{length, getD, set, length-set}
-use lib.Dec.{ltb, eqb}
+use lib.Dec.{ltb}
 use lib.Ieee.{Float, lt}
 use Rattle.trapezoid.specs.declared.Trapezoid.{Trapezoid}
 use Rattle.index.specs.declared.Index.{Index}
 use Rattle.index.specs.declared.Interval.{Interval}
 use Rattle.index.specs.declared.Moving.{Moving}
 use Rattle.numbers.specs.Numbers.{smaller, larger}
+use Rattle.numbers.proofs.Truth.{either}
 use Rattle.index.specs.declared.Meeting.{Meeting}
 use Rattle.index.specs.declared.Meeting.the-variants.{Apart, Forbidden}
 use Rattle.index.specs.Buckets.{buckets, upFrom, keep, bucketIn}
 use Rattle.index.specs.Intervals.{countsOf, intervalIn}
 use Rattle.index.specs.Listing.{heightsOf, meetingAt, pairOf, Collected, collected, push, pushAll, metIn, entryOf}
-
-pub dich : (b : Bool) → (b ≡ true) ⊎ (b ≡ false)
-dich true = inl refl
-dich false = inr refl
 
 pub push-true : (r : List Float) (n : ℕ) (i : Interval) → ltb n (length r / 2) ≡ true → push (collected r n) i ≡ collected (set (set r (2 * n) (i .from)) (2 * n + 1) (i .to)) (n + 1)
 unfolding push
@@ -46,7 +43,7 @@ pushAll-append h [] js = refl
 pushAll-append h (i ∷ is) js = pushAll-append (push h i) is js
 
 pub length-push : (h : Collected) (i : Interval) → length (push h i .room) ≡ length (h .room)
-length-push h i = go (dich (ltb (h .n) (length (h .room) / 2)))
+length-push h i = go (either (ltb (h .n) (length (h .room) / 2)))
   where
     go : (ltb (h .n) (length (h .room) / 2) ≡ true) ⊎ (ltb (h .n) (length (h .room) / 2) ≡ false) → length (push h i .room) ≡ length (h .room)
     go (inl e) = ap (λ (k : Collected). length (k .room)) (push-true (h .room) (h .n) i e) ∙ simp length-set
@@ -123,37 +120,6 @@ entry-true ix m first b p e = rw (e, entryOf)
 pub entry-false : (ix : Index) (m : Moving) (first b : ℕ) (p : Trapezoid) → metIn ix first b p ≡ false → entryOf ix m first b p ≡ []
 unfolding entryOf
 entry-false ix m first b p e = rw (e, entryOf)
-
-pub lt-ltb : (a b : ℕ) → a < b → ltb a b ≡ true
-lt-ltb a b h = go (ltb a b) (lib.Dec.lt→ltb a b h)
-  where
-    go : (t : Bool) → lib.Dec.T t → t ≡ true
-    go true x = refl
-    go false x = absurd x
-
-pub ge-ltb : (a b : ℕ) → b ≤ a → ltb a b ≡ false
-ge-ltb a b h = go (ltb a b) (lib.Dec.ltb→lt a b)
-  where
-    no : a < b → ⊥
-    no l = omega arith
-
-    go : (t : Bool) → (lib.Dec.T t → a < b) → t ≡ false
-    go true x = absurd (no (x tt))
-    go false x = refl
-
-pub eqb-yes : (a b : ℕ) → a ≡ b → eqb a b ≡ true
-eqb-yes a b h = go (eqb a b) (lib.Ieee.Fits.eq→eqb h)
-  where
-    go : (t : Bool) → lib.Dec.T t → t ≡ true
-    go true x = refl
-    go false x = absurd x
-
-pub eqb-no : (a b : ℕ) → (a ≡ b → ⊥) → eqb a b ≡ false
-eqb-no a b h = go (eqb a b) (lib.Dec.eqb→eq a b)
-  where
-    go : (t : Bool) → (lib.Dec.T t → a ≡ b) → t ≡ false
-    go true x = absurd (h (x tt))
-    go false x = refl
 
 pub bucket-top : (ix : Index) (x : Float) → bucketIn ix x ≤ 511
 unfolding bucketIn

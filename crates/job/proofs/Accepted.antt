@@ -12,6 +12,7 @@ use borrow.Author.Tests.{eqb-true, leb-true}
 use Rattle.numbers.specs.Numbers.{fromInt, _⊘_, smaller, larger}
 use Rattle.numbers.proofs.Doubles.{Small}
 use Rattle.numbers.proofs.Literals.{milli}
+use Rattle.numbers.proofs.Truth.{zero-not-one}
 use Rattle.bits.specs.declared.Refusal.{Refusal}
 use Rattle.bits.specs.declared.Refusal.the-variants.{UnknownVersion, TrailingData, TooManyCopies, TooManyColumns}
 use Rattle.bits.specs.Reading.{Read, ok, bad, Reader, after, _>>=_, _>>_, give, unless, bits}
@@ -74,13 +75,10 @@ pub record Kept (bytes : List ℕ) (j : Job) : Type 0 where
   pub copies : j .copies ≤ 4096
   pub columns : lt (fromInt 1_000_000) (widthOf (j .sheet) ⊘ j .header .resolution) ≡ false
 
-never : _≡_ {A = ℕ} 0 1 → ⊥
-never e = omega arith
-
 not-accepted : {k : Refusal} {j : Job} → refused k ≡ accepted j → ⊥
-not-accepted e = never (cc)
+not-accepted e = zero-not-one (cc)
 
-same-job : {i j : Job} → accepted i ≡ accepted j → i ≡ j
+pub same-job : {i j : Job} → accepted i ≡ accepted j → i ≡ j
 same-job e = cc
 
 end-in : (bytes : List ℕ) (p copies : ℕ) (w r : Float) (i j : Job) → passed (judgeEnd bytes p copies w r) i ≡ accepted j → (i ≡ j) × (copies ≤ 4096) × (lt (fromInt 1_000_000) (w ⊘ r) ≡ false)

@@ -8,7 +8,6 @@ use lib.IntN.{pos, negsuc}
 use mathlib.Core.List.{List}
 use lib.Ieee.{Float, ofInt, div}
 use borrow.Author.Tests.{eq-eqb, ne-eqb, lt-ltb, le-ltb}
-use Rattle.numbers.proofs.Rounding.{order}
 use Rattle.bits.specs.declared.Refusal.{Refusal}
 use Rattle.bits.specs.declared.Refusal.the-variants.{Truncated, UnknownVersion}
 use Rattle.bits.specs.Reading.{Read, ok, bad, after, bits}

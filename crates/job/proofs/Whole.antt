@@ -10,6 +10,7 @@ use lib.Dec.{eqb}
 use lib.Ieee.{Float, nan, inf, lt}
 use borrow.Author.Tests.{le-ltb, lt-ltb, le-leb, lt-leb}
 use Rattle.numbers.specs.Numbers.{_⊖_, _⊘_, fromInt, smaller, larger}
+use Rattle.numbers.proofs.Truth.{zero-not-one}
 use Rattle.bits.specs.declared.Refusal.{Refusal}
 use Rattle.bits.specs.declared.Refusal.the-variants.{Truncated, TrailingData, TooManyCopies, TooManyColumns}
 use Rattle.bits.specs.Bits.{fieldAt}
@@ -28,9 +29,6 @@ use Rattle.kinds.specs.Kinds.{Kind, someKinds, copiesOf}
 use Rattle.job.specs.Jobs.{Job, aHeader, aJob, ended, left, right, widthOf, judgeEnd, Answer, accepted, refused, passed, judged, readJob}
 
 -- ---- the end
-never : _≡_ {A = ℕ} 0 1 → ⊥
-never e = omega arith
-
 module _ (bytes : List ℕ) (p : ℕ) where
   pub ended-more : (p + 7) / 8 < length bytes → false ≡ ended bytes p
   unfolding ended
@@ -66,7 +64,7 @@ module _ (bytes : List ℕ) (p : ℕ) where
     ended-never e =
         let s : _≡_ {A = Read ℕ} (bad Truncated) (ok (fieldAt bytes p (8 * length bytes - p) 0) (p + (8 * ((p + 7) / 8) - p))) = sym e ∙ in-bits in
         let z : _≡_ {A = ℕ} 0 1 = cc in
-        absurd (never z)
+        absurd (zero-not-one z)
 
 -- ---- the width
 pub left-more : (xs : List Float) (i : ℕ) (x : Float) → x ≡ left xs i → smaller x (getD xs (2 * i) nan) ≡ left xs (i + 1)

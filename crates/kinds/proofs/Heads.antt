@@ -8,7 +8,7 @@ use lib.IntN.{pos, negsuc}
 use mathlib.Core.List.{List}
 use lib.Ieee.{Float, ofInt, div}
 use borrow.Author.Tests.{eq-eqb, ne-eqb, lt-ltb, le-ltb}
-use Rattle.numbers.proofs.Rounding.{order}
+use Rattle.numbers.proofs.Truth.{below-or-not}
 use Rattle.bits.specs.declared.Refusal.{Refusal}
 use Rattle.bits.specs.declared.Refusal.the-variants.{Truncated, UnknownVersion}
 use Rattle.bits.specs.Reading.{Read, ok, bad, after, bits}
@@ -46,7 +46,7 @@ module _ (bytes : List ℕ) (p : ℕ) where
 
 -- ---- priorities
 same-test : (x y a b : ℕ) → (x < y → a < b) → (y ≤ x → b ≤ a) → ltb x y ≡ ltb a b
-same-test x y a b f g = go (order x y)
+same-test x y a b f g = go (below-or-not x y)
   where
     go : (x < y) ⊎ (y ≤ x) → ltb x y ≡ ltb a b
     go (inl h) = lt-ltb x y h ∙ sym (lt-ltb a b (f h))
@@ -62,7 +62,7 @@ signed-neg b h = rw (le-ltb b 2147483648 h, signed)
 
 pub below-keys : (a b : ℕ) → a < 4294967296 → b < 4294967296 → ltb ((a + 2147483648) % 4294967296) ((b + 2147483648) % 4294967296) ≡ lower (signed a) (signed b)
 unfolding lower
-below-keys a b m n = go (order a 2147483648) (order b 2147483648)
+below-keys a b m n = go (below-or-not a 2147483648) (below-or-not b 2147483648)
   where
     go : (a < 2147483648) ⊎ (2147483648 ≤ a) → (b < 2147483648) ⊎ (2147483648 ≤ b) → ltb ((a + 2147483648) % 4294967296) ((b + 2147483648) % 4294967296) ≡ lower (signed a) (signed b)
     go (inl h) (inl k) = rw (signed-pos a h, signed-pos b k) (same-test ((a + 2147483648) % 4294967296) ((b + 2147483648) % 4294967296) a b (λ l. omega arith) (λ l. omega arith))

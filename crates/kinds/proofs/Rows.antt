@@ -7,9 +7,9 @@ use mathlib.Core.List.{List, [], _∷_, _++_}
 use lib.ListN.{length, take, set, getD, length-set}
 use lib.Seq.{getD-set-same, getD-set-other, take-set-le}
 use lib.Ieee.{Float, nan}
+use Rattle.numbers.proofs.Truth.{below-or-not, not-below-zero}
 use Rattle.bits.specs.declared.Refusal.{Refusal}
 use Rattle.bits.specs.Reading.{Read, ok, bad, after}
-use Rattle.numbers.proofs.Rounding.{order}
 use Rattle.kinds.specs.declared.KindHead.{KindHead}
 use Rattle.kinds.specs.Kinds.{Orientation, Kind, kindOf, aKind, someKinds}
 use Rattle.kinds.specs.Kinds.{copiesOf}
@@ -115,9 +115,6 @@ with-quantity : (bytes P : List ℕ) (i : ℕ) (h : KindHead) → kindWith bytes
 unfolding kindWith kindOf
 with-quantity bytes P i h = refl
 
-none : (j : ℕ) → j < 0 → ⊥
-none j h = omega arith
-
 no-kinds : (f : ℕ → Kind) → tabulate f 0 ≡ []
 unfolding tabulate
 no-kinds f = refl
@@ -163,7 +160,7 @@ module _ (bytes : List ℕ) (at n : ℕ) (R₀ : List ℕ) (A₀ : List Float) (
       record {
         same = ap (λ (k : ℕ). someKinds k [] bytes at) a ∙ ap (λ (ks : List Kind). someKinds (n - 0) ks bytes at) (sym (no-kinds (kindAt bytes R₀ A₀ P₀)));
         total = no-copies (kindAt bytes R₀ A₀ P₀);
-        turns = λ j h. absurd (none j h);
+        turns = λ j h. absurd (not-below-zero j h);
         few = omega arith;
         place = omega arith;
         inside = omega arith;
@@ -193,7 +190,7 @@ module _ (bytes : List ℕ) (at n : ℕ) (R₀ : List ℕ) (A₀ : List Float) (
           record {
             same = r .same ∙ kinds-step bytes (tabulate (kindAt bytes R A P) i) n i p (m .read) l ∙ ap (λ (ks : List Kind). someKinds (n - (i + 1)) ks bytes q) (sym more);
             total = ap (λ (c : ℕ). c + h .quantity) (r .total) ∙ ap (λ (x : ℕ). copiesOf (tabulate (kindAt bytes R A P) i) + x) (sym (with-quantity bytes P′ i h)) ∙ sym (copies-more (tabulate (kindAt bytes R A P) i) (kindWith bytes P′ i h)) ∙ ap copiesOf (sym more);
-            turns = λ j k. turns-more j (order j i) k;
+            turns = λ j k. turns-more j (below-or-not j i) k;
             few = omega (arith, r .few, m .quantity);
             place = omega (arith, r .place, m .place);
             inside = omega arith;

@@ -4,11 +4,11 @@ use Prim.Native.Nat.{ℕ, zero, suc, _+_, _-_, _*_, _≤_, _<_}
 use native.Mathlib.Omega.{arith}
 use native.Mathlib.Numerals.{add-one}
 use mathlib.Core.Logic.{_⊎_, inl, inr}
-use Rattle.numbers.proofs.Rounding.{order}
 use mathlib.Core.List.{List, [], _∷_, _++_}
 use lib.ListN.{length, take, set, getD, length-set, length-append, List·getD-append}
 use lib.Seq.{getD-at, getD-take, getD-set-same, getD-set-other, take-take, take-set-le}
 use lib.Ieee.{Float, nan}
+use Rattle.numbers.proofs.Truth.{below-or-not}
 use Rattle.bits.specs.declared.Refusal.{Refusal}
 use Rattle.bits.specs.Reading.{Read, ok, bad, after}
 use Rattle.kinds.specs.declared.KindHead.{KindHead}
@@ -168,7 +168,7 @@ module _ {A : Type 0} where
     where
       none : (i : ℕ) → i < 0 → ⊥
       none i h = omega arith
-  tabulate-at f (suc n) i d h = go (λ l. tabulate-at f n i d l) (order i n)
+  tabulate-at f (suc n) i d h = go (λ l. tabulate-at f n i d l) (below-or-not i n)
     where
       go : (i < n → getD (tabulate f n) i d ≡ f i) → (i < n) ⊎ (n ≤ i) → getD (tabulate f n ++ (f n ∷ [])) i d ≡ f i
       go r (inl l) = List·getD-append (tabulate f n) (f n ∷ []) d i (subst (λ (m : ℕ). i < m) (sym (length-tabulate f n)) l) ∙ r l

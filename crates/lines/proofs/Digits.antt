@@ -1,16 +1,13 @@
 -- Decimal and hex digits, one after the other. Assumes nothing.
 use Prim.Native.Nat.{ℕ, zero, suc, _+_, _-_, _*_, _/_, _%_, _^_, _≤_, _<_}
-use mathlib.Core.Path.{_≡_, refl, sym, ap, _∙_, subst}
+use mathlib.Core.Path.{_≡_, refl, sym, ap, _∙_}
 use mathlib.Core.Logic.{inl, inr}
-use mathlib.Core.Bool.{Bool, true, false, not, true≢false}
 use mathlib.Core.List.{List, [], _∷_, _++_}
 use native.Mathlib.Omega.{arith}
 use lib.ListN.{length, length-append}
-use lib.Dec.{T}
-use lib.IntN.{ℤ}
-use lib.Ieee.{Float, nan, inf, fin, binary64, eq, isNan, toBits, up, down}
-use borrow.Author.Tests.{lt-ltb, le-ltb, eq-eqb}
-use Rattle.numbers.proofs.Rounding.{order}
+use lib.Ieee.{Float, binary64, toBits}
+use borrow.Author.Tests.{lt-ltb, le-ltb}
+use Rattle.numbers.proofs.Truth.{below-or-not}
 use Rattle.nesting.specs.Text.{decimalUpTo, decimal, hexDigit, hexUpTo, hex}
 
 up-small : (d n : ℕ) → n < 10 → decimalUpTo (suc d) n ≡ (48 + n) ∷ []
@@ -41,7 +38,7 @@ ten-most = refl
 -- more digits than there are change nothing
 enough : (d n : ℕ) → n < ten (suc d) → decimalUpTo (suc d) n ≡ decimalUpTo (suc (suc d)) n
 enough zero n h = let e = ten-one in up-small 0 n (omega arith) ∙ sym (up-small 1 n (omega arith))
-enough (suc d) n h = elim (order n 10) [
+enough (suc d) n h = elim (below-or-not n 10) [
   | inl l ↦ up-small (suc d) n l ∙ sym (up-small (suc (suc d)) n l)
   | inr l ↦
       let e = ten-suc (suc d) in
@@ -61,7 +58,7 @@ decimal-large n f h =
 up-length : (d n : ℕ) → length (decimalUpTo d n) ≤ d
 unfolding decimalUpTo
 up-length zero n = omega arith
-up-length (suc d) n = elim (order n 10) [
+up-length (suc d) n = elim (below-or-not n 10) [
   | inl l ↦ rw (up-small d n l) (omega arith)
   | inr l ↦ rw (up-large d n l, length-append (decimalUpTo d (n / 10)) ((48 + n % 10) ∷ [])) (let a = up-length d (n / 10) in omega arith)
 ]
@@ -107,27 +104,3 @@ up-hex-length (suc d) n = let a = up-hex-length d (n / 16) in let b = length-app
 pub hex-length : (x : Float) → length (hex x) ≡ 16
 unfolding hex
 hex-length x = up-hex-length 16 (toBits binary64 x)
-
--- ---- a double's bits
-
-pub not-nan : (x : Float) → eq x x ≡ true → T (not (isNan x))
-unfolding eq isNan
-not-nan nan e = subst T (sym e) tt
-not-nan (inf s) e = tt
-not-nan (fin s m k) e = tt
-
-inf-self : (s : Bool) → eq (inf s) (inf s) ≡ true
-unfolding eq
-inf-self true = refl
-inf-self false = refl
-
-fin-self : (s : Bool) (m : ℕ) (k : ℤ) → eq (fin s m k) (fin s m k) ≡ true
-unfolding eq
-fin-self true m k = rw (eq-eqb (m * up k * down k) (m * up k * down k) refl)
-fin-self false m k = rw (eq-eqb (m * up k * down k) (m * up k * down k) refl)
-
-pub nan-bits : (x : Float) → eq x x ≡ false → 9221120237041090560 ≡ toBits binary64 x
-unfolding toBits
-nan-bits nan e = refl
-nan-bits (inf s) e = absurd (true≢false (sym (inf-self s) ∙ e))
-nan-bits (fin s m k) e = absurd (true≢false (sym (fin-self s m k) ∙ e))

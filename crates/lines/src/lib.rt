@@ -5,7 +5,6 @@ ghost use Prim.Native.Nat.{_+_, _≤_, _<_};
 ghost use mathlib.Core.Path.{_≡_};
 ghost use mathlib.Core.List.{[], _∷_};
 ghost use lib.ListN.{length};
-ghost use lib.Ieee.{binary64, toBits};
 ghost use Rattle.nesting.specs.Text.{decimal, hexDigit, hexUpTo, hex, line};
 ghost use Rattle.lines.specs.Writing.{Wrote};
 
@@ -76,16 +75,6 @@ fn put_hex(out: &mut [u8], at: usize, d: usize, n: u64) -> usize
     put_byte(out, end, hex_digit(n % 16))
 }
 
-// The bits of x; of all NaNs' the pattern that `toBits` names.
-fn bits_of(x: f64) -> u64
-    ensures { λ r. ⌜ r ≡ toBits binary64 x ⌝ }
-{
-    if x == x {
-        return f64::to_bits(x);
-    }
-    0x7ff8_0000_0000_0000
-}
-
 // A blank and a count.
 pub fn put_count(out: &mut [u8], at: usize, n: usize) -> usize
     requires { ⌜ at + 21 ≤ length (now out) ⌝ }
@@ -101,7 +90,7 @@ pub fn put_double(out: &mut [u8], at: usize, x: f64) -> usize
     ensures { λ r. ⌜ Wrote (now (out .entry)) at (32 ∷ hex x) (now (out .exit)) r ⌝ }
 {
     let end = put_byte(out, at, 32);
-    put_hex(out, end, 16, bits_of(x))
+    put_hex(out, end, 16, numbers::bits_of(x))
 }
 
 // A word and a count.

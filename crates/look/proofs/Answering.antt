@@ -8,16 +8,18 @@ use mathlib.Core.List.{List, [], _∷_, _++_, List·Memᴰ, List·Permᴰ, Perm�
 use lib.ListN.{length, getD}
 use lib.Dec.{ltb, lit≤}
 use lib.Ieee.{Float}
+use borrow.Author.Tests.{lt-ltb, le-ltb}
 use Rattle.numbers.proofs.Doubles.{k, Finite}
+use Rattle.numbers.proofs.Truth.{below-or-not}
 use Rattle.trapezoid.specs.Strip.{stripAt, capacity}
 use Rattle.index.specs.declared.Interval.{Interval}
 use Rattle.index.specs.declared.Index.{Index}
 use Rattle.index.specs.Intervals.{countedOf}
 use Rattle.index.specs.Listing.{movingOf, Collected, collected, pushAll, intervals, listed, Usable, Laid, Bounded}
-use Rattle.index.proofs.Steps.{pushAll-append, kept-length, lt-ltb, ge-ltb}
+use Rattle.index.proofs.Steps.{pushAll-append, kept-length}
 use Rattle.index.proofs.Flat.{perm-length, perm-mem, perm-append}
 use Rattle.index.proofs.Listed.{listed-perm, laid-usable}
-use Rattle.index.proofs.Collecting.{push-fits, push-over, lt-or-ge}
+use Rattle.index.proofs.Collecting.{push-fits, push-over}
 use Rattle.height.specs.declared.Look.{Look}
 use Rattle.height.specs.Smallest.{heightOf}
 use Rattle.height.specs.Raising.{FiniteEnds}
@@ -34,11 +36,11 @@ answer-over cap yl yh is h = rw (lt-ltb cap (length is) h, answerOf)
 
 answer-fits : (cap : ℕ) (yl yh : Float) (is : List Interval) → length is ≤ cap → answerOf cap yl yh is ≡ Seen (heightOf yl yh is)
 unfolding answerOf
-answer-fits cap yl yh is h = rw (ge-ltb cap (length is) h, answerOf)
+answer-fits cap yl yh is h = rw (le-ltb cap (length is) h, answerOf)
 
 module _ (r r' : List Float) (n : ℕ) (l is : List Interval) (E : collected r' n ≡ pushAll (collected r 0) l) (P : List·Permᴰ l is) where
   counts-right : n ≤ length r / 2 → length l ≤ length r / 2
-  counts-right h = go (lt-or-ge (length r / 2) (length l))
+  counts-right h = go (below-or-not (length r / 2) (length l))
     where
       no : length r / 2 < length l → n ≡ length r / 2 + 1
       no g = ap (λ (k : Collected). k .n) E ∙ push-over l r 0 (omega arith) (omega arith)
@@ -48,7 +50,7 @@ module _ (r r' : List Float) (n : ℕ) (l is : List Interval) (E : collected r' 
       go (inr g) = g
 
   over : length r / 2 < n → length r / 2 < length l
-  over h = go (lt-or-ge (length r / 2) (length l))
+  over h = go (below-or-not (length r / 2) (length l))
     where
       fits : length l ≤ length r / 2 → n ≡ length l
       fits g = let e : 0 + length l ≡ length l = omega arith in ap (λ (k : Collected). k .n) E ∙ push-fits l r 0 (omega arith) .0 ∙ e

@@ -9,16 +9,16 @@ use lib.Dec.{T}
 use lib.Ieee.{Float, binary64, fits, lt, le}
 use Rattle.numbers.proofs.Doubles.{k, Finite, finite}
 use Rattle.numbers.proofs.RoundDown.{le-real}
+use Rattle.numbers.proofs.Truth.{either, clash, below-or-not}
 use Rattle.index.specs.declared.Interval.{Interval}
 use Rattle.index.specs.Buckets.{keep}
 use Rattle.index.specs.Intervals.{forbiddenOf, countsOf, countedOf}
 use Rattle.index.specs.Listing.{Bounded}
-use Rattle.index.proofs.Steps.{dich}
 use Rattle.height.specs.declared.Look.{Look}
 use Rattle.height.specs.declared.Look.the-variants.{Free, Full}
 use Rattle.height.specs.Smallest.{inside, outside, heightOf}
 use Rattle.height.specs.Raising.{FiniteEnd, FiniteEnds}
-use Rattle.height.proofs.SmallestHeight.{clash, Real, real-of, lt-is-true, lt-is-false, le-is-true, is-lt, is-le, inside-key, outside-of, of-outside, keep-mem, mem-keep, Smallest, NoneFree, height-free, height-full, free-height, full-height}
+use Rattle.height.proofs.SmallestHeight.{Real, real-of, lt-is-true, lt-is-false, le-is-true, is-lt, is-le, inside-key, outside-of, of-outside, keep-mem, mem-keep, Smallest, NoneFree, height-free, height-full, free-height, full-height, real-end}
 use Rattle.look.specs.Looking.{countedIn}
 use Rattle.look.specs.Ready.{BoundedStrips, forbiddenIn}
 use Rattle.look.proofs.IntervalEnds.{forbidden-finite}
@@ -47,13 +47,13 @@ module _ (yl yh : Float) (L : Finite yl) (H : Finite yh) where
       go (Free h) e =
           let S = height-free yl yh is L H F h e in
           let R = real-of (finite (S .number)) in
-          sym (free-height yl yh js L H G h (record { number = S .number; from = S .from; upto = S .upto; out = to h R (S .from) (S .upto) (S .out); first = λ z Z a c. first h S z Z a c (Rattle.height.proofs.SmallestHeight.lt-or-ge (k yh) (k z)) }))
+          sym (free-height yl yh js L H G h (record { number = S .number; from = S .from; upto = S .upto; out = to h R (S .from) (S .upto) (S .out); first = λ z Z a c. first h S z Z a c (below-or-not (k yh) (k z)) }))
 
   -- an interval that does not count holds no height from y-low to y-high
   uncounted : (i : Interval) → FiniteEnd i → countsOf yl yh i ≡ false → (z : Float) → Real z → k yl ≤ k z → k z ≤ k yh → inside z i ≡ true → ⊥
   unfolding countsOf
   uncounted i I e z Z a b t =
-      let q = inside-key Z I t in
+      let q = inside-key Z (real-end I) t in
       let x = is-lt (real-of (I .from)) (real-of (I .to)) (omega (arith, q .0, q .1)) in
       let y = is-lt (real-of L) (real-of (I .to)) (omega (arith, q .1)) in
       let w = is-lt (real-of (I .from)) (real-of H) (omega (arith, q .0)) in
@@ -61,7 +61,7 @@ module _ (yl yh : Float) (L : Finite yl) (H : Finite yh) where
 
   pub keep-height : (is : List Interval) → FiniteEnds is → heightOf yl yh (keep (countsOf yl yh) is) ≡ heightOf yl yh is
   keep-height is F = same-height (keep (countsOf yl yh) is) is (λ i m. F i (keep-mem (countsOf yl yh) i is m .0)) F
-      (λ z Z a b c. of-outside is z (λ i m. at i m z Z a b c (dich (countsOf yl yh i)) (dich (inside z i))))
+      (λ z Z a b c. of-outside is z (λ i m. at i m z Z a b c (either (countsOf yl yh i)) (either (inside z i))))
       (λ z Z a b c. outside-within (keep (countsOf yl yh) is) is (λ i m. keep-mem (countsOf yl yh) i is m .0) z c)
     where
       at : (i : Interval) → List·Memᴰ i is → (z : Float) → Real z → k yl ≤ k z → k z ≤ k yh → outside (keep (countsOf yl yh) is) z ≡ true → (countsOf yl yh i ≡ true) ⊎ (countsOf yl yh i ≡ false) → (inside z i ≡ true) ⊎ (inside z i ≡ false) → inside z i ≡ false

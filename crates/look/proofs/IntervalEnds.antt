@@ -1,15 +1,15 @@
 -- The ends of the forbidden intervals of bounded strips are finite. Assumes nothing.
 use Prim.Native.Nat.{ℕ, zero, suc, _+_, _*_, _≤_, _<_}
 use native.Mathlib.Omega.{arith}
-use mathlib.Core.Path.{_≡_, refl, sym, ap, _∙_, subst}
+use mathlib.Core.Path.{_≡_, sym, subst}
 use mathlib.Core.Logic.{_⊎_, inl, inr}
 use mathlib.Core.Bool.{Bool, true, false, not, cond}
-use mathlib.Core.List.{List, [], _∷_, _++_, flatMap, List·Memᴰ, List·Memᴰ·head, List·Memᴰ·tail, List·Memᴰ·cases-cons, List·Memᴰ·not-nil, List·Memᴰ·append-cases}
+use mathlib.Core.List.{List, [], _∷_, _++_, flatMap, List·Memᴰ, List·Memᴰ·cases-cons, List·Memᴰ·not-nil}
 use lib.Dec.{T, lit≤}
-use lib.Ieee.{Float, binary64, lt, le}
+use lib.Ieee.{Float, lt, le}
 use Rattle.numbers.specs.Numbers.{_⊕_, _⊖_, _⊘_, smaller, larger}
-use Rattle.numbers.proofs.Operations.{num-or-zero, minus-zero-key}
-use Rattle.numbers.proofs.Doubles.{k, o, u, Finite, Number, Upto, le-no, add-upto, sub-upto, sub-mono, sub-pos, sub-nonneg, div-share, share-upto}
+use Rattle.numbers.proofs.Doubles.{k, o, u, Upto, le-no, add-upto, sub-upto, sub-mono, sub-pos, sub-nonneg, div-share, share-upto, above-zero}
+use Rattle.numbers.proofs.Truth.{either}
 use Rattle.trapezoid.specs.declared.Trapezoid.{Trapezoid}
 use Rattle.trapezoid.specs.declared.Heights.{Heights}
 use Rattle.trapezoid.specs.Strip.{stripAt, capacity, heightsAt, between}
@@ -18,8 +18,7 @@ use Rattle.index.specs.declared.Meeting.the-variants.{Apart, Forbidden}
 use Rattle.index.specs.Buckets.{upFrom}
 use Rattle.index.specs.Intervals.{intervalOf, meetingOf, intervalIn, forbiddenOf}
 use Rattle.index.specs.Listing.{movingOf, Bounded}
-use Rattle.index.proofs.Steps.{dich}
-use Rattle.index.proofs.Flat.{upFrom-mem}
+use Rattle.index.proofs.Flat.{upFrom-mem, flatMap-mem}
 use Rattle.height.specs.Raising.{FiniteEnd, FiniteEnds}
 use Rattle.look.specs.Ready.{BoundedStrip, BoundedStrips}
 
@@ -53,16 +52,6 @@ larger-bounded {n} {x} {y} X Y = go (lt x y)
     go : (t : Bool) → Bounded n (cond t y x)
     go true = Y
     go false = X
-
--- above zero there is no minus zero
-pub above-zero : {x : Float} → Finite x → o < k x → Number x
-above-zero {x} X h = elim (num-or-zero binary64 x X) [
-  | inl n ↦ n
-  | inr z ↦ absurd (no (k x) (ap k (z .1) ∙ minus-zero-key binary64 (z .0)) h)
-]
-  where
-    no : (a : ℕ) → a ≡ o → o < a → ⊥
-    no a e l = omega arith
 
 -- a side between its ends
 between-bounded : {x0 x1 a b x : Float} → Bounded 1000000 x0 → Bounded 1000000 x1 → Bounded 1000000 a → Bounded 1000000 b → Bounded 7000000 x → k x0 < k x → k x < k x1
@@ -123,7 +112,7 @@ module _ (q : Trapezoid) (x : Float) (Q : BoundedStrip q) (X : Bounded 3000000 x
       }
 
   pair-finite : (p : Trapezoid) → BoundedStrip p → FiniteEnds (intervalIn (meetingOf q x p))
-  pair-finite p P i m = go (dich (lt a b))
+  pair-finite p P i m = go (either (lt a b))
     where
       a : Float
       a = larger (p .x0) (q .x0 ⊕ x)
@@ -153,18 +142,6 @@ module _ (q : Trapezoid) (x : Float) (Q : BoundedStrip q) (X : Bounded 3000000 x
       go : (lt a b ≡ true) ⊎ (lt a b ≡ false) → FiniteEnd i
       go (inl e) = one (List·Memᴰ·cases-cons (rw (over e) at m))
       go (inr e) = absurd (List·Memᴰ·not-nil (rw (none e) at m))
-
-flatMap-mem : {A B : Type 0} (f : A → List B) (b : B) (zs : List A) → List·Memᴰ b (flatMap f zs) → (a : A) × List·Memᴰ a zs × List·Memᴰ b (f a)
-unfolding flatMap
-flatMap-mem f b [] m = absurd (List·Memᴰ·not-nil m)
-flatMap-mem f b (z ∷ zs) m = go (flatMap-mem f b zs) (List·Memᴰ·append-cases (f z) m)
-  where
-    tailed : ((a : _) × List·Memᴰ a zs × List·Memᴰ b (f a)) → (a : _) × List·Memᴰ a (z ∷ zs) × List·Memᴰ b (f a)
-    tailed h = (h .0, List·Memᴰ·tail (h .1), h .2)
-
-    go : (List·Memᴰ b (flatMap f zs) → (a : _) × List·Memᴰ a zs × List·Memᴰ b (f a)) → List·Memᴰ b (f z) ⊎ List·Memᴰ b (flatMap f zs) → (a : _) × List·Memᴰ a (z ∷ zs) × List·Memᴰ b (f a)
-    go below (inl n) = (z, List·Memᴰ·head refl, n)
-    go below (inr n) = tailed (below n)
 
 pub forbidden-finite : (standing moving : List Float) (x : Float) → BoundedStrips standing → BoundedStrips moving → Bounded 3000000 x → FiniteEnds (forbiddenOf standing moving x)
 unfolding forbiddenOf

@@ -11,7 +11,8 @@ use Rattle.numbers.specs.Numbers.{_⊕_, _⊖_, _⊗_, _⊘_, posZero, smaller,
 use Rattle.numbers.proofs.Grid.{Grid, add-grid, sub-grid}
 use Rattle.numbers.proofs.Literals.{grid-room}
 use Rattle.numbers.proofs.Ranges.{add-exact, sub-self, zero-num, zero-key}
-use Rattle.numbers.proofs.Doubles.{k, o, u, Finite, Number, Upto, finite, le-no, sub-upto, sub-mono, sub-pos, sub-nonneg, div-share, share-upto, Share}
+use Rattle.numbers.proofs.Doubles.{k, o, u, Finite, Number, Upto, finite, le-no, sub-upto, sub-mono, sub-pos, sub-nonneg, div-share, share-upto, Share, above-zero}
+use Rattle.numbers.proofs.Truth.{either}
 use Rattle.trapezoid.specs.declared.Trapezoid.{Trapezoid}
 use Rattle.trapezoid.specs.declared.Heights.{Heights}
 use Rattle.trapezoid.specs.Strip.{heightsAt, between, movedBy}
@@ -19,9 +20,8 @@ use Rattle.index.specs.declared.Interval.{Interval}
 use Rattle.index.specs.declared.Meeting.the-variants.{Apart, Forbidden}
 use Rattle.index.specs.Intervals.{intervalOf, meetingOf}
 use Rattle.index.specs.Listing.{Bounded}
-use Rattle.index.proofs.Steps.{dich}
 use Rattle.look.specs.Ready.{BoundedStrip}
-use Rattle.look.proofs.IntervalEnds.{widen, above-zero, add-bounded, sub-bounded, larger-bounded, smaller-bounded}
+use Rattle.look.proofs.IntervalEnds.{widen, add-bounded, sub-bounded, larger-bounded, smaller-bounded}
 
 -- x is a multiple of 1 / 1024, of at most n multiples either way, and no minus zero
 pub record OnGrid (n : ℕ) (x : Float) : Type 0 where
@@ -152,7 +152,7 @@ larger-same a = go (lt a a)
     go false = refl
 
 pub level-interval : (p q : Trapezoid) (x : Float) → LevelStrip p → LevelStrip q → Bounded 3000000 x → (i : Interval) → meetingOf q x p ≡ Forbidden i → ExactInterval p q i
-level-interval p q x P Q X i e = go (dich (lt a b))
+level-interval p q x P Q X i e = go (either (lt a b))
   where
     a : Float
     a = larger (p .x0) (q .x0 ⊕ x)

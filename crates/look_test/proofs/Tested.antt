@@ -9,7 +9,7 @@ use lib.ListN.{length, getD, List·getD-eq-default}
 use lib.Dec.{T, lit≤}
 use lib.Ieee.{Float, binary64, nan, fits, le, ofBits, neg}
 use lib.Ieee.Exact.{HasValue}
-use Rattle.numbers.proofs.Truth.{holds}
+use Rattle.numbers.proofs.Truth.{holds, below-or-not}
 use Rattle.numbers.proofs.Ranges.{tested-within}
 use Rattle.trapezoid.specs.Strip.{stripAt, capacity}
 use Rattle.index.specs.declared.Index.{Index}
@@ -36,9 +36,6 @@ pub tested : {x : Float} → T (fits binary64 x) → le (neg million) x ≡ true
 tested {x} f h k = let r = tested-within binary64 1000000 (neg million) million x (low .0) (high .0) f (low .1) (high .1) (holds h) (holds k) (lit≤ tt) in record { fine = r .0; bound = r .1 }
 
 -- ---- rooms
-pub none : (j : ℕ) → j < 0 → ⊥
-none j h = omega arith
-
 pub all-strips : (l : List Float) → ((i : ℕ) → i < length l → Bounded 1000000 (getD l i nan)) → BoundedStrips l
 unfolding stripAt capacity
 all-strips l h = λ i b. record {
@@ -51,7 +48,7 @@ all-strips l h = λ i b. record {
 }
 
 pub one-more : (l : List Float) (i : ℕ) → ((j : ℕ) → j < i → Bounded 1000000 (getD l j nan)) → Bounded 1000000 (getD l i nan) → (j : ℕ) → j < i + 1 → Bounded 1000000 (getD l j nan)
-one-more l i h b j a = go (Rattle.index.proofs.Collecting.lt-or-ge j i)
+one-more l i h b j a = go (below-or-not j i)
   where
     go : (j < i) ⊎ (i ≤ j) → Bounded 1000000 (getD l j nan)
     go (inl q) = h j q
@@ -67,7 +64,7 @@ same-laid ix l n m entries starts e L = subst (λ (k : ℕ). Laid ix l k entries
 
 -- nothing stands past the end of a list
 pub all-zero : (l : List ℕ) → ((b : ℕ) → b < length l → getD l b 0 ≡ 0) → (b : ℕ) → getD l b 0 ≡ 0
-all-zero l h b = go (Rattle.index.proofs.Collecting.lt-or-ge b (length l))
+all-zero l h b = go (below-or-not b (length l))
   where
     go : (b < length l) ⊎ (length l ≤ b) → getD l b 0 ≡ 0
     go (inl a) = h b a

@@ -2,17 +2,9 @@
 use height::Look;
 use look::Answer;
 
-// The bits of x; 0 for a NaN.
-fn bits(x: f64) -> u64 {
-    if x == x {
-        return f64::to_bits(x);
-    }
-    0
-}
-
 fn show_free(h: f64) {
     io::write_all(1, b"free ");
-    io::print_hex(1, bits(h), 16);
+    io::print_hex(1, numbers::bits_of(h), 16);
     io::write_all(1, b"\n");
 }
 

@@ -7,10 +7,10 @@ use mathlib.Core.List.{List}
 use lib.ListN.{length, getD, set, length-set}
 use lib.Seq.{getD-set-same, getD-set-other}
 use lib.Ieee.{Float}
+use Rattle.numbers.proofs.Truth.{below-or-not}
 use Rattle.trapezoid.specs.Strip.{stripAt}
 use Rattle.index.specs.declared.Index.{Index}
 use Rattle.index.specs.Buckets.{bucketIn}
-use Rattle.index.proofs.Collecting.{lt-or-ge}
 use Rattle.marks.specs.NewEntries.{one, newIn}
 use Rattle.marks.proofs.NewIn.{one-inside, one-outside, new-none, new-next}
 
@@ -52,7 +52,7 @@ module _ (lo hi : ℕ) (h : lo ≤ hi) where
 
       nor : lo ≤ b → ⊥
       nor p = omega arith
-  level b (inr a) n = go (lt-or-ge b hi)
+  level b (inr a) n = go (below-or-not b hi)
     where
       go : (b < hi) ⊎ (hi ≤ b) → one lo hi (b + 1) ≡ one lo hi b
       go (inl l) = one-inside lo hi (b + 1) (omega arith) (omega arith) ∙ sym (one-inside lo hi b a (omega arith))
@@ -74,7 +74,7 @@ module _ (lo hi : ℕ) (h : lo ≤ hi) where
       no q = omega arith
 
 pub mark-last : (m : List ℕ) (lo hi first : ℕ) → lo ≤ hi → lo ≤ first → hi < length m → (b : ℕ) → first ≤ b → getD (set m hi (getD m hi 0 + 1)) b 0 + one lo hi (b + 1) ≡ getD m b 0 + one lo hi b
-mark-last m lo hi first h f w b a = go (lt-or-ge b hi) (lt-or-ge hi b)
+mark-last m lo hi first h f w b a = go (below-or-not b hi) (below-or-not hi b)
   where
     not-last : (b < hi) ⊎ (hi < b) → b ≡ hi → ⊥
     not-last (inl l) q = omega arith
@@ -92,7 +92,7 @@ mark-last m lo hi first h f w b a = go (lt-or-ge b hi) (lt-or-ge hi b)
 
 pub mark-both : (m : List ℕ) (lo hi first : ℕ) → lo ≤ hi → first < lo → hi < length m → 0 < getD m (lo - 1) 0
     → (b : ℕ) → first ≤ b → getD (set (set m hi (getD m hi 0 + 1)) (lo - 1) (getD (set m hi (getD m hi 0 + 1)) (lo - 1) 0 - 1)) b 0 + one lo hi (b + 1) ≡ getD m b 0 + one lo hi b
-mark-both m lo hi first h f w p b a = go (lt-or-ge b (lo - 1)) (lt-or-ge (lo - 1) b) (lt-or-ge b hi) (lt-or-ge hi b)
+mark-both m lo hi first h f w p b a = go (below-or-not b (lo - 1)) (below-or-not (lo - 1) b) (below-or-not b hi) (below-or-not hi b)
   where
     n : List ℕ
     n = set m hi (getD m hi 0 + 1)

@@ -8,14 +8,15 @@ use mathlib.Core.Bool.{Bool, true, false, _&&_}
 use mathlib.Core.List.{List, [], _∷_, _++_}
 use lib.ListN.{length, getD, set, length-append}
 use lib.Seq.{getD-set-same, getD-set-other}
-use lib.Dec.{T, leb, leb→le, le→leb}
+use lib.Dec.{T, leb, leb→le}
 use lib.Ieee.{Float}
+use borrow.Author.Tests.{le-leb}
+use Rattle.numbers.proofs.Truth.{either, below-or-not}
 use Rattle.trapezoid.specs.Strip.{stripAt}
 use Rattle.index.specs.declared.Index.{Index}
 use Rattle.index.specs.Buckets.{upFrom, keep, bucketIn}
-use Rattle.index.proofs.Steps.{dich, keep-yes, keep-no, keep-none}
+use Rattle.index.proofs.Steps.{keep-yes, keep-no, keep-none}
 use Rattle.index.proofs.Flat.{keep-append}
-use Rattle.index.proofs.Collecting.{lt-or-ge}
 use Rattle.index.specs.Listing.{covers}
 use Rattle.marks.specs.NewEntries.{one, newIn}
 
@@ -28,17 +29,10 @@ upFrom-append (suc m) n c =
     let z : suc c + m ≡ c + suc m = omega arith in
     ap (λ (k : ℕ). upFrom k c) e ∙ ap (λ (l : List ℕ). c ∷ l) (upFrom-append m n (suc c) ∙ rw z)
 
-pub is-leb : (a b : ℕ) → a ≤ b → leb a b ≡ true
-is-leb a b h = go (leb a b) (le→leb a b h)
-  where
-    go : (t : Bool) → T t → t ≡ true
-    go true x = refl
-    go false x = absurd x
-
 -- ---- the buckets of one strip
 pub one-inside : (lo hi b : ℕ) → lo ≤ b → b ≤ hi → one lo hi b ≡ 1
 unfolding one
-one-inside lo hi b h g = rw (is-leb lo b h, is-leb b hi g, one)
+one-inside lo hi b h g = rw (le-leb lo b h, le-leb b hi g, one)
 
 pub one-outside : (lo hi b : ℕ) → (lo ≤ b → b ≤ hi → ⊥) → one lo hi b ≡ 0
 unfolding one
@@ -79,7 +73,7 @@ module _ (ix : Index) (standing : List Float) where
   one-out i b e = rw (e, one)
 
   pub count-step : (c i b g : ℕ) → g ≡ length (newIn ix standing c i b) → g + one (bucketIn ix (stripAt standing (i + c) .x0)) (bucketIn ix (stripAt standing (i + c) .x1)) b ≡ length (newIn ix standing (c + 1) i b)
-  count-step c i b g h = go (dich (test b (i + c)))
+  count-step c i b g h = go (either (test b (i + c)))
     where
       whole : length (newIn ix standing (c + 1) i b) ≡ length (newIn ix standing c i b) + length (keep (test b) ((i + c) ∷ []))
       whole = ap length (new-split c i b) ∙ length-append (newIn ix standing c i b) (keep (test b) ((i + c) ∷ []))
@@ -113,7 +107,7 @@ new-next ix standing from i lo hi b h x y =
 
 -- ---- a table set to one value from `first` on
 pub cleared-to : (m : List ℕ) (first b v : ℕ) → b < length m → ((d : ℕ) → first ≤ d → d < b → getD m d 0 ≡ v) → (d : ℕ) → first ≤ d → d < b + 1 → getD (set m b v) d 0 ≡ v
-cleared-to m first b v w z d h l = go (lt-or-ge d b)
+cleared-to m first b v w z d h l = go (below-or-not d b)
   where
     early : d < b → d ≡ b → ⊥
     early a q = omega arith

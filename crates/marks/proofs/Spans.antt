@@ -7,10 +7,10 @@ use mathlib.Core.Logic.{_⊎_, inl, inr}
 use mathlib.Core.List.{List}
 use lib.ListN.{length, getD}
 use lib.Ieee.{Float}
+use Rattle.numbers.proofs.Truth.{below-or-not}
 use Rattle.trapezoid.specs.Strip.{stripAt}
 use Rattle.index.specs.declared.Index.{Index}
 use Rattle.index.specs.Buckets.{bucketIn}
-use Rattle.index.proofs.Collecting.{lt-or-ge}
 use Rattle.marks.specs.NewEntries.{newIn, Within, Kept}
 use Rattle.marks.proofs.NewIn.{one-outside, new-none, count-step}
 
@@ -23,7 +23,7 @@ within-none ix standing from first end = record { low = λ i a b. absurd (no i a
 
 pub within-turn : (ix : Index) (standing : List Float) (from i lo hi first end first' end' : ℕ) → lo ≡ bucketIn ix (stripAt standing i .x0) → hi ≡ bucketIn ix (stripAt standing i .x1) → first' ≡ min first lo → end' ≡ max end (hi + 1)
     → Within ix standing from i first end → Within ix standing from (i + 1) first' end'
-within-turn ix standing from i lo hi first end first' end' x y f e W = record { low = λ j a b. low j a (lt-or-ge j i) b; high = λ j a b. high j a (lt-or-ge j i) b }
+within-turn ix standing from i lo hi first end first' end' x y f e W = record { low = λ j a b. low j a (below-or-not j i) b; high = λ j a b. high j a (below-or-not j i) b }
   where
     low : (j : ℕ) → from ≤ j → (j < i) ⊎ (i ≤ j) → j < i + 1 → first' ≤ bucketIn ix (stripAt standing j .x0)
     low j a (inl l) b = let w = W .low j a l in omega arith
@@ -63,7 +63,7 @@ kept-none ix standing from f l = record { low = λ j a b. absurd (no j a); high 
 
 pub kept-turn : (ix : Index) (standing : List Float) (from i lo hi : ℕ) (f l f' l' : List ℕ) → from ≤ i → lo ≡ bucketIn ix (stripAt standing i .x0) → hi ≡ bucketIn ix (stripAt standing i .x1)
     → ((d : ℕ) → d < i - from → (getD f' d 0 ≡ getD f d 0) × (getD l' d 0 ≡ getD l d 0)) → (i - from < 64 → (getD f' (i - from) 0 ≡ lo) × (getD l' (i - from) 0 ≡ hi)) → Kept ix standing from (i - from) f l → Kept ix standing from (i + 1 - from) f' l'
-kept-turn ix standing from i lo hi f l f' l' h x y s n K = record { low = λ j a b. low j (lt-or-ge j (i - from)) a b; high = λ j a b. high j (lt-or-ge j (i - from)) a b }
+kept-turn ix standing from i lo hi f l f' l' h x y s n K = record { low = λ j a b. low j (below-or-not j (i - from)) a b; high = λ j a b. high j (below-or-not j (i - from)) a b }
   where
     e : from + (i - from) ≡ i
     e = omega arith

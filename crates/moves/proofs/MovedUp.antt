@@ -7,7 +7,7 @@ use mathlib.Core.Logic.{_⊎_, inl, inr}
 use mathlib.Core.List.{List}
 use lib.ListN.{length, getD, set, length-set}
 use lib.Seq.{getD-set-same, getD-set-other}
-use Rattle.index.proofs.Collecting.{lt-or-ge}
+use Rattle.numbers.proofs.Truth.{below-or-not}
 use Rattle.moves.specs.Moves.{Moved, Shifted}
 
 -- ---- moving up, from the back: j is the first that is moved already
@@ -84,7 +84,7 @@ moved-eight j to by s r h l M =
 
 -- a part and the part before it
 pub moved-join : (from mid to by : ℕ) (s r q : List ℕ) → from ≤ mid → mid ≤ to → Moved mid to by s r → Moved from mid by r q → Moved from to by s q
-moved-join from mid to by s r q h l M N = record { size = N .size ∙ M .size; up = λ j a b. up j a b (lt-or-ge j mid); front = λ j a. N .front j a ∙ M .front j (omega arith); back = λ j a. N .back j (omega arith) ∙ M .back j a }
+moved-join from mid to by s r q h l M N = record { size = N .size ∙ M .size; up = λ j a b. up j a b (below-or-not j mid); front = λ j a. N .front j a ∙ M .front j (omega arith); back = λ j a. N .back j (omega arith) ∙ M .back j a }
   where
     up : (j : ℕ) → from ≤ j → j < to → (j < mid) ⊎ (mid ≤ j) → getD q (j + by) 0 ≡ getD s j 0
     up j a b (inl c) = N .up j a c ∙ M .front j (omega arith)
@@ -92,7 +92,7 @@ moved-join from mid to by s r q h l M N = record { size = N .size ∙ M .size; u
 
 -- a value is put at its new place, just before those that are moved or among them
 moved-over : (j m to by v : ℕ) (s r : List ℕ) → m ≤ j + 1 → j < to → to + by ≤ length s → v ≡ getD s j 0 → Moved m to by s r → Moved (min m j) to by s (set r (j + by) v)
-moved-over j m to by v s r w h l x M = record { size = length-set r (j + by) v ∙ M .size; up = λ i a b. up i a b (lt-or-ge i j) (lt-or-ge j i); front = λ i a. getD-set-other r (j + by) i v 0 (λ e. no i a e) ∙ M .front i (omega arith); back = λ i a. getD-set-other r (j + by) i v 0 (λ e. never i a e) ∙ M .back i a }
+moved-over j m to by v s r w h l x M = record { size = length-set r (j + by) v ∙ M .size; up = λ i a b. up i a b (below-or-not i j) (below-or-not j i); front = λ i a. getD-set-other r (j + by) i v 0 (λ e. no i a e) ∙ M .front i (omega arith); back = λ i a. getD-set-other r (j + by) i v 0 (λ e. never i a e) ∙ M .back i a }
   where
     no : (i : ℕ) → i < min m j + by → i ≡ j + by → ⊥
     no i a e = omega arith

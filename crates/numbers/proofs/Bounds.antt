@@ -13,8 +13,9 @@ use lib.Ieee.Exact.{HasValue}
 use lib.Ieee.Back.{round-whole}
 use lib.Ieee.Scale.{finite}
 use Rattle.numbers.proofs.Keys.{mid, unit, mag, shift, key, FiniteIn, NumberIn, fin-of, unit-pos, mid-pos, mag-exact, real}
-use Rattle.numbers.proofs.Rounding.{rounded, rounded-pos, rounded-mono-same, rounded-mono, rounded-plain, near, near-mono, round-minus, plus-plain, key-pos, key-neg, order, finite-of-key, near-pos}
+use Rattle.numbers.proofs.Rounding.{rounded, rounded-pos, rounded-mono-same, rounded-mono, rounded-plain, near, near-mono, round-minus, plus-plain, key-pos, key-neg, finite-of-key, near-pos}
 use Rattle.numbers.proofs.Operations.{add-is, sub-is, div-is, add-key, sub-key, div-key, add-real, sub-real, share, mul-real}
+use Rattle.numbers.proofs.Truth.{below-or-not}
 
 -- ---- whole numbers
 pub value-key : (f : Format) (x : Float) (s : Bool) (n : ℕ) → T (fits f x) → HasValue x s n 1 → key f x ≡ shift (mid f) s (n * unit f)
@@ -48,7 +49,7 @@ rounded-above : (f : Format) (p n c : ℕ) → c ≤ 2 ^ prec f → n ≤ p + c 
 rounded-above f p n c h k =
     let m : key f (rounded f 0 c 1) ≤ key f (rounded f p n (unit f)) = rounded-mono f 0 c 1 p n (unit f) (lit< tt) (unit-pos f) (omega arith) in
     let w : near f (c - 0) 1 ≡ c * unit f = ap (λ (z : ℕ). near f z 1) (native.Mathlib.Nat.sub-zero c) ∙ near-whole f c h in
-    elim (order 0 c) [ inl l ↦ omega (arith, m, w, key-neg f 0 c 1 l) | inr l ↦ omega (arith, m, key-pos f 0 c 1 l) ]
+    elim (below-or-not 0 c) [ inl l ↦ omega (arith, m, w, key-neg f 0 c 1 l) | inr l ↦ omega (arith, m, key-pos f 0 c 1 l) ]
 
 pub within-finite : (f : Format) (x : Float) (n : ℕ) → T (fits f x) → T (real x) → n ≤ 2 ^ prec f → Within f n x → T (finite x)
 within-finite f x n p r h w =
@@ -146,4 +147,4 @@ share-within f n t y p q h k l w = (record { fit = mul-fits f t y; isFinite = wi
         z m r a h = omega arith
 
     B : Within f n (mul f t y)
-    B = go (order (key f y) (mid f))
+    B = go (below-or-not (key f y) (mid f))

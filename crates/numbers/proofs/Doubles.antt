@@ -1,14 +1,17 @@
 -- The laws at binary64, with the values implicit: what the crates above cite. Assumes nothing.
-use mathlib.Core.Path.{_≡_}
+use mathlib.Core.Path.{_≡_, ap, _∙_}
 use Prim.Native.Nat.{ℕ, _+_, _-_, _^_, _≤_, _<_}
 use mathlib.Core.Bool.{not}
 use lib.Dec.{T}
 use mathlib.Core.Logic.{_⊎_, inl, inr}
 use native.Mathlib.Omega.{arith}
 use Rattle.numbers.proofs.Truth.{holds, fails, either}
-use lib.Ieee.{Float, binary64, lt, le, add, sub, mul, div}
+use lib.Ieee.{Float, binary64, fits, lt, le, add, sub, mul, div}
+use lib.Ieee.Fits.{cond-fits}
+use Rattle.numbers.specs.Numbers.{smaller, larger}
 use Rattle.numbers.proofs.Keys as Keys
 use Rattle.numbers.proofs.Keys.{FiniteIn, NumberIn, finite-real}
+use Rattle.numbers.proofs.Operations.{num-or-zero, minus-zero-key}
 use Rattle.numbers.proofs.Bounds as Bounds
 
 -- the key of a double, that of zero, and that of one less that of zero
@@ -53,6 +56,25 @@ le-no {x} {y} X Y h = Keys.nle→key binary64 x y (X .fit) (Y .fit) (finite-real
 
 pub same : {x y : Float} → Number x → Number y → k x ≡ k y → x ≡ y
 same {x} {y} X Y h = Keys.key-inj binary64 x y X Y h
+
+-- above zero there is no minus zero
+pub above-zero : {x : Float} → Finite x → o < k x → Number x
+above-zero {x} X h = elim (num-or-zero binary64 x X) [
+  | inl n ↦ n
+  | inr z ↦ absurd (no (k x) (ap k (z .1) ∙ minus-zero-key binary64 (z .0)) h)
+]
+  where
+    no : (a : ℕ) → a ≡ o → o < a → ⊥
+    no a e l = omega arith
+
+-- ---- the smaller and the larger of two are doubles
+pub smaller-fits : (x y : Float) → T (fits binary64 x) → T (fits binary64 y) → T (fits binary64 (smaller x y))
+unfolding smaller
+smaller-fits x y p q = cond-fits binary64 (lt y x) y x q p
+
+pub larger-fits : (x y : Float) → T (fits binary64 x) → T (fits binary64 y) → T (fits binary64 (larger x y))
+unfolding larger
+larger-fits x y p q = cond-fits binary64 (lt x y) y x q p
 
 -- ---- the total order of numbers
 pub lt-irrefl : {x : Float} → Number x → T (lt x x) → ⊥

@@ -9,10 +9,11 @@ use mathlib.Core.Bool.{Bool, false}
 use lib.Pow.{pow-add, pow-pos}
 use lib.Ieee.{Float, Format, prec, low, add, sub, mul, div}
 use Rattle.numbers.proofs.Keys.{mid, unit, mag, negative, shift, key, FiniteIn, NumberIn, fin-of, unit-pos}
-use Rattle.numbers.proofs.Rounding.{rounded, near, near-exact, near-mono, order, key-pos}
+use Rattle.numbers.proofs.Rounding.{rounded, near, near-exact, near-mono, key-pos}
 use Rattle.numbers.proofs.Operations.{add-key, sub-key, mul-key, div-is, near-same}
 use Rattle.numbers.proofs.Bounds.{near-whole}
 use Rattle.numbers.proofs.Ranges.{rounded-grid-pos, rounded-grid-neg, nonneg-minus}
+use Rattle.numbers.proofs.Truth.{below-or-not}
 
 -- x is a - b multiples of 2 ^ j units
 pub record Grid (f : Format) (j a b : ℕ) (x : Float) : Type 0 where
@@ -22,7 +23,7 @@ below-mid : (f : Format) (q j : ℕ) → 2 ^ prec f * 2 ^ j ≤ mid f → q < 2 
 below-mid f q j h k = lt-of-lt-of-le (mul-lt-mul-of-pos-right k (pow-pos j)) h
 
 rounded-grid : (f : Format) (j a b p n : ℕ) → 2 ^ prec f * 2 ^ j ≤ mid f → a < 2 ^ prec f → b < 2 ^ prec f → p + b * 2 ^ j ≡ n + a * 2 ^ j → key f (rounded f p n (unit f)) + b * 2 ^ j ≡ mid f + a * 2 ^ j
-rounded-grid f j a b p n h A B e = go (order a b)
+rounded-grid f j a b p n h A B e = go (below-or-not a b)
   where
     split : (a b : ℕ) → b ≤ a → (a - b) * 2 ^ j + b * 2 ^ j ≡ a * 2 ^ j
     split a b k = sym (add-mul (a - b) b (2 ^ j)) ∙ ap (λ (z : ℕ). z * 2 ^ j) (sub-add-cancel k)

@@ -205,6 +205,12 @@ finite-real nan t = t
 finite-real (inf s) t = tt
 finite-real (fin s m e) t = tt
 
+pub self-real : (x : Float) → eq x x ≡ true → T (real x)
+unfolding eq
+self-real nan e = subst T (sym e) tt
+self-real (inf s) e = tt
+self-real (fin s m e) h = tt
+
 pub key-top : (f : Format) (x : Float) → T (fits f x) → key f x ≤ mid f + mid f
 unfolding key
 key-top f x t = go (negative x) (mag-le f x t)

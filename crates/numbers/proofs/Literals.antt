@@ -23,6 +23,11 @@ pub milli-reach : unit binary64 ≤ 1001 * (key binary64 milli - mid binary64)
 unfolding key mag mid unit
 milli-reach = lit≤ tt
 
+-- as a double it is not below the thousandth
+pub milli-thousandth : unit binary64 ≤ 1000 * (key binary64 milli - mid binary64)
+unfolding key mag mid unit
+milli-thousandth = lit≤ tt
+
 -- 2 ^ -1022, the least width of a bucket
 abbrev pub least : Float
 least = fin false 1 (negsuc 1021)

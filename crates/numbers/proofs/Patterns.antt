@@ -1,11 +1,12 @@
 -- Which bit patterns are finite. Assumes nothing.
 use mathlib.Core.Path.{_≡_, refl, sym, ap, _∙_, subst}
-use Prim.Native.Nat.{ℕ, zero, suc, _+_, _-_, _/_, _%_, _≤_, _<_}
+use Prim.Native.Nat.{ℕ, zero, suc, _+_, _-_, _*_, _/_, _%_, _≤_, _<_}
 use native.Mathlib.Nat.{mod-lt}
 use native.Mathlib.Omega.{arith}
-use mathlib.Core.Bool.{Bool, true, false, not, cond}
+use mathlib.Core.Bool.{Bool, true, false, not, cond, true≢false}
+use lib.IntN.{ℤ}
 use lib.Dec.{T, ltb, leb, eqb, ltb→lt, lt→ltb, eqb→eq, eqb-refl, lit<}
-use lib.Ieee.{Float, nan, inf, fin, Format, binary32, binary64, prec, low, odd, ofFields, ofBits, eq, ones, hid, isNan, nanBits}
+use lib.Ieee.{Float, nan, inf, fin, Format, binary32, binary64, prec, low, odd, ofFields, ofBits, eq, ones, hid, isNan, nanBits, fits, toBits, up, down}
 use lib.Ieee.Bits.{ofBits-fits, nanBits-is}
 use lib.Ieee.Scale.{finite}
 use mathlib.Core.Logic.{inl, inr}
@@ -13,6 +14,7 @@ use Rattle.numbers.specs.Numbers.{posZero, plusZero}
 use Rattle.numbers.proofs.Keys.{FiniteIn, NumberIn, key, same-bool, finite-real, eq→key, key→eq}
 use Rattle.numbers.proofs.Operations.{num-or-zero, minus-zero-key}
 use Rattle.numbers.proofs.Ranges.{zero-num, zero-key}
+use Rattle.numbers.proofs.Truth.{is-true}
 
 odd-finite : (d : ℕ) (s : Bool) (q k l : ℕ) → T (finite (odd d s q k l))
 unfolding odd
@@ -72,6 +74,32 @@ unfolding isNan
 finite-not-nan nan t = absurd t
 finite-not-nan (inf s) t = absurd t
 finite-not-nan (fin s m e) t = tt
+
+pub self-not-nan : (x : Float) → eq x x ≡ true → T (not (isNan x))
+unfolding eq isNan
+self-not-nan nan e = subst T (sym e) tt
+self-not-nan (inf s) e = tt
+self-not-nan (fin s m k) e = tt
+
+inf-self : (s : Bool) → eq (inf s) (inf s) ≡ true
+unfolding eq
+inf-self true = refl
+inf-self false = refl
+
+fin-self : (s : Bool) (m : ℕ) (k : ℤ) → eq (fin s m k) (fin s m k) ≡ true
+unfolding eq
+fin-self true m k = rw (is-true (eqb (m * up k * down k) (m * up k * down k)) (eqb-refl (m * up k * down k)))
+fin-self false m k = rw (is-true (eqb (m * up k * down k) (m * up k * down k)) (eqb-refl (m * up k * down k)))
+
+pub nan-bits : (x : Float) → eq x x ≡ false → 9221120237041090560 ≡ toBits binary64 x
+unfolding toBits
+nan-bits nan e = refl
+nan-bits (inf s) e = absurd (true≢false (sym (inf-self s) ∙ e))
+nan-bits (fin s m k) e = absurd (true≢false (sym (fin-self s m k) ∙ e))
+
+pub nan-fits : T (fits binary64 nan)
+unfolding fits
+nan-fits = tt
 
 pub finite-readable : (n : ℕ) → T (finite (ofBits binary64 n)) → T (not (nanBits binary64 n))
 finite-readable n t = subst (λ (b : Bool). T (not b)) (sym (nanBits-is binary64 n)) (finite-not-nan (ofBits binary64 n) t)

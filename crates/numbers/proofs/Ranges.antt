@@ -13,9 +13,10 @@ use lib.Ieee.Exact.{HasValue}
 use lib.Ieee.Back.{round-whole}
 use lib.Ieee.Scale.{finite}
 use Rattle.numbers.proofs.Keys.{mid, unit, mag, negative, shift, key, FiniteIn, NumberIn, fin-of, unit-pos, mid-pos, mag-le, mag-pos, finite-real, lt→key, le→key, key-inj, nlt→key}
-use Rattle.numbers.proofs.Rounding.{rounded, rounded-shift, rounded-mono-same, rounded-key, rounded-num, near, near-exact, near-mono, key-pos, key-neg, order}
+use Rattle.numbers.proofs.Rounding.{rounded, rounded-shift, rounded-mono-same, rounded-key, rounded-num, near, near-exact, near-mono, key-pos, key-neg}
 use Rattle.numbers.proofs.Operations.{add-is, sub-is, mul-key, mul-real}
 use Rattle.numbers.proofs.Bounds.{Within, value-key, near-whole, within-finite}
+use Rattle.numbers.proofs.Truth.{below-or-not}
 
 -- ---- a number rounded is itself
 pub rounded-self : (f : Format) (x : Float) → NumberIn f x → rounded f (key f x) (mid f) (unit f) ≡ x
@@ -185,7 +186,7 @@ div-within f a k x y p q w h u l = (record { fit = lib.Ieee.Fits.div-fits f x y;
         record { atLeast = omega (arith, E, K); atMost = omega (arith, E, R, K) }
 
     W : Within f (a * k) (div f x y)
-    W = go (key f y - mid f) (omega arith) u (Rattle.numbers.proofs.Operations.div-key f x y p q h) (order (key f x) (mid f))
+    W = go (key f y - mid f) (omega arith) u (Rattle.numbers.proofs.Operations.div-key f x y p q h) (below-or-not (key f x) (mid f))
 
 -- the whole part of a bounded value
 pub floor-within : (f : Format) (w n : ℕ) (x : Float) → FiniteIn f x → Within f n x → w ≤ suc (emax f) → toUnsigned w x ≤ n

@@ -7,7 +7,7 @@ use native.Mathlib.Nat.{le-of-lt, lt-of-lt-of-le, lt-of-le-of-lt, zero-mul, one-
 use native.Mathlib.Omega.{arith}
 use mathlib.Core.Bool.{Bool, true, false, _&&_, cond}
 use lib.IntN.{ℤ, pos, negsuc}
-use borrow.Author.Tests.{lt-ltb, le-ltb, ltb-true, ltb-false}
+use borrow.Author.Tests.{lt-ltb, le-ltb}
 use lib.Dec.{T, ltb, leb, eqb, ltb→lt, lt→ltb, leb→le, eqb→eq, lit<}
 use lib.Pow.{pow-add, pow-pos}
 use lib.Ieee.{Float, nan, inf, fin, Format, binary32, binary64, prec, emax, low, up, down, size, nearest, odd, units, round, fits}
@@ -15,7 +15,7 @@ use lib.Ieee.Fits.{round-is, round-fits, down-pos}
 use lib.Ieee.Exact.{HasValue, round-exact}
 use lib.Ieee.Order.{round-mono}
 use lib.Ieee.Scale.{finite}
-use Rattle.numbers.proofs.Truth.{either}
+use Rattle.numbers.proofs.Truth.{below-or-not}
 use Rattle.numbers.proofs.Keys.{mid, unit, mag, negative, shift, key, plain, FiniteIn, NumberIn, unit-pos, mid-pos, mag-exact, mag-lt, mag-le, real, le→key}
 
 -- ---- what `round` gives: `odd` of some digits, or an infinity; the same for both signs
@@ -108,12 +108,8 @@ key-neg f p n c h = ap (key f) (rounded-neg f p n c h) ∙ round-key f true (n -
 pub key-pos : (f : Format) (p n c : ℕ) → n ≤ p → key f (rounded f p n c) ≡ mid f + near f (p - n) c
 key-pos f p n c h = ap (key f) (rounded-pos f p n c h) ∙ round-key f false (p - n) c
 
--- ---- which of two
-pub order : (p n : ℕ) → (p < n) ⊎ (n ≤ p)
-order p n = elim (either (ltb p n)) [ inl e ↦ inl (ltb-true p n e) | inr e ↦ inr (ltb-false p n e) ]
-
 pub rounded-real : (f : Format) (p n c : ℕ) → T (real (rounded f p n c))
-rounded-real f p n c = elim (order p n) [ inl l ↦ rw (rounded-neg f p n c l) (round-real f true (n - p) c) | inr l ↦ rw (rounded-pos f p n c l) (round-real f false (p - n) c) ]
+rounded-real f p n c = elim (below-or-not p n) [ inl l ↦ rw (rounded-neg f p n c l) (round-real f true (n - p) c) | inr l ↦ rw (rounded-pos f p n c l) (round-real f false (p - n) c) ]
 
 -- ---- the order is kept
 diff : (p n c q m d : ℕ) → n ≤ p → m ≤ q → p * d + m * c ≤ q * c + n * d → (p - n) * d ≤ (q - m) * c
@@ -123,7 +119,7 @@ diff p n c q m d h k l =
     omega arith
 
 pub rounded-mono : (f : Format) (p n c q m d : ℕ) → 0 < c → 0 < d → p * d + m * c ≤ q * c + n * d → key f (rounded f p n c) ≤ key f (rounded f q m d)
-rounded-mono f p n c q m d C D h = go (order p n) (order q m)
+rounded-mono f p n c q m d C D h = go (below-or-not p n) (below-or-not q m)
   where
     go : (p < n) ⊎ (n ≤ p) → (q < m) ⊎ (m ≤ q) → key f (rounded f p n c) ≤ key f (rounded f q m d)
     go (inl a) (inl b) =
@@ -141,7 +137,7 @@ rounded-mono-same f p n q m c C h = rounded-mono f p n c q m c C C (subst (λ (k
 
 -- ---- only the difference counts
 pub rounded-shift : (f : Format) (p n q m c : ℕ) → p + m ≡ q + n → rounded f p n c ≡ rounded f q m c
-rounded-shift f p n q m c h = elim (order p n) [
+rounded-shift f p n q m c h = elim (below-or-not p n) [
   | inl l ↦ (let e : n - p ≡ m - q = omega arith in rounded-neg f p n c l ∙ ap (λ (z : ℕ). round f true z c) e ∙ sym (rounded-neg f q m c (omega arith)))
   | inr l ↦ (let e : p - n ≡ q - m = omega arith in rounded-pos f p n c l ∙ ap (λ (z : ℕ). round f false z c) e ∙ sym (rounded-pos f q m c (omega arith)))
 ]
@@ -212,7 +208,7 @@ rounded-key f (fin true m e) p =
     let a = mag f (fin true m e) in
     let l = mag-lt f true m e (p .fit) in
     let n = near-mag f true m e (p .fit) in
-    elim (order (mid f - a) (mid f)) [
+    elim (below-or-not (mid f - a) (mid f)) [
       | inl g ↦ (let d : mid f - (mid f - a) ≡ a = omega arith in omega (arith, key-neg f (mid f - a) (mid f) (unit f) g, ap (λ (k : ℕ). near f k (unit f)) d, n))
       | inr g ↦ (let d : mid f - a - mid f ≡ a = omega arith in omega (arith, key-pos f (mid f - a) (mid f) (unit f) g, ap (λ (k : ℕ). near f k (unit f)) d, n))
     ]
@@ -247,7 +243,7 @@ plus-plain (fin true m e) h = absurd (mathlib.Core.Bool.true≢false h)
 plus-plain (fin false m e) h = tt
 
 pub rounded-plain : (f : Format) (p n : ℕ) → T (plain (rounded f p n (unit f)))
-rounded-plain f p n = elim (order p n) [
+rounded-plain f p n = elim (below-or-not p n) [
   | inl l ↦ rw (rounded-neg f p n (unit f) l) (mag-plain f (round f true (n - p) (unit f)) (rw (round-mag f true (n - p) (unit f)) (near-pos f (n - p) (omega arith))))
   | inr l ↦ rw (rounded-pos f p n (unit f) l) (plus-plain (round f false (p - n) (unit f)) (round-minus f false (p - n) (unit f)))
 ]

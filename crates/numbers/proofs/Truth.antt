@@ -1,8 +1,11 @@
--- A Boolean as an equation and as a proposition, both ways. Assumes nothing.
-use mathlib.Core.Path.{_≡_, refl, sym, subst}
+-- A Boolean as an equation and as a proposition, both ways; two numbers by their order or equality. Assumes nothing.
+use Prim.Native.Nat.{ℕ, _<_, _≤_}
+use native.Mathlib.Omega.{arith}
+use mathlib.Core.Path.{_≡_, refl, sym, subst, _∙_}
 use mathlib.Core.Logic.{_⊎_, inl, inr}
-use mathlib.Core.Bool.{Bool, true, false, not}
-use lib.Dec.{T}
+use mathlib.Core.Bool.{Bool, true, false, not, _&&_, true≢false}
+use lib.Dec.{T, ltb, eqb}
+use borrow.Author.Tests.{ltb-true, ltb-false, eqb-true, eqb-false}
 
 pub holds : {b : Bool} → b ≡ true → T b
 holds e = subst T (sym e) tt
@@ -21,3 +24,29 @@ is-false false t = refl
 pub either : (b : Bool) → (b ≡ true) ⊎ (b ≡ false)
 either true = inl refl
 either false = inr refl
+
+-- no test says both
+pub clash : {b : Bool} → b ≡ true → b ≡ false → ⊥
+clash p q = true≢false (sym p ∙ q)
+
+pub both-first : (a b : Bool) → a && b ≡ true → a ≡ true
+both-first true b e = refl
+both-first false b e = e
+
+pub both-second : (a b : Bool) → a && b ≡ true → b ≡ true
+both-second true b e = e
+both-second false b e = absurd (true≢false (sym e))
+
+-- ---- two numbers
+
+pub below-or-not : (m n : ℕ) → (m < n) ⊎ (n ≤ m)
+below-or-not m n = elim (either (ltb m n)) [ inl e ↦ inl (ltb-true m n e) | inr e ↦ inr (ltb-false m n e) ]
+
+pub same-or-not : (m n : ℕ) → (m ≡ n) ⊎ (m ≡ n → ⊥)
+same-or-not m n = elim (either (eqb m n)) [ inl e ↦ inl (eqb-true m n e) | inr e ↦ inr (eqb-false m n e) ]
+
+pub not-below-zero : (n : ℕ) → n < 0 → ⊥
+not-below-zero n h = omega arith
+
+pub zero-not-one : _≡_ {A = ℕ} 0 1 → ⊥
+zero-not-one e = omega arith

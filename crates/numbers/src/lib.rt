@@ -1,9 +1,9 @@
 // Numbers (document 01, module 1): smaller, larger, order and rounding down of doubles, and a
 // double from a job's bits. Contracts speak of IEEE 754 as the kit's lib.Ieee states it.
 ghost use mathlib.Core.Path.{_≡_};
-ghost use lib.Ieee.{binary64, lt, ofBits, toUnsigned};
+ghost use lib.Ieee.{binary64, lt, ofBits, toBits, toUnsigned};
 ghost use lib.Ieee.Scale.{finite};
-ghost use Rattle.numbers.specs.Numbers.{smaller, larger, doubleOf};
+ghost use Rattle.numbers.specs.Numbers.{smaller, larger, plusZero, doubleOf};
 
 // A job's double: finite with any minus zero made plus zero, or an infinity or a NaN.
 pub enum Double {
@@ -30,6 +30,16 @@ pub fn less(a: f64, b: f64) -> bool
     ensures { λ r. ⌜ r ≡ lt a b ⌝ }
 {
     a < b
+}
+
+// A minus zero becomes plus zero.
+pub fn plus_zero(x: f64) -> f64
+    ensures { λ r. ⌜ r ≡ plusZero x ⌝ }
+{
+    if x == 0.0 {
+        return 0.0;
+    }
+    x
 }
 
 // x rounded down and held to 0..2^64 - 1: 0 for what is negative, 2^64 - 1 for what is too large.
@@ -64,4 +74,14 @@ pub fn from_bits(n: u64) -> Double
         return Double::Finite(x);
     }
     Double::NotFinite
+}
+
+// The bits of x; of all NaNs' the pattern that `toBits` names.
+pub fn bits_of(x: f64) -> u64
+    ensures { λ r. ⌜ r ≡ toBits binary64 x ⌝ }
+{
+    if x == x {
+        return f64::to_bits(x);
+    }
+    0x7ff8_0000_0000_0000
 }

@@ -10,34 +10,22 @@ use lib.ListN.{length, getD, set, drop, length-set, length-drop}
 use lib.Seq.{drop-cons, getD-set-same, getD-set-other}
 use lib.Dec.{eqb, eqb→eq, eqb-refl}
 use lib.Ieee.{Float}
-use Rattle.numbers.proofs.Truth.{either, is-true, holds}
+use Rattle.numbers.proofs.Truth.{either, is-true, holds, clash}
 use Rattle.kinds.specs.Kinds.{Kind}
 use Rattle.job.specs.Jobs.{Job}
 use Rattle.filling.specs.Order.{countIn, inFull, rearranged}
-use Rattle.filling.proofs.Lists.{clash}
+use Rattle.filling.proofs.CountIn.{count-same, count-other, count-none}
 use Rattle.tables.specs.Tabled.{Tabled}
 use Rattle.order.specs.Quantities.{inQuantity}
 
 -- ---- how often a number stands in a list
-
-count-same : (k : ℕ) (ls : List ℕ) → countIn k (k ∷ ls) ≡ suc (countIn k ls)
-unfolding countIn
-count-same k ls = let e = is-true (eqb k k) (eqb-refl k) in rw (e, countIn)
-
-count-other : (k l : ℕ) (ls : List ℕ) → eqb k l ≡ false → countIn k (l ∷ ls) ≡ countIn k ls
-unfolding countIn
-count-other k l ls e = rw (e, countIn)
-
-count-none : (k : ℕ) → countIn k [] ≡ 0
-unfolding countIn
-count-none k = refl
 
 pub count-most : (k : ℕ) (ls : List ℕ) → countIn k ls ≤ length ls
 count-most k [] = let e = count-none k in omega arith
 count-most k (l ∷ ls) = go (count-most k ls) (either (eqb k l))
   where
     go : countIn k ls ≤ length ls → (eqb k l ≡ true) ⊎ (eqb k l ≡ false) → countIn k (l ∷ ls) ≤ suc (length ls)
-    go h (inl e) = let q : k ≡ l = eqb→eq k l (holds e) in let c : countIn k (l ∷ ls) ≡ suc (countIn k ls) = ap (λ n. countIn k (n ∷ ls)) (sym q) ∙ count-same k ls in omega arith
+    go h (inl e) = let c = count-same k l ls e in omega arith
     go h (inr e) = let c = count-other k l ls e in omega arith
 
 -- ---- the counts of the first i, with those that are left
@@ -60,7 +48,7 @@ counted-in order m i counts x r h l c = record { size = length-set counts x (get
         let q : k ≡ x = eqb→eq k x (holds e) in
         let s : getD (set counts x (getD counts x 0 + 1)) k 0 ≡ getD counts x 0 + 1 = ap (λ n. getD (set counts x (getD counts x 0 + 1)) n 0) q ∙ getD-set-same counts x (getD counts x 0 + 1) 0 (let z = c .size in omega arith) in
         let v : getD counts k 0 ≡ getD counts x 0 = ap (λ n. getD counts n 0) q in
-        let w : countIn k (x ∷ drop (i + 1) order) ≡ suc (countIn k (drop (i + 1) order)) = ap (λ n. countIn k (n ∷ drop (i + 1) order)) (sym q) ∙ count-same k (drop (i + 1) order) in
+        let w = count-same k x (drop (i + 1) order) e in
         let t = split k in
         let a = c .all k b in
         omega arith

@@ -19,7 +19,7 @@ use Rattle.filling.specs.Rooms.{Lent, positionCapacity}
 use Rattle.filling.specs.Start.{prepareVerdict, startVerdict}
 use Rattle.filling.specs.Fill.{filled, stopped, fillOrder, Planned, notPlanned, plannedWith}
 use Rattle.filling.specs.Order.{rearranged}
-use Rattle.filling.proofs.Steps.{later-accepted}
+use Rattle.filling.proofs.Steps.{later-accepted, accepted≢refused}
 use Rattle.nesting.specs.Rounds.{Kept, Swaps, kept, ended, swapSearch}
 use Rattle.nesting.specs.Nest.{nestVerdict, nested, nestJob, nestGiven, nestOf}
 use Rattle.promises.proofs.Numbers.{LentNumbers}
@@ -27,7 +27,7 @@ use Rattle.promises.proofs.Left.{PlanNumbers, OffcutBounds, not-planned, offcut
 use Rattle.promises.proofs.Suffice.{Ample, AmpleIntervals, AmpleStart, start-fits, fill-ends}
 use Rattle.copy_order.proofs.Rearranged.{accepted-rearranged}
 use Rattle.nesting.specs.CopyOrder.{copyOrder}
-use Rattle.plan_promises.proofs.Rounds.{RoomRefusal, strips, entries, intervals, refused-by, accepted≢refused, stopped-is, Sound, keeps, ends, search-sound}
+use Rattle.plan_promises.proofs.Rounds.{RoomRefusal, strips, entries, intervals, refused-by, stopped-is, Sound, keeps, ends, search-sound}
 
 -- a plan, or the refusal for the kind of lent room that was overrun: 20, 21, 22 or 30
 pub data PlanOrRoom : Verdict → Type 0 where

@@ -5,7 +5,7 @@ use native.Mathlib.Omega.{arith}
 use mathlib.Core.Path.{_≡_, refl, sym, ap, subst, _∙_}
 use mathlib.Core.Bool.{Bool, true, false, not}
 use mathlib.Core.List.{List, [], _∷_}
-use lib.ListN.{length, getD, drop}
+use lib.ListN.{length, getD}
 use lib.Dec.{leb, ltb}
 use borrow.Author.Tests.{leb-true}
 use lib.Ieee.{Float}
@@ -28,9 +28,10 @@ use Rattle.filling.specs.NextCopy.{storeVerdict, winnerVerdict, copyVerdict, St
 use Rattle.filling.specs.Fill.{Filling, filled, stopped, fillFrom, fillOrder}
 use Rattle.filling.specs.Plain.{Plain, plainStart, plainTake}
 use Rattle.filling.proofs.Begin.{rearranged-length}
-use Rattle.filling.proofs.Steps.{Took, Outcome, took, unchanged, core-outcome, place-taken, place-refused, refused≢accepted, after-taken, TracksNow, ChoicesNow}
+use Rattle.filling.proofs.Steps.{Took, Outcome, took, unchanged, core-outcome, place-taken, place-refused, refused≢accepted, after-taken, TracksNow, ChoicesNow, accepted≢refused}
 use Rattle.promises.proofs.Stays.{Held, held-took, held-start}
 use Rattle.promises.proofs.Left.{fill-held}
+use Rattle.promises.proofs.Suffice.{next-of}
 use Rattle.copy_order.proofs.Rearranged.{swapped-rearranged, accepted-rearranged}
 use Rattle.nesting.specs.CopyOrder.{copyOrder}
 use Rattle.nesting.specs.Rounds.{Kept, Swaps, kept, ended, betterThan, swappable, swapped, judged, oneRound, rounds, firstKept, swapSearch}
@@ -40,9 +41,6 @@ pub data RoomRefusal : Refusal → Type 0 where
   strips : RoomRefusal Why.StripRoom
   entries : RoomRefusal Why.EntryRoom
   intervals : RoomRefusal Why.IntervalRoom
-
-pub accepted≢refused : {k : Refusal} → Accepted ≡ Refused k → ⊥
-accepted≢refused e = refused≢accepted (sym e)
 
 -- what a test refuses, or what comes later
 pub refused-by : (Q : Refusal → Type 0) (t : Bool) (k : Refusal) (v : Verdict) (r : Refusal) → Q k → (v ≡ Refused r → Q r) → refuseIf t k v ≡ Refused r → Q r
@@ -67,15 +65,9 @@ place-refusal p st ts k s w iv r e = go (copyVerdict p w iv k st (getD (p .shape
     go Accepted d = absurd (accepted≢refused (sym (ap (λ x. x .verdict) (place-taken p st ts k s w iv d)) ∙ e))
     go (Refused q) d = subst RoomRefusal (let f : Refused q ≡ Refused r = sym (ap (λ x. x .verdict) (place-refused p st ts k s w iv q d)) ∙ e in let z : q ≡ r = cc in z) (copy-refusal p w iv k st (getD (p .shapes) k []) ts (searchAll p st (getD (p .shapes) k []) ts) q d)
 
--- a copy is to come
-some-left : (l : List ℕ) (i : ℕ) → i < length l → (k : ℕ) × (ks : List ℕ) × (drop i l ≡ k ∷ ks)
-some-left [] i h = absurd (omega arith)
-some-left (k ∷ l) zero h = (k, l, refl)
-some-left (k ∷ l) (suc i) h = some-left l i (omega arith)
-
 core-refusal : (j : Job) (s : State) (w : Rooms) (iv : List Float) (r : Refusal) → s .taken < length (orderOf j s) → coreStep j s w iv .verdict ≡ Refused r → RoomRefusal r
 unfolding coreStep placeNext
-core-refusal j s w iv r h e = let c = some-left (orderOf j s) (s .taken) h in place-refusal _ _ _ (c .0) s w iv r (rw (c .2) at e)
+core-refusal j s w iv r h e = let c = next-of (orderOf j s) (s .taken) h in place-refusal _ _ _ (c .0) s w iv r (rw (c .2) at e)
 
 -- ---- a filling in a rearranged order
 

@@ -9,9 +9,10 @@ use lib.ListN.{length, getD}
 use lib.Dec.{ltb}
 use lib.Ieee.{Float}
 use borrow.Author.Tests.{lt-ltb, le-ltb}
-use Rattle.numbers.proofs.Rounding.{order}
+use Rattle.numbers.proofs.Truth.{below-or-not}
 use Rattle.trapezoid.specs.Strip.{flat}
 use Rattle.index.specs.Buckets.{upFrom}
+use Rattle.index.proofs.Flat.{map-at}
 use Rattle.kinds.specs.Kinds.{Orientation, Kind, kindOf}
 use Rattle.kinds.specs.Tables.{tabulate, orientationAt, orientationsOf, headAt, kindWith, kindAt}
 use Rattle.kinds.proofs.Tables.{length-tabulate, tabulate-at}
@@ -24,6 +25,7 @@ use Rattle.filling.specs.State.{bySlot, slotShape}
 use Rattle.filling.proofs.Reading.{upFrom-same}
 use Rattle.set_strips.specs.SetStrips.{stripsOf, stripsAt}
 use Rattle.slots.specs.Slots.{inUse, slotStrips, slotBounds, slotOf}
+use Rattle.slots.proofs.SlotWalk.{not-in-use}
 use Rattle.prepare.specs.Ready.{FromTables}
 use Rattle.sets.specs.Answers.{setAt}
 
@@ -33,11 +35,6 @@ from-tables bytes rows places areas h s c j e = record { areas = areas; sheet-is
 
 -- ---- lists
 module _ {A B : Type 0} (f : A → B) where
-  map-at : (l : List A) (i : ℕ) (d : B) (e : A) → i < length l → getD (map f l) i d ≡ f (getD l i e)
-  map-at [] i d e h = absurd (omega arith)
-  map-at (a ∷ l) zero d e h = refl
-  map-at (a ∷ l) (suc i) d e h = map-at l i d e (omega arith)
-
   map-past : (l : List A) (i : ℕ) (d : B) → length l ≤ i → getD (map f l) i d ≡ d
   map-past [] i d h = refl
   map-past (a ∷ l) zero d h = absurd (omega arith)
@@ -81,12 +78,8 @@ module _ (bytes rows places : List ℕ) (kinds : ℕ) where
   unfolding inUse
   few-turns i a b = rw (lt-ltb (i / 16) kinds a, le-ltb (i % 16) (getD rows (4 * (i / 16) + 3) 0) b)
 
-  few-kinds : (i : ℕ) → kinds ≤ i / 16 → inUse rows kinds i ≡ false
-  unfolding inUse
-  few-kinds i a = rw (le-ltb (i / 16) kinds a)
-
   slot-at : (areas : List Float) (i : ℕ) → getD (getD (map (λ k. map shapeFor (k .orientations)) (tabulate (kindAt bytes rows areas places) kinds)) (i / 16) []) (i % 16) noShape ≡ slotOf bytes rows places kinds i
-  slot-at areas i = go (order (i / 16) kinds)
+  slot-at areas i = go (below-or-not (i / 16) kinds)
     where
       turn : i / 16 < kinds → (i % 16 < getD rows (4 * (i / 16) + 3) 0) ⊎ (getD rows (4 * (i / 16) + 3) 0 ≤ i % 16) → getD (Row areas (i / 16)) (i % 16) noShape ≡ slotOf bytes rows places kinds i
       turn h (inl l) =
@@ -102,10 +95,10 @@ module _ (bytes rows places : List ℕ) (kinds : ℕ) where
       go : (i / 16 < kinds) ⊎ (kinds ≤ i / 16) → getD (getD (map (λ k. map shapeFor (k .orientations)) (tabulate (kindAt bytes rows areas places) kinds)) (i / 16) []) (i % 16) noShape ≡ slotOf bytes rows places kinds i
       go (inl h) =
           ap (λ (r : List Shape). getD r (i % 16) noShape) (tabulated (λ k. map shapeFor (k .orientations)) (kindAt bytes rows areas places) kinds (i / 16) [] h)
-          ∙ turn h (order (i % 16) (getD rows (4 * (i / 16) + 3) 0))
+          ∙ turn h (below-or-not (i % 16) (getD rows (4 * (i / 16) + 3) 0))
       go (inr h) =
           ap (λ (r : List Shape). getD r (i % 16) noShape) (not-tabulated (λ k. map shapeFor (k .orientations)) (kindAt bytes rows areas places) kinds (i / 16) [] h)
-          ∙ slot-unused i (few-kinds i h)
+          ∙ slot-unused i (sym (not-in-use rows kinds i h))
 
 module _ {bytes rows places : List ℕ} {at kinds : ℕ} {j : Job} (T : FromTables bytes rows places at kinds j) where
   slot-is : (i : ℕ) → slotShape (plannerOf j) i ≡ slotOf bytes rows places kinds i

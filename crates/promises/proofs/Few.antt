@@ -16,6 +16,7 @@ use Rattle.index.specs.declared.Meeting.{Meeting}
 use Rattle.index.specs.declared.Meeting.the-variants.{Apart, Forbidden}
 use Rattle.index.specs.Buckets.{upFrom, keep, Span, spanOf, numbersIn, byBucket, entriesOf}
 use Rattle.index.specs.Intervals.{intervalIn, meetingOf, forbiddenOf, countedOf}
+use Rattle.index.proofs.Flat.{length-upFrom}
 use Rattle.look.specs.Looking.{countedIn}
 use Rattle.filling.specs.declared.State.{State}
 use Rattle.filling.specs.declared.Refusal.the-variants as Why
@@ -25,7 +26,7 @@ use Rattle.filling.specs.Search.{Found, Track, rangesOf, intervalsAt, looks}
 use Rattle.filling.specs.Choice.{Choice}
 use Rattle.filling.specs.State.{standsAt, standingTo}
 use Rattle.filling.specs.NextCopy.{intervalCounts, anyAbove, newStrips}
-use Rattle.filling.proofs.Reading.{Sixfold, sixfold-flat, capacity-append, length-flat, length-upFrom}
+use Rattle.filling.proofs.Reading.{Sixfold, sixfold-flat, capacity-append, length-flat}
 use Rattle.filling.proofs.Steps.{standing-sixfold}
 
 -- ---- how many

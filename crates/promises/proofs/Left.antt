@@ -12,7 +12,7 @@ use Rattle.numbers.specs.Numbers.{_⊖_, posZero, fromInt}
 use Rattle.numbers.proofs.Ranges.{int-num}
 use Rattle.numbers.proofs.Doubles.{Number, Small}
 use Rattle.trapezoid.specs.Strip.{stripAt, capacity}
-use Rattle.slab.proofs.Sizes.{All, all-append}
+use Rattle.slab.proofs.Merging.{All, all-append}
 use Rattle.strips.specs.declared.Rect.{Rect}
 use Rattle.index.specs.Buckets.{upFrom}
 use Rattle.job.specs.Jobs.{Job, Answer, accepted, refused, readJob}

@@ -7,7 +7,7 @@ use lib.Ieee.{Float, binary64}
 use Rattle.numbers.specs.Numbers.{posZero}
 use Rattle.numbers.proofs.Ranges.{zero-num}
 use Rattle.numbers.proofs.Doubles.{Number, finite}
-use Rattle.slab.proofs.Sizes.{All, all-append}
+use Rattle.slab.proofs.Merging.{All, all-append}
 use Rattle.strips.specs.declared.Rect.{Rect}
 use Rattle.strips.proofs.Sizes.{Framed}
 use Rattle.index.specs.Buckets.{upFrom}

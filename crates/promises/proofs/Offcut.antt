@@ -14,8 +14,8 @@ use Rattle.numbers.specs.Numbers.{_⊖_, larger, posZero}
 use Rattle.numbers.proofs.Operations.{sub-real}
 use Rattle.numbers.proofs.Bounds.{sub-neg}
 use Rattle.numbers.proofs.Ranges.{zero-num, zero-key, larger-key, cond-num}
-use Rattle.numbers.proofs.Rounding.{order}
 use Rattle.numbers.proofs.Doubles.{k, o, u, Number, Upto, Small, finite, sub-upto, sub-number, sub-mono, sub-nonneg}
+use Rattle.numbers.proofs.Truth.{below-or-not}
 use Rattle.trapezoid.specs.Strip.{stripAt, capacity}
 use Rattle.trapezoid.proofs.Sizes.{small-more}
 use Rattle.index.specs.Buckets.{upFrom}
@@ -105,14 +105,14 @@ module _ {edge right reach : Float} (E : Small 100000 edge) (R : Small 710000 ri
       low a b m x y = omega arith
 
   pub left-number : Number (notBelowZero (edge ⊖ reach))
-  left-number = go (order (k edge) (k reach))
+  left-number = go (below-or-not (k edge) (k reach))
     where
       go : (k edge < k reach) ⊎ (k reach ≤ k edge) → Number (notBelowZero (edge ⊖ reach))
       go (inl l) = subst Number (sym (left-none l)) (zero-num binary64)
       go (inr l) = let q = left-some l in subst Number (sym (q .is)) (q .num)
 
   left-key : o ≤ k (notBelowZero (edge ⊖ reach))
-  left-key = go (order (k edge) (k reach))
+  left-key = go (below-or-not (k edge) (k reach))
     where
       go : (k edge < k reach) ⊎ (k reach ≤ k edge) → o ≤ k (notBelowZero (edge ⊖ reach))
       go (inl l) = let e = ap k (left-none l) in let z = zero-key binary64 in omega (arith, e, z)
@@ -128,7 +128,7 @@ module _ {edge right reach : Float} (E : Small 100000 edge) (R : Small 710000 ri
   self = omega arith
 
   pub left-upto : le (notBelowZero (edge ⊖ reach)) (notBelowZero (edge ⊖ right)) ≡ true
-  left-upto = is-le (real-of (finite (left-number E R M h))) (real-of (finite (left-number E R (R .num) self))) (go (order (k edge) (k reach)))
+  left-upto = is-le (real-of (finite (left-number E R M h))) (real-of (finite (left-number E R (R .num) self))) (go (below-or-not (k edge) (k reach)))
     where
       go : (k edge < k reach) ⊎ (k reach ≤ k edge) → k (notBelowZero (edge ⊖ reach)) ≤ k (notBelowZero (edge ⊖ right))
       go (inl l) = let e = ap k (left-none E R M h l) in let z = zero-key binary64 in let b = left-key E R (R .num) self in omega (arith, e, z, b)

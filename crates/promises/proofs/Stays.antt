@@ -10,7 +10,7 @@ use lib.Ieee.{Float, lt}
 use Rattle.numbers.specs.Numbers.{larger, posZero}
 use Rattle.numbers.proofs.Doubles.{Number, Small, finite, add-upto, add-number}
 use Rattle.trapezoid.proofs.Sizes.{small-more}
-use Rattle.slab.proofs.Sizes.{All, all-append}
+use Rattle.slab.proofs.Merging.{All, all-append}
 use Rattle.strips.specs.declared.Rect.{Rect}
 use Rattle.index.specs.Buckets.{upFrom}
 use Rattle.job.specs.Jobs.{Job, accepted, readJob}

@@ -143,7 +143,7 @@ module _ (j : Job) (z : Sized j) (s : State) (w : Rooms) (h : Linked j s w) (m n
 
 -- ---- after a start
 
-next-of : (l : List ℕ) (i : ℕ) → i < length l → (k : ℕ) × (ks : List ℕ) × (drop i l ≡ k ∷ ks)
+pub next-of : (l : List ℕ) (i : ℕ) → i < length l → (k : ℕ) × (ks : List ℕ) × (drop i l ≡ k ∷ ks)
 next-of [] i h = absurd (omega arith)
 next-of (k ∷ l) zero h = (k, l, refl)
 next-of (k ∷ l) (suc i) h = next-of l i (omega arith)

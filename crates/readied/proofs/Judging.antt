@@ -2,7 +2,6 @@
 use Prim.Native.Nat.{ℕ, _*_, _/_, _≤_, _<_}
 use native.Mathlib.Omega.{arith}
 use mathlib.Core.Path.{_≡_, refl, sym, ap, subst, _∙_}
-use mathlib.Core.Bool.{Bool, true, false}
 use mathlib.Core.List.{List}
 use lib.ListN.{length}
 use lib.Dec.{ltb}
@@ -18,17 +17,10 @@ use Rattle.filling.specs.Refusals.{refuseIf}
 use Rattle.filling.specs.Rooms.{Lent, positionCapacity, zeros}
 use Rattle.filling.specs.Fill.{Planned, notPlanned}
 use Rattle.filling.proofs.Reading.{length-zeros}
+use Rattle.filling.proofs.Steps.{refuse-yes, refuse-no}
 use Rattle.report.specs.declared.NestResult.{NestResult}
 use Rattle.report.specs.Replies.{reply, replyOf, refusedBy, plannedWhen}
 use Rattle.report.proofs.Reporting.{refused-reply}
-
-pub refuse-yes : (t : Bool) (k : Refusal) (v : Verdict) → t ≡ true → refuseIf t k v ≡ Refused k
-unfolding refuseIf
-refuse-yes t k v e = rw (e, refuseIf)
-
-pub refuse-no : (t : Bool) (k : Refusal) (v : Verdict) → t ≡ false → refuseIf t k v ≡ v
-unfolding refuseIf
-refuse-no t k v e = rw (e, refuseIf)
 
 -- a definition by its verdict
 pub when-is : (v : Verdict) (l : Lent) (q : Planned) → _≡_ {A = Planned} (elim v [ Accepted ↦ q | Refused k ↦ notPlanned k l ]) (plannedWhen v l q)

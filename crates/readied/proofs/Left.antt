@@ -2,7 +2,7 @@
 use Prim.Native.Nat.{ℕ}
 use mathlib.Core.Path.{_≡_, refl, sym, ap, ap₂, _∙_}
 use mathlib.Core.List.{List}
-use lib.ListN.{length, replicate}
+use lib.ListN.{length}
 use lib.Ieee.{Float}
 use Rattle.numbers.specs.Numbers.{posZero}
 use Rattle.job.specs.Jobs.{Job}
@@ -13,6 +13,7 @@ use Rattle.filling.specs.declared.Verdict.{Verdict}
 use Rattle.filling.specs.declared.Verdict.the-variants.{Accepted, Refused}
 use Rattle.filling.specs.Rooms.{Rooms, Lent, zeros, zeroRooms, onlyPositions, lentOf}
 use Rattle.filling.specs.Fill.{Planned, notPlanned, plannedWith}
+use Rattle.filling.proofs.Reading.{zeros-same}
 use Rattle.report.specs.declared.NestResult.{NestResult}
 use Rattle.report.specs.Replies.{Reply, reply, replyOf, plannedWhen}
 use Rattle.report.specs.Lent.{answered}
@@ -37,12 +38,8 @@ when-zero (Refused k) l q w = refused-zero k l
 
 -- ---- reply and rooms together
 
-same-zeros : {A : Type 0} (z : A) (a b : List A) → length a ≡ length b → zeros z a ≡ zeros z b
-unfolding zeros
-same-zeros z a b e = ap (λ (n : ℕ). replicate n z) e
-
 pub zeros-after : {A : Type 0} (z : A) (a b room : List A) → a ≡ zeros z b → length b ≡ length room → a ≡ zeros z room
-zeros-after z a b room e f = e ∙ same-zeros z b room f
+zeros-after z a b room e f = e ∙ zeros-same z b room f
 
 whole : Verdict → Plan → Rooms → List Float → List Float → Planned
 whole v p w i o = record { verdict = v; plan = p; lent = record { rooms = w; intervals = i; positions = o } }

@@ -17,9 +17,6 @@ use Rattle.copy_order.proofs.Rearranged.{length-swapped, swapped-rearranged}
 pub fits : {m m' n n' : ℕ} → m' ≡ m → n' ≡ n → m ≤ n → m' ≤ n'
 fits e f h = omega arith
 
-pub under : {k n : ℕ} → k < n → n ≤ 64 → k < 64
-under h g = omega arith
-
 pub few-enough : {b m n : ℕ} → b ≡ 0 → m ≤ n → n < 2 ^ 64 → b + m < 2 ^ 64
 few-enough e h g = omega arith
 

@@ -6,6 +6,7 @@ use mathlib.Core.Bool.{Bool, true, false}
 use mathlib.Core.List.{List}
 use lib.ListN.{length, getD}
 use lib.Ieee.{Float}
+use Rattle.numbers.proofs.Truth.{either}
 use Rattle.random.specs.SplitMix64.{nextState, mixed}
 use Rattle.job.specs.Jobs.{Job}
 use Rattle.filling.specs.declared.Verdict.{Verdict}
@@ -22,15 +23,10 @@ use Rattle.better.specs.declared.Best.{Best}
 use Rattle.better.specs.declared.Drawn.{Drawn}
 use Rattle.better.specs.Keeping.{half, keptBy, keptIn, keptTracks, keptSpots}
 use Rattle.better.specs.Turns.{judgedAs, turnOf, Drew}
-use Rattle.better.proofs.Drawing.{not-both}
 use Rattle.copy_order.proofs.Rearranged.{length-swapped}
 use Rattle.round_laws.proofs.Swapping.{now-arranged, back}
 use Rattle.round_laws.proofs.Halves.{written, half-written, half-stays, start-within, other-half}
 use Rattle.round_laws.proofs.Rounds.{tried, round-tried, round-over}
-
-pub dich : (t : Bool) → (t ≡ true) ⊎ (t ≡ false)
-dich true = inl refl
-dich false = inr refl
 
 -- what is kept before a turn, with the state of its draws
 abbrev pub afterDraw : Best → Drawn → Best
@@ -39,7 +35,7 @@ afterDraw b d = record { random = d .random; totals = b .totals; improvements = 
 module _ (first : Bool) (random : ℕ) (rows order : List ℕ) (d : Drawn) (after : List ℕ) (w : Drew first random rows order d after) where
   -- the order after the draws
   pub drew-length : length after ≡ length order
-  drew-length = go (dich first)
+  drew-length = go (either first)
     where
       fill : first ≡ false → (d .fills ≡ true) ⊎ (d .fills ≡ false) → length after ≡ length order
       fill f (inl t) = ap length (w .swaps f t) ∙ length-swapped (d .i) (d .k) order
@@ -47,10 +43,10 @@ module _ (first : Bool) (random : ℕ) (rows order : List ℕ) (d : Drawn) (afte
 
       go : (first ≡ true) ⊎ (first ≡ false) → length after ≡ length order
       go (inl f) = ap length (w .stays f .2)
-      go (inr f) = fill f (dich (d .fills))
+      go (inr f) = fill f (either (d .fills))
 
   pub drew-arranged : (j : Job) → rearranged j order ≡ true → rearranged j after ≡ true
-  drew-arranged j r = go (dich first)
+  drew-arranged j r = go (either first)
     where
       fill : first ≡ false → (d .fills ≡ true) ⊎ (d .fills ≡ false) → rearranged j after ≡ true
       fill f (inl t) = now-arranged (d .i) (d .k) order after (w .swaps f t) (w .draws f .3) (w .draws f .4) j r
@@ -58,7 +54,7 @@ module _ (first : Bool) (random : ℕ) (rows order : List ℕ) (d : Drawn) (afte
 
       go : (first ≡ true) ⊎ (first ≡ false) → rearranged j after ≡ true
       go (inl f) = ap (rearranged j) (w .stays f .2) ∙ r
-      go (inr f) = fill f (dich (d .fills))
+      go (inr f) = fill f (either (d .fills))
 
   pub drew-places : first ≡ false → (d .i < length after) × (d .k < length after)
   drew-places f = (subst (λ (n : ℕ). d .i < n) (sym drew-length) (w .draws f .3), subst (λ (n : ℕ). d .k < n) (sym drew-length) (w .draws f .4))
@@ -155,7 +151,7 @@ module _ (j : Job) (l : Lent) (areas : List Float) (first : Bool) (b : Best) (ro
       turn-filled et ep es eq ef h =
           let other = half trackNumbers (1 - b .kept) tracks' in
           let place = half spotNumbers (1 - b .kept) spots' in
-          either-filled (Found other place) (ap (λ (u : List ℕ). Found u place) ep ∙ (ap (Found part) eq ∙ ef)) (dich first)
+          either-filled (Found other place) (ap (λ (u : List ℕ). Found u place) ep ∙ (ap (Found part) eq ∙ ef)) (either first)
           (h
           ∙ (ap (λ (u : List ℕ). judgedAs first (d .random) after (Back u (keptSpots b spots')) (Found other place)) et
           ∙ ap (λ (z : List Float). judgedAs first (d .random) after (Back (keptTracks b tracks) z) (Found other place)) es))

@@ -17,11 +17,11 @@ use Rattle.filling.specs.Rooms.{Lent}
 use Rattle.filling.specs.Order.{rearranged}
 use Rattle.filling.specs.Fill.{Filling, filled, stopped, fillOrder}
 use Rattle.nesting.specs.Rounds.{Kept, Swaps, kept, ended, oneRound, rounds, firstKept}
-use Rattle.fill_laws.specs.Prepared.{Given, Prepared}
+use Rattle.fill_laws.specs.Prepared.{Given, Prepared, nextAfter}
 use Rattle.better.specs.declared.Best.{Best}
 use Rattle.better.specs.Keeping.{keptIn, swapsIn}
 use Rattle.better.specs.Turns.{judgedAs, turnOf}
-use Rattle.rounds.specs.Turns.{turnAfter, roundsFor, turns}
+use Rattle.rounds.specs.Turns.{roundsFor, turns}
 
 -- rooms as long as those that are lent
 abbrev pub Long : Lent → List Float → List ℕ → List Float → Type 0
@@ -111,10 +111,6 @@ later-copies (suc c) n r i e h f = omega arith
 pub few-enough : (b t i n : ℕ) → b + (t - i) ≤ t → i < t → t ≤ n + 1 → n < 4096 → b + 1 < 2 ^ 64
 few-enough b t i n f h l u = omega arith
 
-pub after-less : (v : Verdict) (i n r : ℕ) → i < n → r ≡ turnAfter v i n → n - r < n - i
-after-less Accepted i n r h e = omega arith
-after-less (Refused k) i n r h e = omega arith
-
 module _ (g : Given) (n : ℕ) (a₀ : Held) (placed₀ : List Float) (entries₀ : List ℕ) (room₀ : List Float) where
   pub going-start : a₀ .best .improvements ≡ 0 → a₀ .best .kept ≤ 1 → Going g n a₀ placed₀ entries₀ room₀ 0 Accepted a₀
   going-start e k =
@@ -135,7 +131,7 @@ module _ (g : Given) (n : ℕ) (a₀ : Held) (placed₀ : List Float) (entries�
 
     -- after a turn
     pub going-on : i < n → (v' : Verdict) (a' : Held) → Turned v' a' → ((j : Job) → rearranged j (a .order) ≡ true → rearranged j (a' .order) ≡ true)
-        → a' .best .improvements ≤ a .best .improvements + 1 → a' .best .kept ≤ 1 → Going g n a₀ placed₀ entries₀ room₀ (turnAfter v' i n) v' a'
+        → a' .best .improvements ≤ a .best .improvements + 1 → a' .best .kept ≤ 1 → Going g n a₀ placed₀ entries₀ room₀ (nextAfter v' i n) v' a'
     going-on b v' a' e r few' half' = go v' e
       where
         before : (j : Job) → Prepared j g → rearranged j (a₀ .order) ≡ true → (l : Lent) → Long l placed₀ entries₀ room₀
@@ -144,7 +140,7 @@ module _ (g : Given) (n : ℕ) (a₀ : Held) (placed₀ : List Float) (entries�
             sym (turns-next j l (eqb i 0) (n - i) (keptAt (plannerOf j) a) (omega arith))
             ∙ (ap (λ (u : Verdict). turns j l (eqb i 0) (n - i) (swapsAt u (plannerOf j) a)) (sym (h .on b)) ∙ h .same j p q l w)
 
-        go : (u : Verdict) → Turned u a' → Going g n a₀ placed₀ entries₀ room₀ (turnAfter u i n) u a'
+        go : (u : Verdict) → Turned u a' → Going g n a₀ placed₀ entries₀ room₀ (nextAfter u i n) u a'
         go Accepted f =
             record {
               upto = omega arith;

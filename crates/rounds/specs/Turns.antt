@@ -1,18 +1,11 @@
 -- For inner functions' contracts only: the turns of the swap search, the first filling and the rounds. Definitions only. Assumes nothing.
-use Prim.Native.Nat.{ℕ, zero, suc, _+_}
+use Prim.Native.Nat.{ℕ, zero, suc}
 use mathlib.Core.Bool.{Bool, true, false}
 use lib.Dec.{leb}
 use Rattle.job.specs.Jobs.{Job}
-use Rattle.filling.specs.declared.Verdict.{Verdict}
-use Rattle.filling.specs.declared.Verdict.the-variants.{Accepted, Refused}
 use Rattle.filling.specs.Rooms.{Lent}
 use Rattle.nesting.specs.Rounds.{Swaps, kept, ended}
 use Rattle.better.specs.Turns.{turnOf}
-
--- where the search goes on after turn i of n
-abbrev pub turnAfter : Verdict → ℕ → ℕ → ℕ
-turnAfter Accepted i n = i + 1
-turnAfter (Refused k) i n = n
 
 -- "With two or more copies, each round .."
 abbrev pub roundsFor : ℕ → ℕ → ℕ

@@ -15,7 +15,7 @@ ghost use Rattle.tracks.specs.Tracks.{trackNumbers, spotNumbers};
 ghost use Rattle.fill_laws.specs.Prepared.{givenIn, Prepared};
 ghost use Rattle.better.specs.Keeping.{keptIn, swapsIn};
 ghost use Rattle.better.specs.Turns.{turnOf};
-ghost use Rattle.rounds.specs.Turns.{turnAfter, roundsFor};
+ghost use Rattle.rounds.specs.Turns.{roundsFor};
 use better::Best;
 use better::Round;
 use choose::Grid;
@@ -96,17 +96,6 @@ fn round(
     Round {
         verdict: Verdict::Accepted,
         best: drawn,
-    }
-}
-
-// The turn that comes after turn i of n: none after a refusal.
-fn turn_after(v: Verdict, i: usize, n: usize) -> usize
-    requires { ⌜ i < n ⌝ }
-    ensures { λ r. ⌜ r ≡ turnAfter v i n ⌝ }
-{
-    match v {
-        Verdict::Accepted => i + 1,
-        Verdict::Refused(_) => n,
     }
 }
 
@@ -198,7 +187,7 @@ pub fn rounds(
         );
         verdict = r.verdict;
         best = r.best;
-        i = turn_after(verdict, i, turns);
+        i = fill_order::next_after(verdict, i, turns);
     }
     Round {
         verdict: verdict,

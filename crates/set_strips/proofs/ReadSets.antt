@@ -9,7 +9,7 @@ use native.Mathlib.Numerals.{add-one}
 use lib.ListN.{length, getD, set, take, drop, take-append-drop}
 use lib.Seq.{length-take-le, take-suc, take-suc-set, getD-take}
 use lib.Ieee.{Float, nan, binary64, ofBits, div}
-use Rattle.numbers.proofs.Rounding.{order}
+use Rattle.numbers.proofs.Truth.{below-or-not}
 use Rattle.trapezoid.specs.declared.Trapezoid.{Trapezoid}
 use Rattle.trapezoid.specs.Strip.{flat}
 use Rattle.slab.specs.Slab as Slab
@@ -122,7 +122,7 @@ module _ (ss : List Trapezoid) (room₀ room : List Float) (from : ℕ) (r : Sto
       ap (λ (x : Stowed). x .room) e ∙ ap (λ (x : Stowed). x .room) (stored-fits ss room₀ from (omega (arith, c .0, c .1)))
 
   pub not-stored : r ≡ NoRoom → length room₀ < 6 * (from + length ss)
-  not-stored d = go (order (length room₀) (6 * (from + length ss)))
+  not-stored d = go (below-or-not (length room₀) (6 * (from + length ss)))
     where
       never : NoRoom ≡ stored ss room₀ from .answer → stored ss room₀ from ≡ record { answer = Count (length ss); room = laid ss room₀ from } → ⊥
       never x y = let z : _≡_ {A = ℕ} 0 1 = (let v : NoRoom ≡ Count (length ss) = x ∙ ap (λ (s : Stowed). s .answer) y in cc) in omega arith

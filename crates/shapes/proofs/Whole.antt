@@ -17,7 +17,7 @@ use Rattle.filling.specs.Shapes.{Shape, noShape}
 use Rattle.filling.specs.Rooms.{laid}
 use Rattle.filling.specs.State.{bySlot, Part, flatParts, partAt, flatBounds, boundsAt}
 use Rattle.filling.specs.Start.{partsFrom}
-use Rattle.filling.proofs.Reading.{flat-append, getD-bySlot, length-bySlot, bounds-slot}
+use Rattle.filling.proofs.Reading.{flat-append, getD-bySlot, length-bySlot, bounds-slot, length-bounds}
 use Rattle.filling.proofs.WithinBoundsStrips.{capacity-flat}
 use Rattle.set_strips.proofs.ReadSets.{laid-first}
 use Rattle.shapes.specs.declared.ShapesLaid.the-variants as Laid
@@ -56,11 +56,6 @@ part-tail a m b n ps q =
     let e2 : suc (suc (suc (suc (4 * q)))) + 2 ≡ suc (suc (suc (suc (4 * q + 2)))) = omega arith in
     let e3 : suc (suc (suc (suc (4 * q)))) + 3 ≡ suc (suc (suc (suc (4 * q + 3)))) = omega arith in
     rw (e, e1, e2, e3)
-
-flat-bounds-length : (bs : List Rect) → length (flatBounds bs) ≡ 4 * length bs
-unfolding flatBounds
-flat-bounds-length [] = refl
-flat-bounds-length (b ∷ bs) = let l = flat-bounds-length bs in omega arith
 
 -- ---- the strips of all slots
 
@@ -154,7 +149,7 @@ module _ (f g : ℕ → List Trapezoid) (b : ℕ → Rect) (s : ℕ → Shape) (
   bounds-are old new B l =
       let m = length-bySlot s in
       let n = length-map (bySlot s) (λ t. t .bounds) in
-      let k = flat-bounds-length (map (λ t. t .bounds) (bySlot s)) in
+      let k = length-bounds (map (λ t. t .bounds) (bySlot s)) in
       four-ext nan 1024 new (flatBounds (map (λ t. t .bounds) (bySlot s))) l (omega arith)
       (λ q h. ap (λ (r : Rect). r .left) (B .here q h ∙ sym (bounds-is q h)))
       (λ q h. ap (λ (r : Rect). r .bottom) (B .here q h ∙ sym (bounds-is q h)))

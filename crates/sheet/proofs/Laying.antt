@@ -8,7 +8,7 @@ use native.Mathlib.Omega.{arith}
 use lib.ListN.{length, take, drop}
 use lib.Seq.{take-at}
 use lib.Ieee.{Float}
-use Rattle.numbers.proofs.Rounding.{order}
+use Rattle.numbers.proofs.Truth.{below-or-not}
 use Rattle.trapezoid.specs.declared.Trapezoid.{Trapezoid}
 use Rattle.trapezoid.specs.Strip.{flat, capacity}
 use Rattle.index.specs.declared.Index.{Index}
@@ -60,14 +60,14 @@ module _ (ss : List Trapezoid) (room₀ room : List Float) (r : Stored) (e : rec
 module _ (ix : Index) (s : List Float) (entries₀ starts₀ entries starts : List ℕ) (r : Bool) (e : entering r entries starts ≡ enterOf ix s (capacity s) (rooms entries₀ starts₀)) where
   pub entered-yes : r ≡ true → (length (entriesOf ix s (capacity s)) ≤ length entries₀) × (entries ≡ laid (entriesOf ix s (capacity s)) entries₀)
   unfolding entriesIn laid
-  entered-yes d = go (order (length entries₀) (length (entriesOf ix s (capacity s))))
+  entered-yes d = go (below-or-not (length entries₀) (length (entriesOf ix s (capacity s))))
     where
       go : (length entries₀ < length (entriesOf ix s (capacity s))) ⊎ (length (entriesOf ix s (capacity s)) ≤ length entries₀) → (length (entriesOf ix s (capacity s)) ≤ length entries₀) × (entries ≡ entriesOf ix s (capacity s) ++ drop (length (entriesOf ix s (capacity s))) entries₀)
       go (inl h) = absurd (true≢false (sym d ∙ ap (λ (x : Entering). x .fits) (e ∙ sym (enter-over ix s (capacity s) (rooms entries₀ starts₀) h))))
       go (inr h) = (h, ap (λ (x : Entering). x .after .entries) (e ∙ sym (enter-fits ix s (capacity s) (rooms entries₀ starts₀) h)))
 
   pub entered-no : r ≡ false → length entries₀ < length (entriesOf ix s (capacity s))
-  entered-no d = go (order (length entries₀) (length (entriesOf ix s (capacity s))))
+  entered-no d = go (below-or-not (length entries₀) (length (entriesOf ix s (capacity s))))
     where
       go : (length entries₀ < length (entriesOf ix s (capacity s))) ⊎ (length (entriesOf ix s (capacity s)) ≤ length entries₀) → length entries₀ < length (entriesOf ix s (capacity s))
       go (inl h) = h

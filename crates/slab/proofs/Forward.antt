@@ -11,12 +11,13 @@ use lib.ListN.{length}
 use lib.Ieee.{Float, eq, fits, binary64}
 use lib.Ieee.Fits.{add-fits}
 use Rattle.numbers.specs.Numbers.{_⊕_}
+use Rattle.numbers.proofs.Truth.{either}
 use Rattle.slab.specs.declared.Edge.{Edge}
 use Rattle.slab.specs.declared.Row.{Row}
 use Rattle.slab.specs.Slab.{up, insert, sort, Crossing, crossing, before, spans, spanning, crossings}
 use Rattle.slab.specs.Tables.{down, merge, rowAt, setRow, crossingOf, crossingAt, behind, Number, Placed}
 use Rattle.slab.proofs.Sorting.{over, insert-step, insert-last, insert-on, insert-here, up-snoc}
-use Rattle.slab.proofs.Merging.{dich, All, merge-right, merge-left, merge-none, merge-sort, all-append}
+use Rattle.slab.proofs.Merging.{All, merge-right, merge-left, merge-none, merge-sort, all-append}
 use Rattle.slab.proofs.Rows.{row-below, row-above, row-same}
 use Rattle.slab.proofs.Places.{in-place}
 
@@ -60,13 +61,13 @@ goes x a e = rw e
 behind-merge : (x : Crossing) (l : List Crossing) → merge before l (x ∷ []) ≡ insert behind x l
 unfolding merge insert
 behind-merge x [] = refl
-behind-merge x (a ∷ l) = elim (dich (before x a)) [
+behind-merge x (a ∷ l) = elim (either (before x a)) [
   | inl e ↦ merge-right before a x l [] e ∙ (ap (λ (t : List Crossing). x ∷ t) (merge-none before (a ∷ l)) ∙ sym (insert-here behind x a l (stays x a e)))
   | inr e ↦ merge-left before a x l [] e ∙ (ap (λ (t : List Crossing). a ∷ t) (behind-merge x l) ∙ sym (insert-on behind x a l (goes x a e)))
 ]
 
 sort-snoc : (l : List Crossing) (x : Crossing) → All Placed l → Placed x → insert behind x (sort before l) ≡ sort before (l ++ (x ∷ []))
-unfolding All sort insert
+unfolding sort insert
 sort-snoc l x pl px = sym (behind-merge x (sort before l)) ∙ merge-sort before Placed in-place l (x ∷ []) pl (px, tt)
 
 -- ---- the crossings of one edge more
@@ -75,7 +76,7 @@ module _ (xa xb : Float) where
   unfolding spanning
   spanning-on e es t = rw (t, spanning)
 
-  spanning-off : (e : Edge) (es : List Edge) → spans xa xb e ≡ false → spanning xa xb (e ∷ es) ≡ spanning xa xb es
+  pub spanning-off : (e : Edge) (es : List Edge) → spans xa xb e ≡ false → spanning xa xb (e ∷ es) ≡ spanning xa xb es
   unfolding spanning
   spanning-off e es t = rw (t, spanning)
 
@@ -85,7 +86,7 @@ module _ (xa xb : Float) where
 
   spanning-append : (l r : List Edge) → spanning xa xb (l ++ r) ≡ spanning xa xb l ++ spanning xa xb r
   spanning-append [] r = sym (ap (λ (t : List Crossing). t ++ spanning xa xb r) spanning-none)
-  spanning-append (e ∷ l) r = elim (dich (spans xa xb e)) [
+  spanning-append (e ∷ l) r = elim (either (spans xa xb e)) [
     | inl t ↦ spanning-on e (l ++ r) t ∙ (ap (λ (z : List Crossing). crossing xa xb e ∷ z) (spanning-append l r) ∙ sym (ap (λ (z : List Crossing). z ++ spanning xa xb r) (spanning-on e l t)))
     | inr t ↦ spanning-off e (l ++ r) t ∙ (spanning-append l r ∙ sym (ap (λ (z : List Crossing). z ++ spanning xa xb r) (spanning-off e l t)))
   ]
@@ -111,7 +112,7 @@ module _ (xa xb : Float) where
     pub places : All Placed (spanning xa xb (up f 0 i))
 
   pub forward-none : (f : ℕ → Edge) (g : ℕ → Crossing) → Gathered f g 0 0
-  unfolding crossings spanning sort down up All
+  unfolding crossings spanning sort down up
   forward-none f g = record { rows = refl; places = tt }
 
   pub forward-all : (f : ℕ → Edge) (g : ℕ → Crossing) (m i n : ℕ) → i ≡ n → Gathered f g m i → down g m ≡ crossings xa xb (up f 0 n)
@@ -119,7 +120,7 @@ module _ (xa xb : Float) where
 
   module _ (f : ℕ → Edge) (i : ℕ) (e : Edge) (ee : e ≡ f i) (t : Bool) (et : t ≡ spans xa xb e) where
     pub forward-on : (g g' : ℕ → Crossing) (m : ℕ) (c : Row) → t ≡ true → crossingOf c ≡ crossing xa xb e → Placed (crossingOf c) → down g' (m + 1) ≡ insert behind (crossingOf c) (down g m) → Gathered f g m i → Gathered f g' (m + 1) (i + 1)
-    unfolding crossings All
+    unfolding crossings
     forward-on g g' m c y ec pc h inv =
         let l = spanning xa xb (up f 0 i) in
         let pe = subst Placed ec pc in

@@ -5,17 +5,14 @@ use mathlib.Core.Path.{_≡_, refl, sym, ap, _∙_}
 use mathlib.Core.Logic.{_⊎_, inl, inr}
 use mathlib.Core.List.{List, [], _∷_, _++_}
 use mathlib.Core.Bool.{Bool, true, false}
+use Rattle.numbers.proofs.Truth.{either}
 use Rattle.slab.specs.Slab.{up, insert, sort}
 use Rattle.slab.specs.Tables.{down, merge}
 use Rattle.slab.proofs.Sorting.{insert-on, insert-here, down-ext, down-suc, down-zero}
 
-pub dich : (b : Bool) → (b ≡ true) ⊎ (b ≡ false)
-dich true = inl refl
-dich false = inr refl
-
 -- what holds of each of a list
-unfoldable pub All : {A : Type 0} → (A → Type 0) → List A → Type 0
-All P [] = Unit
+abbrev pub All : {A : Type 0} → (A → Type 0) → List A → Type 0
+All P [] = Unit {0}
 All P (a ∷ l) = P a × All P l
 
 -- a strict weak order on what P holds of
@@ -44,8 +41,8 @@ module _ {A : Type 0} (first : A → A → Bool) where
 module _ {A : Type 0} (first : A → A → Bool) (P : A → Type 0) (O : Order first P) where
   insert-both : (x a b : A) (l r : List A) → P x → P a → P b → merge first (insert first x l) (b ∷ r) ≡ insert first x (merge first l (b ∷ r)) → merge first (insert first x (a ∷ l)) r ≡ insert first x (merge first (a ∷ l) r)
       → merge first (insert first x (a ∷ l)) (b ∷ r) ≡ insert first x (merge first (a ∷ l) (b ∷ r))
-  insert-both x a b l r px pa pb il ir = elim (dich (first a x)) [
-    | inl p ↦ elim (dich (first b a)) [
+  insert-both x a b l r px pa pb il ir = elim (either (first a x)) [
+    | inl p ↦ elim (either (first b a)) [
       | inl q ↦
           let e = insert-on first x a l p in
           ap (λ (t : List A). merge first t (b ∷ r)) e ∙ merge-right first a b (insert first x l) r q
@@ -55,7 +52,7 @@ module _ {A : Type 0} (first : A → A → Bool) (P : A → Type 0) (O : Order f
           ap (λ (t : List A). merge first t (b ∷ r)) (insert-on first x a l p) ∙ merge-left first a b (insert first x l) r q ∙ ap (λ (t : List A). a ∷ t) il
           ∙ sym (ap (insert first x) (merge-left first a b l r q) ∙ insert-on first x a (merge first l (b ∷ r)) p)
     ]
-    | inr p ↦ elim (dich (first b x)) [
+    | inr p ↦ elim (either (first b x)) [
       | inl q ↦
           let e = insert-here first x a l p in
           let t = O .past b a x pb pa px q p in
@@ -67,13 +64,13 @@ module _ {A : Type 0} (first : A → A → Bool) (P : A → Type 0) (O : Order f
   ]
     where
       before-both : (x a b : A) (l r : List A) → first a x ≡ false → first b x ≡ false → insert first x (merge first (a ∷ l) (b ∷ r)) ≡ x ∷ merge first (a ∷ l) (b ∷ r)
-      before-both x a b l r p q = elim (dich (first b a)) [
+      before-both x a b l r p q = elim (either (first b a)) [
         | inl t ↦ ap (insert first x) (merge-right first a b l r t) ∙ insert-here first x b (merge first (a ∷ l) r) q ∙ ap (λ (t : List A). x ∷ t) (sym (merge-right first a b l r t))
         | inr t ↦ ap (insert first x) (merge-left first a b l r t) ∙ insert-here first x a (merge first l (b ∷ r)) p ∙ ap (λ (t : List A). x ∷ t) (sym (merge-left first a b l r t))
       ]
 
   insert-one : (x b : A) (r : List A) → merge first (x ∷ []) r ≡ insert first x r → merge first (x ∷ []) (b ∷ r) ≡ insert first x (b ∷ r)
-  insert-one x b r i = elim (dich (first b x)) [
+  insert-one x b r i = elim (either (first b x)) [
     | inl q ↦ merge-right first x b [] r q ∙ ap (λ (t : List A). b ∷ t) i ∙ sym (insert-on first x b r q)
     | inr q ↦ merge-left first x b [] r q ∙ ap (λ (t : List A). x ∷ t) (none-merge first (b ∷ r)) ∙ sym (insert-here first x b r q)
   ]
@@ -83,7 +80,6 @@ module _ {A : Type 0} (first : A → A → Bool) (P : A → Type 0) (O : Order f
   insert-nil x = refl
 
   pub merge-insert : (x : A) (l r : List A) → P x → All P l → All P r → merge first (insert first x l) r ≡ insert first x (merge first l r)
-  unfolding All
   merge-insert x [] [] px pl pr = merge-none first (insert first x []) ∙ ap (insert first x) (sym (merge-none first []))
   merge-insert x [] (b ∷ r) px pl pr =
       ap (λ (t : List A). merge first t (b ∷ r)) (insert-nil x)
@@ -93,7 +89,7 @@ module _ {A : Type 0} (first : A → A → Bool) (P : A → Type 0) (O : Order f
   merge-insert x (a ∷ l) (b ∷ r) px pl pr = insert-both x a b l r px (pl .0) (pr .0) (merge-insert x l (b ∷ r) px (pl .1) pr) (merge-insert x (a ∷ l) r px pl (pr .1))
 
   insert-all : (x : A) (l : List A) → P x → All P l → All P (insert first x l)
-  unfolding All insert
+  unfolding insert
   insert-all x [] px pl = (px, tt)
   insert-all x (b ∷ l) px pl = go (first b x) (insert-all x l px (pl .1))
     where
@@ -102,12 +98,12 @@ module _ {A : Type 0} (first : A → A → Bool) (P : A → Type 0) (O : Order f
       go false i = (px, pl)
 
   pub sort-all : (l : List A) → All P l → All P (sort first l)
-  unfolding All sort
+  unfolding sort
   sort-all [] pl = tt
   sort-all (a ∷ l) pl = insert-all a (sort first l) (pl .0) (sort-all l (pl .1))
 
   pub merge-sort : (l r : List A) → All P l → All P r → merge first (sort first l) (sort first r) ≡ sort first (l ++ r)
-  unfolding All sort
+  unfolding sort
   merge-sort [] r pl pr = none-merge first (sort first r)
   merge-sort (a ∷ l) r pl pr = merge-insert a (sort first l) (sort first r) (pl .0) (sort-all l (pl .1)) (sort-all r pr) ∙ ap (insert first a) (merge-sort l r (pl .1) pr)
 
@@ -183,11 +179,10 @@ up-split f i zero n = let e : 0 + n ≡ n = omega arith in let z : i + 0 ≡ i =
 up-split {A = A} f i (suc m) n = let e : suc m + n ≡ suc (m + n) = omega arith in let z : i + 1 + m ≡ i + suc m = omega arith in rw e (ap (λ (l : List A). f i ∷ l) (up-split f (i + 1) m n ∙ ap (λ (k : ℕ). up f (i + 1) m ++ up f k n) z))
 
 pub all-up : {A : Type 0} (P : A → Type 0) (f : ℕ → A) (i n : ℕ) → ((k : ℕ) → k < i + n → P (f k)) → All P (up f i n)
-unfolding up All
+unfolding up
 all-up P f i zero h = tt
 all-up P f i (suc n) h = (h i (omega arith), all-up P f (i + 1) n (λ k l. h k (omega arith)))
 
 pub all-append : {A : Type 0} (P : A → Type 0) (l r : List A) → All P l → All P r → All P (l ++ r)
-unfolding All
 all-append P [] r pl pr = pr
 all-append P (a ∷ l) r pl pr = (pl .0, all-append P l r (pl .1) pr)

@@ -1,31 +1,25 @@
 -- `before` orders the crossings whose sum and ya are no NaNs. Assumes nothing.
 use Prim.Native.Nat.{ℕ, suc, _+_, _≤_, _<_}
 use native.Mathlib.Omega.{arith}
-use borrow.Author.Tests.{ltb-true, ltb-false}
+use borrow.Author.Tests.{ltb-true, ltb-false, lt-ltb, le-ltb}
 use mathlib.Core.Path.{_≡_, refl, sym, _∙_, subst}
 use mathlib.Core.Logic.{_⊎_, inl, inr}
 use mathlib.Core.Bool.{Bool, true, false, cond, _&&_, _||_}
-use lib.Dec.{T, ltb, lt→ltb}
-use lib.Ieee.{Float, nan, inf, fin, lt, eq, binary64}
+use lib.Dec.{T, ltb}
+use lib.Ieee.{Float, lt, eq, binary64}
 use Rattle.numbers.specs.Numbers.{_⊕_}
-use Rattle.numbers.proofs.Truth.{is-true, holds}
-use Rattle.numbers.proofs.Keys.{key, mid, real, lt-is, eq→key, key→eq, key-top}
+use Rattle.numbers.proofs.Truth.{is-true, holds, either, clash}
+use Rattle.numbers.proofs.Keys.{key, mid, lt-is, eq→key, key→eq, key-top, self-real}
 use Rattle.slab.specs.Slab.{Crossing, positive, ahead, before}
 use Rattle.slab.specs.Tables.{Number, Placed}
-use Rattle.slab.proofs.Merging.{dich, Order}
-
-real-of : (x : Float) → eq x x ≡ true → T (real x)
-unfolding eq
-real-of nan e = subst T (sym e) tt
-real-of (inf s) e = tt
-real-of (fin s m e) h = tt
+use Rattle.slab.proofs.Merging.{Order}
 
 abbrev k : Float → ℕ
 k x = key binary64 x
 
 compare : (a b : Float) → Number a → Number b → lt a b ≡ ltb (k a) (k b)
 unfolding Number
-compare a b p q = lt-is binary64 a b (p .0) (q .0) (real-of a (p .1)) (real-of b (q .1))
+compare a b p q = lt-is binary64 a b (p .0) (q .0) (self-real a (p .1)) (self-real b (q .1))
 
 same-key : (a b : Float) → Number a → Number b → eq a b ≡ true → k a ≡ k b
 unfolding Number
@@ -33,17 +27,11 @@ same-key a b p q e = eq→key binary64 a b (p .0) (q .0) (holds e)
 
 same-eq : (a b : Float) → Number a → Number b → k a ≡ k b → eq a b ≡ true
 unfolding Number
-same-eq a b p q e = is-true (eq a b) (key→eq binary64 a b (p .0) (q .0) (real-of a (p .1)) (real-of b (q .1)) e)
+same-eq a b p q e = is-true (eq a b) (key→eq binary64 a b (p .0) (q .0) (self-real a (p .1)) (self-real b (q .1)) e)
 
 top : (a : Float) → Number a → k a ≤ mid binary64 + mid binary64
 unfolding Number
 top a p = key-top binary64 a (p .0)
-
-yes : (m n : ℕ) → m < n → ltb m n ≡ true
-yes m n h = is-true (ltb m n) (lt→ltb m n h)
-
-no : (m n : ℕ) → n ≤ m → ltb m n ≡ false
-no m n h = elim (dich (ltb m n)) [ inl e ↦ let g = ltb-true m n e in absurd (omega arith) | inr e ↦ e ]
 
 both : (a b : Bool) → (a ≡ true → b ≡ true) → (a ≡ false → b ≡ false) → a ≡ b
 both true b f g = sym (f refl)
@@ -55,9 +43,9 @@ low p y z = cond p y (y + z)
 
 ahead-is : (p q : Bool) (y z w : ℕ) → y < w → z < w → cond p (cond q (ltb y z) true) (cond q false (ltb y z)) ≡ ltb (low p y w) (low q z w)
 ahead-is true true y z w a b = refl
-ahead-is true false y z w a b = sym (yes y (z + w) (omega arith))
-ahead-is false true y z w a b = sym (no (y + w) z (omega arith))
-ahead-is false false y z w a b = both (ltb y z) (ltb (y + w) (z + w)) (λ e. let g = ltb-true y z e in yes (y + w) (z + w) (omega arith)) (λ e. let g = ltb-false y z e in no (y + w) (z + w) (omega arith))
+ahead-is true false y z w a b = sym (lt-ltb y (z + w) (omega arith))
+ahead-is false true y z w a b = sym (le-ltb (y + w) z (omega arith))
+ahead-is false false y z w a b = both (ltb y z) (ltb (y + w) (z + w)) (λ e. let g = ltb-true y z e in lt-ltb (y + w) (z + w) (omega arith)) (λ e. let g = ltb-false y z e in le-ltb (y + w) (z + w) (omega arith))
 
 abbrev s : Crossing → ℕ
 s c = k (c .ya ⊕ c .yb)
@@ -91,11 +79,11 @@ or-right false y z e f = rw (e, f)
 
 lower : (a b : Crossing) → Placed a → Placed b → s a < s b → before a b ≡ true
 unfolding before Placed
-lower a b p q h = or-left (lt (a .ya ⊕ a .yb) (b .ya ⊕ b .yb)) (eq (a .ya ⊕ a .yb) (b .ya ⊕ b .yb)) (ahead a b) (compare (a .ya ⊕ a .yb) (b .ya ⊕ b .yb) (p .0) (q .0) ∙ yes (s a) (s b) h)
+lower a b p q h = or-left (lt (a .ya ⊕ a .yb) (b .ya ⊕ b .yb)) (eq (a .ya ⊕ a .yb) (b .ya ⊕ b .yb)) (ahead a b) (compare (a .ya ⊕ a .yb) (b .ya ⊕ b .yb) (p .0) (q .0) ∙ lt-ltb (s a) (s b) h)
 
 level : (a b : Crossing) → Placed a → Placed b → s a ≡ s b → w a < w b → before a b ≡ true
 unfolding before Placed
-level a b p q e h = or-right (lt (a .ya ⊕ a .yb) (b .ya ⊕ b .yb)) (eq (a .ya ⊕ a .yb) (b .ya ⊕ b .yb)) (ahead a b) (same-eq (a .ya ⊕ a .yb) (b .ya ⊕ b .yb) (p .0) (q .0) e) (ahead-keys a b p q ∙ yes (w a) (w b) h)
+level a b p q e h = or-right (lt (a .ya ⊕ a .yb) (b .ya ⊕ b .yb)) (eq (a .ya ⊕ a .yb) (b .ya ⊕ b .yb)) (ahead a b) (same-eq (a .ya ⊕ a .yb) (b .ya ⊕ b .yb) (p .0) (q .0) e) (ahead-keys a b p q ∙ lt-ltb (w a) (w b) h)
 
 told : (a b : Crossing) → Placed a → Placed b → before a b ≡ true → (s a < s b) ⊎ ((s a ≡ s b) × (w a < w b))
 unfolding before Placed
@@ -104,20 +92,17 @@ told a b p q e = elim (or-yes (lt (a .ya ⊕ a .yb) (b .ya ⊕ b .yb)) (eq (a .y
   | inr h ↦ inr (same-key (a .ya ⊕ a .yb) (b .ya ⊕ b .yb) (p .0) (q .0) (h .0), ltb-true (w a) (w b) (sym (ahead-keys a b p q) ∙ h .1))
 ]
 
-clash : {x : Bool} → x ≡ true → x ≡ false → ⊥
-clash e f = subst T (sym e ∙ f) tt
-
 -- in the manner that omega reads
 untold : (a b : Crossing) → Placed a → Placed b → before a b ≡ false → (s b < s a) ⊎ ((s a ≡ s b) × (w b ≤ w a))
-untold a b p q e = elim (dich (ltb (s b) (s a))) [
+untold a b p q e = elim (either (ltb (s b) (s a))) [
   | inl h ↦ inl (ltb-true (s b) (s a) h)
-  | inr h ↦ elim (dich (ltb (s a) (s b))) [
+  | inr h ↦ elim (either (ltb (s a) (s b))) [
     | inl g ↦ absurd (clash (lower a b p q (ltb-true (s a) (s b) g)) e)
     | inr g ↦
         let x = ltb-false (s b) (s a) h in
         let y = ltb-false (s a) (s b) g in
         let z : s a ≡ s b = omega arith in
-        elim (dich (ltb (w a) (w b))) [ inl f ↦ absurd (clash (level a b p q z (ltb-true (w a) (w b) f)) e) | inr f ↦ inr (z, ltb-false (w a) (w b) f) ]
+        elim (either (ltb (w a) (w b))) [ inl f ↦ absurd (clash (level a b p q z (ltb-true (w a) (w b) f)) e) | inr f ↦ inr (z, ltb-false (w a) (w b) f) ]
   ]
 ]
 

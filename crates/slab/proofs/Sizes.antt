@@ -1,23 +1,25 @@
 -- Every number of every strip of a slab is finite, never minus zero and within a bound, where those of its edges are. Assumes nothing.
-use Prim.Native.Nat.{ℕ, zero, suc, _+_, _≤_, _<_}
+use Prim.Native.Nat.{ℕ, _≤_, _<_}
 use native.Mathlib.Omega.{arith}
-use mathlib.Core.Path.{_≡_, refl, ap, sym, subst}
+use mathlib.Core.Path.{_≡_, refl, sym, subst}
 use mathlib.Core.Logic.{_⊎_, inl, inr}
-use mathlib.Core.List.{List, [], _∷_, _++_}
+use mathlib.Core.List.{List, [], _∷_}
 use mathlib.Core.Bool.{Bool, true, false, not, _&&_, cond}
 use lib.Dec.{T, lit≤}
 use lib.IntN.{ℤ, _+ℤ_}
 use lib.Ieee.{Float, nan, inf, fin, binary64, lt, le, eq, div, neg, unlike}
 use lib.Ieee.Fits.{and-l, and-r}
 use Rattle.numbers.specs.Numbers.{_⊕_, _⊖_, _⊗_, _⊘_, smaller, larger}
-use Rattle.numbers.proofs.Keys.{key, NumberIn, key→eq, finite-real, zero-mag}
+use Rattle.numbers.proofs.Keys.{key→eq, finite-real}
 use Rattle.numbers.proofs.Bounds.{sub-neg}
-use Rattle.numbers.proofs.Operations.{neg-fin, neg-key, num-or-zero}
-use Rattle.numbers.proofs.Doubles.{k, o, Finite, Number, Small, finite, le-yes, lt-yes, lt-no, add-upto, sub-upto, add-number, sub-number, sub-mono, sub-pos, sub-nonneg, div-share, Share, share-upto}
+use Rattle.numbers.proofs.Operations.{neg-fin, neg-key}
+use Rattle.numbers.proofs.Doubles.{k, o, Finite, Number, Small, finite, le-yes, lt-yes, lt-no, add-upto, sub-upto, add-number, sub-number, sub-mono, sub-pos, sub-nonneg, div-share, Share, share-upto, above-zero}
+use Rattle.numbers.proofs.Truth.{holds}
 use Rattle.trapezoid.specs.declared.Trapezoid.{Trapezoid}
 use Rattle.trapezoid.proofs.Sizes.{Sized, small-more}
 use Rattle.slab.specs.declared.Edge.{Edge}
-use Rattle.slab.specs.Slab.{insert, sort, up, spans, heightAt, Crossing, crossing, before, spanning, crossings, strip, kept, piece, runs, walk, slab}
+use Rattle.slab.specs.Slab.{insert, sort, spans, heightAt, Crossing, crossing, before, spanning, crossings, strip, kept, piece, runs, walk, slab}
+use Rattle.slab.proofs.Merging.{All, all-append}
 
 abbrev pub Coordinate : Float → Type 0
 Coordinate x = Small 100000 x
@@ -30,22 +32,11 @@ pub record Good (s : Trapezoid) : Type 0 where
   pub sizes : Sized 100000 300000 s
   pub order : k (s .x0) < k (s .x1)
 
-abbrev pub All : {A : Type 0} → (A → Type 0) → List A → Type 0
-All P [] = Unit {0}
-All P (a ∷ l) = P a × All P l
-
 pub wide : {x : Float} → Coordinate x → Height x
 wide s = small-more s (lit≤ tt)
 
-is : (b : Bool) → b ≡ true → T b
-is b e = subst T (sym e) tt
-
 -- ---- lists
 module _ {A : Type 0} (P : A → Type 0) where
-  pub all-append : (a b : List A) → All P a → All P b → All P (a ++ b)
-  all-append [] b p q = q
-  all-append (x ∷ a) b p q = (p .0, all-append a b (p .1) q)
-
   all-insert : (first : A → A → Bool) (a : A) (l : List A) → P a → All P l → All P (insert first a l)
   unfolding insert
   all-insert first a [] p q = (p, tt)
@@ -59,11 +50,6 @@ module _ {A : Type 0} (P : A → Type 0) where
   unfolding sort
   all-sort first [] p = tt
   all-sort first (a ∷ l) p = all-insert first a (sort first l) (p .0) (all-sort first l (p .1))
-
-  pub all-up : (f : ℕ → A) (i n : ℕ) → ((j : ℕ) → j < i + n → P (f j)) → All P (up f i n)
-  unfolding up
-  all-up f i zero h = tt
-  all-up f i (suc n) h = (h i (omega arith), all-up f (i + 1) n (λ j l. h j (omega arith)))
 
 -- ---- the share of the way along an edge
 unlike-not : (s t : Bool) → unlike (not s) (not t) ≡ unlike s t
@@ -79,17 +65,6 @@ div-neg (inf s) y p q = absurd (p .isFinite)
 div-neg (fin s m e) nan p q = absurd (q .isFinite)
 div-neg (fin s m e) (inf t) p q = absurd (q .isFinite)
 div-neg (fin s m e) (fin t n d) p q = rw (unlike-not s t)
-
-zero-key : (e : ℤ) → k (fin true 0 e) ≤ o
-unfolding key
-zero-key e = omega (arith, zero-mag binary64 true 0 e refl)
-
-num-above : (x : Float) → Finite x → o < k x → Number x
-num-above x p h = go (num-or-zero binary64 x p)
-  where
-    go : NumberIn binary64 x ⊎ ((e : ℤ) × (x ≡ fin true 0 e)) → Number x
-    go (inl n) = n
-    go (inr z) = absurd (omega (arith, ap (λ (y : Float). k y) (z .1), zero-key (z .0)))
 
 share-on : {p q x : Float} → Coordinate p → Coordinate q → Coordinate x → k p < k x → k x < k q → Share ((x ⊖ p) ⊘ (q ⊖ p))
 share-on P Q X h l =
@@ -115,7 +90,7 @@ share-back {p} {q} {x} P Q X h l =
     let ax : o < k (neg (x ⊖ p)) = omega arith in
     let aw : o < k (neg (q ⊖ p)) = omega arith in
     subst Share (div-neg (x ⊖ p) (q ⊖ p) (dx .0) (dw .0))
-    (div-share (num-above (neg (x ⊖ p)) (neg-fin binary64 (x ⊖ p) (dx .0)) ax) (neg-fin binary64 (q ⊖ p) (dw .0)) aw (omega arith) (omega arith))
+    (div-share (above-zero (neg-fin binary64 (x ⊖ p) (dx .0)) ax) (neg-fin binary64 (q ⊖ p) (dw .0)) aw (omega arith) (omega arith))
 
 share-height : {t a b : Float} → Share t → Coordinate a → Coordinate b → Height (a ⊕ t ⊗ (b ⊖ a))
 share-height S A B =
@@ -164,7 +139,7 @@ module _ (xa xb : Float) (A : Coordinate xa) (B : Coordinate xb) (ab : k xa < k 
   spans-on : (e : Edge) → Sides e → spans xa xb e ≡ true → On e xa × On e xb
   unfolding spans smaller larger
   spans-on e S h =
-      let t = is (le (e .lo) xa && (le xb (e .hi) && not (eq (e .px) (e .qx)))) h in
+      let t = holds h in
       let l = and-l (le (e .lo) xa) (le xb (e .hi) && not (eq (e .px) (e .qx))) t in
       let r = and-l (le xb (e .hi)) (not (eq (e .px) (e .qx))) (and-r (le (e .lo) xa) (le xb (e .hi) && not (eq (e .px) (e .qx))) t) in
       go (lt (e .qx) (e .px)) (lt (e .px) (e .qx)) (lt-no (finite (S .qx .num)) (finite (S .px .num))) (lt-yes (finite (S .px .num)) (finite (S .qx .num))) (lt-no (finite (S .px .num)) (finite (S .qx .num)))

@@ -11,7 +11,7 @@ use lib.Seq.{sets, length-sets, length-take-le, getD-set-same, getD-set-other, t
 use lib.Dec.{ltb}
 use lib.Ieee.{Float, nan}
 use borrow.Author.Tests.{lt-ltb, le-ltb}
-use Rattle.numbers.proofs.Rounding.{order}
+use Rattle.numbers.proofs.Truth.{below-or-not}
 use Rattle.trapezoid.specs.declared.Trapezoid.{Trapezoid}
 use Rattle.trapezoid.specs.Strip.{flat, capacity}
 use Rattle.strips.specs.declared.Rect.{Rect}
@@ -131,14 +131,14 @@ column-on which f i old new a n w l C p q =
 
     start : (k : ℕ) → k < i + 1 → getD (set (set new (4 * i + 2 * which) a) (4 * i + 2 * which + 1) n) (4 * k + 2 * which) 0 ≡ length (stripsTo f k)
     start k h =
-        elim (order k i) [
+        elim (below-or-not k i) [
           | inl b ↦ kept (4 * k + 2 * which) (λ e. omega arith) (λ e. omega arith) ∙ C .start k b
           | inr b ↦ (let e : k ≡ i = omega arith in subst (λ (x : ℕ). getD (set (set new (4 * i + 2 * which) a) (4 * i + 2 * which + 1) n) (4 * x + 2 * which) 0 ≡ length (stripsTo f x)) (sym e) (start-here ∙ p))
         ]
 
     count : (k : ℕ) → k < i + 1 → getD (set (set new (4 * i + 2 * which) a) (4 * i + 2 * which + 1) n) (4 * k + 2 * which + 1) 0 ≡ length (f k)
     count k h =
-        elim (order k i) [
+        elim (below-or-not k i) [
           | inl b ↦ kept (4 * k + 2 * which + 1) (λ e. omega arith) (λ e. omega arith) ∙ C .count k b
           | inr b ↦ (let e : k ≡ i = omega arith in subst (λ (x : ℕ). getD (set (set new (4 * i + 2 * which) a) (4 * i + 2 * which + 1) n) (4 * x + 2 * which + 1) 0 ≡ length (f x)) (sym e) (count-here ∙ q))
         ]
@@ -246,7 +246,7 @@ module _ (t : List Float) (i : ℕ) (b : Rect) (l : 4 * i + 4 ≤ length t) wher
   stores-size = ap length after-is ∙ length-sets t (4 * i) four
 
   pub stores-other : (q : ℕ) → q ≢ i → boundsAt after q ≡ boundsAt t q
-  stores-other q h = bounds-same t after q (λ r k. ap (λ (l : List Float). getD l (4 * q + r) nan) after-is ∙ getD-sets-other four t (4 * i) (4 * q + r) nan (side r k (order q i) (order i q)))
+  stores-other q h = bounds-same t after q (λ r k. ap (λ (l : List Float). getD l (4 * q + r) nan) after-is ∙ getD-sets-other four t (4 * i) (4 * q + r) nan (side r k (below-or-not q i) (below-or-not i q)))
     where
       side : (r : ℕ) → r < 4 → (q < i) ⊎ (i ≤ q) → (i < q) ⊎ (q ≤ i) → (4 * q + r < 4 * i) ⊎ (4 * i + 4 ≤ 4 * q + r)
       side r k (inl m) n = inl (omega arith)
@@ -273,7 +273,7 @@ bounds-on f old t t′ i b B l e h o = record { size = l ∙ B .size; here = the
   where
     there : (q : ℕ) → q < i + 1 → boundsAt t′ q ≡ f q
     there q k =
-        elim (order q i) [
+        elim (below-or-not q i) [
           | inl m ↦ o q (λ e. omega arith) ∙ B .here q m
           | inr m ↦ (let d : q ≡ i = omega arith in subst (λ (x : ℕ). boundsAt t′ x ≡ f x) (sym d) (h ∙ e))
         ]

@@ -9,6 +9,7 @@ use lib.ListN.{length, getD, set}
 use lib.Seq.{getD-set-same, getD-set-other}
 use lib.Dec.{T, ltb, lt→ltb}
 use lib.Ieee.{Float, nan, lt}
+use Rattle.numbers.proofs.Truth.{is-true}
 use Rattle.slab.specs.Slab.{insert}
 use Rattle.slab.specs.Tables.{down, merge}
 use Rattle.slab.proofs.Sorting.{over, insert-step, insert-last, down-zero}
@@ -34,10 +35,6 @@ pub insert-number-last : (l : List Float) (n k : ℕ) (x : Float) → k ≤ n �
     → down (at (set l k x)) (n + 1) ≡ over (at l) k (n - k) (insert lt x (down (at l) k))
 insert-number-last l n k x h len t =
     insert-last lt (at l) (at (set l k x)) x k n h (at-below l k x) (at-above l k x) (getD-set-same l k x nan (omega arith)) t
-
-is-true : (b : Bool) → T b → b ≡ true
-is-true true t = refl
-is-true false t = absurd t
 
 no : true ≡ false → ⊥
 no e = subst T e tt

@@ -9,21 +9,15 @@ use mathlib.Core.List.{List, [], _++_, append-nil, append-assoc}
 use mathlib.Core.Bool.{Bool, true, false, not}
 use lib.Dec.{T, ltb, lt→ltb}
 use lib.ListN.{getD}
-use lib.Ieee.{Float, nan, inf, fin, lt, eq, fits, binary64}
+use lib.Ieee.{Float, nan, lt, eq, fits, binary64}
 use Rattle.numbers.proofs.Truth.{is-true}
-use Rattle.numbers.proofs.Keys.{key, real, lt-is}
+use Rattle.numbers.proofs.Keys.{key, lt-is, self-real}
 use Rattle.slab.specs.Slab.{up, sort}
 use Rattle.slab.specs.Tables.{down, merge}
 use Rattle.slab.proofs.Sorting.{down-zero}
 use Rattle.slab.proofs.Merging.{All, Order, merge-sort, up-split, all-up, all-append}
 use Rattle.sorting.proofs.Lines.{at}
 use Rattle.sorting.specs.Xs.{xAt, sides, Number}
-
-real-of : (x : Float) → eq x x ≡ true → T (real x)
-unfolding eq
-real-of nan e = subst T (sym e) tt
-real-of (inf s) e = tt
-real-of (fin s m e) h = tt
 
 pub equals-itself : (b r : Bool) → r ≡ not b → r ≡ false → b ≡ true
 equals-itself true r e t = refl
@@ -39,7 +33,7 @@ number-is x r t e h = (t, equals-itself (eq x x) r e h)
 
 compare : (a b : Float) → Number a → Number b → lt a b ≡ ltb (key binary64 a) (key binary64 b)
 unfolding Number
-compare a b p q = lt-is binary64 a b (p .0) (q .0) (real-of a (p .1)) (real-of b (q .1))
+compare a b p q = lt-is binary64 a b (p .0) (q .0) (self-real a (p .1)) (self-real b (q .1))
 
 -- `lt` orders the numbers
 pub in-order : Order lt Number
@@ -61,7 +55,7 @@ in-order = record { through = through; past = past }
         lower a b p q (omega arith)
 
 pub sides-all : (sheet : Bool) (left right : Float) → Number left → Number right → All Number (sides sheet left right)
-unfolding sides All
+unfolding sides
 sides-all true left right p q = (p, (q, tt))
 sides-all false left right p q = tt
 

@@ -13,7 +13,7 @@ use Rattle.job.specs.declared.Header.{Header}
 use Rattle.job.specs.declared.JobRead.the-variants.{Good}
 use Rattle.job.specs.Jobs.{Job, Answer, accepted, refused, readJob}
 use Rattle.job.specs.Meaning.{jobRead}
-use Rattle.job.proofs.Accepted.{job-good}
+use Rattle.job.proofs.Accepted.{job-good, same-job}
 use Rattle.filling.specs.declared.Refusal.{Refusal}
 use Rattle.filling.specs.declared.Refusal.the-variants as Why
 use Rattle.filling.specs.declared.State.{State}
@@ -74,9 +74,6 @@ module _ (j : Job) (order : List ℕ) (l : Lent) (r : Started) (shapes sheet : L
 module _ (bytes rows places : List ℕ) (h : Header) (at c : ℕ) (t : (areas : List Float) × (64 ≤ length areas) × (readJob bytes ≡ jobRead (Good h at c) bytes rows areas places)) where
   abbrev J : Job
   J = jobIn h at c bytes rows (t .0) places
-
-  same-job : {x y : Job} → accepted x ≡ accepted y → x ≡ y
-  same-job e = cc
 
   pub job-is : (j : Job) → readJob bytes ≡ accepted j → J ≡ j
   job-is j e = same-job (sym (t .2) ∙ e)

@@ -5,16 +5,18 @@ use mathlib.Core.Path.{_≡_, sym, subst, subst⁻¹}
 use mathlib.Core.List.{List, [], _∷_, map, map-id}
 use lib.ListN.{length, getD, take}
 use lib.Dec.{T}
-use lib.Ieee.{Float, nan, binary64, fits}
+use lib.Ieee.{Float, binary64}
 use mir.Val.{Val}
 use denote.Array.{each}
 use denote.Floats.{FloatOf}
 use denote.Shadow.{shadow}
+use Rattle.numbers.proofs.Patterns.{nan-fits}
 use Rattle.job.specs.Jobs.{Job}
 use Rattle.filling.specs.declared.State.{State}
 use Rattle.filling.specs.Rooms.{Rooms}
 use Rattle.filling.specs.State.{apartRoom, insetRoom, orientationCounts}
 use Rattle.filling.specs.Consistent.{sheetIndex}
+use Rattle.filling.proofs.Reading.{kinds-many}
 use Rattle.choose.specs.declared.Grid.{Grid}
 use Rattle.choose.specs.Choosing.{gridOf, worldIn}
 use Rattle.place.specs.declared.Copy.{Copy}
@@ -23,14 +25,10 @@ use Rattle.place.specs.Placing.{totalsOf, copyOf}
 use Rattle.place.specs.Standing.{Standing, Fixed}
 use Rattle.filling_laws.proofs.ReadyStrips.{AllFit}
 use Rattle.filling_laws.proofs.Ready.{InDoubles, strips-within, ready-fixed, ready-counts, ready-standing}
-use Rattle.filling_laws.proofs.ReadyOrder.{kinds-many, slots-within, next-kind}
+use Rattle.filling_laws.proofs.ReadyOrder.{slots-within, next-kind}
 use Rattle.step.specs.Going.{Going}
 
 -- ---- the numbers of an array of doubles
-nan-fits : T (fits binary64 nan)
-unfolding fits
-nan-fits = tt
-
 each-fit : (xs : List Float) (us : List Val) → shadow (each Float (FloatOf binary64 .own) xs us) → AllFit xs
 each-fit [] us p i = nan-fits
 each-fit (x ∷ xs) [] p i = absurd p

@@ -1,8 +1,6 @@
 -- What code leaves of a step is the definition's. Assumes nothing.
-use Prim.{⊥}
 use Prim.Native.Nat.{ℕ, _+_, _*_, _/_, _≤_}
 use native.Mathlib.Numerals.{add-one}
-use native.Mathlib.Omega.{arith}
 use mathlib.Core.Path.{_≡_, refl, sym, ap, subst⁻¹, _∙_}
 use mathlib.Core.List.{List, map}
 use lib.ListN.{length, getD, take, replicate}
@@ -18,6 +16,7 @@ use Rattle.filling.specs.State.{apartRoom, insetRoom, plannerAt, orientationCou
 use Rattle.filling.specs.Consistent.{sheetIndex}
 use Rattle.filling.specs.NextCopy as Next
 use Rattle.filling.specs.NextCopy.{entered, noStep, coreStep}
+use Rattle.filling.proofs.Steps.{accepted≢refused, refused≢accepted}
 use Rattle.tracks.specs.Tracks.{nextColumns, lookCounts}
 use Rattle.choose.specs.declared.Grid.{Grid}
 use Rattle.choose.specs.Choosing.{gridOf, worldIn}
@@ -36,18 +35,12 @@ use Rattle.step.specs.Going.{rooms, Going, takenOf, answerOf, stepOf}
 use Rattle.step.proofs.Allowed.{kind, turns, listed, known, turns-are}
 use Rattle.step.proofs.Kept.{place-kept}
 
-never : {k : Refusal} → Verdicts.Refused k ≡ Verdicts.Accepted → ⊥
-never e = absurd (let z : _≡_ {A = ℕ} 0 1 = cc in omega arith)
-
 same-refusal : {k r : Refusal} → Verdicts.Refused k ≡ Verdicts.Refused r → k ≡ r
 same-refusal e = cc
 
-not-refused : {r : Refusal} → Verdicts.Accepted ≡ Verdicts.Refused r → ⊥
-not-refused e = absurd (let z : _≡_ {A = ℕ} 0 1 = cc in omega arith)
-
 refused-by : (o : Outcome) (k : Refusal) → verdictOf o ≡ Verdicts.Refused k → o ≡ Refused k
-refused-by (At c) k e = absurd (not-refused e)
-refused-by Nowhere k e = absurd (not-refused e)
+refused-by (At c) k e = absurd (accepted≢refused e)
+refused-by Nowhere k e = absurd (accepted≢refused e)
 refused-by (Refused r) k e = ap Refused (same-refusal e)
 
 pub room-zeros : (l m : List Float) → length m ≡ length l → zeros posZero m ≡ zeros posZero l
@@ -117,7 +110,7 @@ module _ {j : Job} {s : State} {w : Rooms} {rows : List ℕ} {areas : List Float
     unfolding entered
     written (At c) e = ap writtenAs (add-one (s .taken))
     written Nowhere e = ap writtenAs (add-one (s .taken))
-    written (Refused why) e = absurd (never e)
+    written (Refused why) e = absurd (refused≢accepted e)
 
     -- a copy that is refused: the old state and rooms
     no-step : (why : Refusal) → stepOf (record { verdict = Verdicts.Refused why; state = s }) w (zeros posZero intervals) ≡ noStep why s w intervals

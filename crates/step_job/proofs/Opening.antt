@@ -1,7 +1,7 @@
 -- The parts of a step, and the tables of the job that was read. Assumes nothing.
 use Prim.Native.Nat.{ℕ, _+_, _*_, _<_, _≤_}
 use mathlib.Core.Path.{_≡_, refl, sym, ap, subst, subst⁻¹, _∙_}
-use mathlib.Core.Bool.{true, false}
+use mathlib.Core.Bool.{true}
 use mathlib.Core.List.{List, []}
 use lib.ListN.{length, getD, take, drop}
 use lib.Ieee.{Float}
@@ -21,6 +21,7 @@ use Rattle.filling.specs.State.{orientationCounts, orderOf}
 use Rattle.filling.specs.Consistent.{sheetIndex, consistent}
 use Rattle.filling.specs.NextCopy as Next
 use Rattle.filling.specs.NextCopy.{noStep, placeNext, coreStep, stepJob, stepGiven, nextCopyOf}
+use Rattle.filling.proofs.Runs.{step-consistent}
 use Rattle.tables.proofs.Tabling.{jobIn, kinds-in, tabled}
 use Rattle.filling_laws.proofs.Ready.{laid-whole, strips-within}
 use Rattle.filling_laws.proofs.ReadyOrder.{most-turns, none-left}
@@ -33,20 +34,12 @@ unfolding noStep
 refuse-is why s intervals zeroed e w = ap (λ (l : List Float). stepOf (record { verdict = Verdicts.Refused why; state = s }) w l) e
 
 -- ---- 31, then 23, then the copy
-pub step-inconsistent : (j : Job) (s : State) (w : Rooms) (intervals : List Float) → consistent j s w ≡ false → noStep Why.Inconsistent s w intervals ≡ stepJob j s w intervals
-unfolding stepJob
-step-inconsistent j s w intervals e = rw (e, stepJob)
-
-pub step-consistent : (j : Job) (s : State) (w : Rooms) (intervals : List Float) → consistent j s w ≡ true → coreStep j s w intervals ≡ stepJob j s w intervals
-unfolding stepJob
-step-consistent j s w intervals e = rw (e, stepJob)
-
 used-up : (j : Job) (s : State) (w : Rooms) (intervals : List Float) → drop (s .taken) (orderOf j s) ≡ [] → noStep Why.OrderUsedUp s w intervals ≡ coreStep j s w intervals
 unfolding coreStep placeNext
 used-up j s w intervals e = sym (ap (placeNext j s w intervals) e)
 
 pub step-used-up : (j : Job) (s : State) (w : Rooms) (intervals : List Float) → consistent j s w ≡ true → j .copies ≤ s .taken → noStep Why.OrderUsedUp s w intervals ≡ stepJob j s w intervals
-step-used-up j s w intervals e h = used-up j s w intervals (none-left j s w e h) ∙ step-consistent j s w intervals e
+step-used-up j s w intervals e h = used-up j s w intervals (none-left j s w e h) ∙ sym (step-consistent j s w intervals e)
 
 pub going : (j : Job) (s : State) (w : Rooms) (rows : List ℕ) (areas : List Float) (kinds copies : ℕ) (sheet-starts starts : List ℕ) → Opened j rows areas kinds copies → consistent j s w ≡ true → s .taken < copies
     → Laid (sheetIndex (s .tables .«sheet_bounds»)) (take (6 * s .tables .«sheet_strips») (w .sheet)) (capacity (take (6 * s .tables .«sheet_strips») (w .sheet))) (w .sheet-entries) sheet-starts

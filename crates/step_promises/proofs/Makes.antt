@@ -10,7 +10,7 @@ use lib.Dec.{T, lit≤}
 use lib.Ieee.{Float, binary64, fits, le, lt, add}
 use lib.Ieee.Fits.{add-fits}
 use Rattle.numbers.specs.Numbers.{_⊕_, larger, posZero, fromInt}
-use Rattle.numbers.proofs.Truth.{holds, either}
+use Rattle.numbers.proofs.Truth.{holds, either, both-first, both-second}
 use Rattle.numbers.proofs.Keys.{le→key}
 use Rattle.numbers.proofs.Bounds.{value-key}
 use Rattle.numbers.proofs.Rounding.{key-finite, finite-of-key}
@@ -20,9 +20,9 @@ use Rattle.numbers.proofs.RoundDown.{le-real}
 use Rattle.numbers.proofs.Doubles.{k, o, u, Finite, finite, add-upto, add-mono}
 use Rattle.trapezoid.specs.declared.Trapezoid.{Trapezoid}
 use Rattle.trapezoid.specs.Strip.{stripAt, flat, capacity, movedBy}
-use Rattle.slab.proofs.Sizes.{All}
 use Rattle.index.specs.Buckets.{upFrom}
 use Rattle.index.specs.Listing.{Bounded}
+use Rattle.index.proofs.Flat.{getD-upFrom}
 use Rattle.look.specs.Looking.{countedIn}
 use Rattle.look.specs.Ready.{BoundedStrip, BoundedStrips}
 use Rattle.bits.proofs.Accepted.{UpFrom}
@@ -41,8 +41,7 @@ use Rattle.choose.specs.Choosing.{partAt, boundsAt}
 use Rattle.filling.specs.State.{orientationCounts, shapeAt, plannerAt, orderOf, tracksOf}
 use Rattle.filling.specs.Consistent.{layoutFits, bounded, placedStrips, consistent}
 use Rattle.filling.specs.NextCopy.{newStrips, entered, stateWith, layoutAfter, stateAfter, stored, roomsAfter, copyVerdict, Step, noStep, placeCopy, placeNext, coreStep, stepJob, stepGiven, nextCopyOf}
-use Rattle.filling.proofs.Lists.{both-first, both-second}
-use Rattle.filling.proofs.Reading.{rows-length, getD-upFrom}
+use Rattle.filling.proofs.Reading.{rows-length, kinds-many}
 use Rattle.filling.proofs.Steps.{place-taken, place-refused}
 use Rattle.filling.proofs.Runs.{step-consistent, step-inconsistent}
 use Rattle.filling.proofs.Numbers31.{Yielded, Good, Goods, and-good, best-good, row-good}
@@ -53,9 +52,10 @@ use Rattle.columns.proofs.Same.{low-same, high-same, x-same}
 use Rattle.columns.proofs.Sizes.{BoundedRect, y-low-bounded, y-high-bounded}
 use Rattle.filling_laws.proofs.SameCore.{row}
 use Rattle.filling_laws.proofs.ReadyColumns.{column-bounded}
-use Rattle.filling_laws.proofs.ReadyOrder.{kind-in, kinds-many}
+use Rattle.filling_laws.proofs.ReadyOrder.{kind-in}
 use Rattle.filling_laws.proofs.Ready.{InDoubles, tests-of, resolution-in, bounds-in, apart-in, shape-bounds}
 use Rattle.promises.proofs.Stays.{choices-under, best-all}
+use Rattle.slab.proofs.Merging.{All}
 
 -- ---- lists
 

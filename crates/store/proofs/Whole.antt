@@ -147,10 +147,6 @@ unfolding capacity
 sum-fits p q n k a b e h = let d : k ≡ length q / 6 = e in omega arith
 
 -- ---- the loops
-pub in-room : (l : List Float) (j c : ℕ) → c ≡ capacity l → j < c → 6 * j + 6 ≤ length l
-unfolding capacity
-in-room l j c e h = let q : c ≡ length l / 6 = e in omega arith
-
 pub moved-next : (apart : List Float) (x y : Float) (n : ℕ) (p : List Float) (j : ℕ) (q r : List Float) (u v : Trapezoid) → q ≡ movedTo apart x y n p j → u ≡ stripAt apart j → v ≡ movedBy u x y → r ≡ setStrip q (n + j) v
     → r ≡ movedTo apart x y n p (j + 1)
 unfolding movedTo

@@ -5,37 +5,24 @@ use native.Mathlib.Omega.{arith}
 use native.Mathlib.Numerals.{add-one}
 use mathlib.Core.Path.{_≡_, refl, sym, ap, _∙_, subst}
 use mathlib.Core.Logic.{_⊎_, inl, inr}
-use mathlib.Core.Bool.{Bool, true, false, true≢false}
-use mathlib.Core.List.{List, [], _∷_, _++_, map, flatMap, List·Memᴰ, List·Memᴰ·head, List·Memᴰ·tail}
+use mathlib.Core.Bool.{true, false, true≢false}
+use mathlib.Core.List.{List, [], _∷_, _++_, flatMap}
 use lib.ListN.{length, getD, length-append}
 use lib.Ieee.{Float}
+use Rattle.numbers.proofs.Truth.{either, below-or-not}
 use Rattle.trapezoid.specs.declared.Trapezoid.{Trapezoid}
 use Rattle.trapezoid.specs.Strip.{stripAt, movedBy}
 use Rattle.index.specs.declared.Index.{Index}
-use Rattle.index.specs.Buckets.{buckets, upFrom, keep, bucketIn, entriesOf}
+use Rattle.index.specs.Buckets.{buckets, upFrom, bucketIn, entriesOf}
 use Rattle.index.specs.Listing.{Laid, covers, entered}
-use Rattle.index.proofs.Steps.{dich, bucket-top}
+use Rattle.index.proofs.Steps.{bucket-top}
 use Rattle.index.proofs.EntryLists.{entries-by-bucket}
-use Rattle.index.proofs.Flat.{flat-same, upFrom-mem}
-use Rattle.index.proofs.Collecting.{lt-or-ge}
+use Rattle.index.proofs.Flat.{flat-same, upFrom-mem, keep-same, map-same}
 use Rattle.enter.specs.EntryRoom.{startOf, startsOf}
 use Rattle.enter.proofs.Starts.{covers-parts, covers-yes, entered-yes, entered-no, start-first, start-next, start-last, laid-starts}
 use Rattle.store.specs.Storing.{widthAt, widthsTo}
 
 -- ---- strips that are alike have the same entries
-keep-same : (f g : ℕ → Bool) (is : List ℕ) → ((i : ℕ) → List·Memᴰ i is → f i ≡ g i) → keep f is ≡ keep g is
-unfolding keep
-keep-same f g [] h = refl
-keep-same f g (i ∷ is) h = go (keep-same f g is (λ j m. h j (List·Memᴰ·tail m))) (h i (List·Memᴰ·head refl)) (dich (f i))
-  where
-    go : keep f is ≡ keep g is → f i ≡ g i → (f i ≡ true) ⊎ (f i ≡ false) → keep f (i ∷ is) ≡ keep g (i ∷ is)
-    go below e (inl t) = let u : g i ≡ true = sym e ∙ t in rw (t, u, keep, below)
-    go below e (inr t) = let u : g i ≡ false = sym e ∙ t in rw (t, u, keep, below)
-
-map-same : (f g : ℕ → ℕ) → ((i : ℕ) → f i ≡ g i) → (is : List ℕ) → map f is ≡ map g is
-map-same f g h [] = refl
-map-same f g h (i ∷ is) = let e = h i in let b = map-same f g h is in rw (e, b)
-
 module _ (ix : Index) (s t : List Float) (n : ℕ) (h : (i : ℕ) → i < n → stripAt s i ≡ stripAt t i) where
   entered-same : (b : ℕ) → entered ix s n b ≡ entered ix t n b
   unfolding entered
@@ -50,7 +37,7 @@ module _ (ix : Index) (s t : List Float) (n : ℕ) (h : (i : ℕ) → i < n → 
 
   pub starts-same : startsOf ix s n ≡ startsOf ix t n
   unfolding startsOf
-  starts-same = map-same (startOf ix s n) (startOf ix t n) start-same (upFrom (buckets + 1) 0)
+  starts-same = map-same (startOf ix s n) (startOf ix t n) (upFrom (buckets + 1) 0) (λ i m. start-same i)
 
 -- ---- one strip more
 module _ (ix : Index) (s : List Float) (i : ℕ) where
@@ -65,7 +52,7 @@ module _ (ix : Index) (s : List Float) (i : ℕ) where
   covered b = min b (hi + 1) - min b lo
 
   bucket-more : (b : ℕ) → length (entered ix s (i + 1) b) + covered b ≡ length (entered ix s i b) + covered (b + 1)
-  bucket-more b = go (dich (covers ix (stripAt s i) b))
+  bucket-more b = go (either (covers ix (stripAt s i) b))
     where
       inside : (a c : ℕ) → lo ≤ b → b ≤ hi → c ≡ a + 1 → c + (min b (hi + 1) - min b lo) ≡ a + (min (b + 1) (hi + 1) - min (b + 1) lo)
       inside a c h g e = omega arith
@@ -85,11 +72,11 @@ module _ (ix : Index) (s : List Float) (i : ℕ) where
 
       outside : covers ix (stripAt s i) b ≡ false → (b < lo) ⊎ (lo ≤ b) → length (entered ix s (i + 1) b) + covered b ≡ length (entered ix s i b) + covered (b + 1)
       outside f (inl l) = before (length (entered ix s i b)) (length (entered ix s (i + 1) b)) l (ap length (entered-no ix s i b f))
-      outside f (inr l) = beyond (length (entered ix s i b)) (length (entered ix s (i + 1) b)) (no f l (lt-or-ge hi b)) (ap length (entered-no ix s i b f))
+      outside f (inr l) = beyond (length (entered ix s i b)) (length (entered ix s (i + 1) b)) (no f l (below-or-not hi b)) (ap length (entered-no ix s i b f))
 
       go : (covers ix (stripAt s i) b ≡ true) ⊎ (covers ix (stripAt s i) b ≡ false) → length (entered ix s (i + 1) b) + covered b ≡ length (entered ix s i b) + covered (b + 1)
       go (inl t) = let q = covers-parts ix s i b t in inside (length (entered ix s i b)) (length (entered ix s (i + 1) b)) (q .0) (q .1) (ap length (entered-yes ix s i b t) ∙ length-append (entered ix s i b) (i ∷ []))
-      go (inr f) = outside f (lt-or-ge b lo)
+      go (inr f) = outside f (below-or-not b lo)
 
   start-more : (b : ℕ) → startOf ix s (i + 1) b ≡ startOf ix s i b + covered b
   start-more zero = sums (startOf ix s (i + 1) 0) (startOf ix s i 0) (start-first ix s (i + 1)) (start-first ix s i)

@@ -7,16 +7,15 @@ use mathlib.Core.Bool.{Bool, true, false, not, _&&_, true≢false}
 use mathlib.Core.List.{List}
 use lib.ListN.{length}
 use lib.Dec.{T, lit≤}
-use lib.Ieee.{Float, binary64, fits, le, lt, neg, ofInt, div}
+use lib.Ieee.{Float, binary64, fits, le, lt, neg}
 use lib.Ieee.Scale.{finite}
 use borrow.Author.Tests.{not-true, not-false}
 use Rattle.numbers.specs.Numbers.{fromInt, posZero}
 use Rattle.numbers.proofs.Truth.{holds, is-true, either}
-use Rattle.numbers.proofs.Keys.{key, mid, mag, unit, unit-pos, le→key}
+use Rattle.numbers.proofs.Keys.{unit-pos, le→key}
 use Rattle.numbers.proofs.Bounds.{value-key, within-finite}
 use Rattle.numbers.proofs.RoundDown.{le-real}
-use Rattle.numbers.proofs.Ranges.{tested-within}
-use Rattle.numbers.proofs.Literals.{milli, milli-num}
+use Rattle.numbers.proofs.Literals.{milli, milli-num, milli-thousandth}
 use Rattle.numbers.proofs.Doubles.{k, o, u, Upto}
 use Rattle.trapezoid.specs.declared.Trapezoid.{Trapezoid}
 use Rattle.trapezoid.specs.Strip.{capacity}
@@ -24,7 +23,9 @@ use Rattle.strips.specs.declared.Rect.{Rect}
 use Rattle.index.specs.Listing.{Bounded}
 use Rattle.columns.proofs.Sizes.{Resolving}
 use Rattle.bits.specs.Fields.{resolutionRange}
+use Rattle.bits.proofs.Accepted.{resolution-least, resolution-most}
 use Rattle.filling.specs.Consistent.{bounded, stripFits, boundsFit, resolutionFits, layoutFits}
+use Rattle.filling.proofs.WithinBoundsNumbers.{tested-bounded}
 use Rattle.strip_tests.specs.Heights.{heightsFit}
 
 pub never : {A : Type 0} → false ≡ true → A
@@ -38,17 +39,6 @@ pub failed : {r b : Bool} → r ≡ b → not r ≡ true → b ≡ false
 failed e n = sym e ∙ not-true _ n
 
 -- ---- a number
-
-limit-low : T (fits binary64 (neg (fromInt 1_000_000))) × lib.Ieee.Exact.HasValue (neg (fromInt 1_000_000)) true 1000000 1
-unfolding fits neg ofInt
-limit-low = (tt, (refl, refl))
-
-limit-high : T (fits binary64 (fromInt 1_000_000)) × lib.Ieee.Exact.HasValue (fromInt 1_000_000) false 1000000 1
-unfolding fits ofInt
-limit-high = (tt, (refl, refl))
-
-tested : (x : Float) → T (fits binary64 x) → le (neg (fromInt 1_000_000)) x ≡ true → le x (fromInt 1_000_000) ≡ true → Bounded 1000000 x
-tested x f l h = let t = tested-within binary64 1000000 (neg (fromInt 1_000_000)) (fromInt 1_000_000) x (limit-low .0) (limit-high .0) f (limit-low .1) (limit-high .1) (holds l) (holds h) (lit≤ tt) in record { fine = t .0; bound = t .1 }
 
 pub bounded-low : (x : Float) → le (neg (fromInt 1_000_000)) x ≡ false → bounded x ≡ false
 unfolding bounded
@@ -71,10 +61,10 @@ bounded-high x l h = go (finite x)
     go false = refl
 
 pub bounded-rest : (x : Float) → T (fits binary64 x) → le (neg (fromInt 1_000_000)) x ≡ true → (le x (fromInt 1_000_000) ≡ bounded x) × (le x (fromInt 1_000_000) ≡ true → Bounded 1000000 x)
-bounded-rest x f l = (go (either (le x (fromInt 1_000_000))), λ h. tested x f l h)
+bounded-rest x f l = (go (either (le x (fromInt 1_000_000))), λ h. tested-bounded x f l h)
   where
     go : (le x (fromInt 1_000_000) ≡ true) ⊎ (le x (fromInt 1_000_000) ≡ false) → le x (fromInt 1_000_000) ≡ bounded x
-    go (inl h) = h ∙ sym (bounded-all x (tested x f l h .fine .isFinite) l h)
+    go (inl h) = h ∙ sym (bounded-all x (tested-bounded x f l h .fine .isFinite) l h)
     go (inr h) = h ∙ sym (bounded-high x l h)
 
 -- ---- bounds
@@ -133,27 +123,15 @@ module _ (p : Trapezoid) where
 
 -- ---- the resolution
 
-least-is : resolutionRange .least ≡ milli
-unfolding ofInt div
-least-is = refl
-
-most-is : T (fits binary64 (fromInt 10_000)) × lib.Ieee.Exact.HasValue (fromInt 10_000) false 10000 1
-unfolding fits ofInt
-most-is = (tt, (refl, refl))
-
-milli-size : u ≤ 1000 * (k milli - o)
-unfolding key mag mid unit
-milli-size = lit≤ tt
-
 resolving : (x : Float) → T (fits binary64 x) → le (resolutionRange .least) x ≡ true → le x (resolutionRange .most) ≡ true → Resolving x
 resolving x f l h =
-    let a : T (le milli x) = subst (λ (y : Float). T (le y x)) least-is (holds l) in
+    let a : T (le milli x) = subst (λ (y : Float). T (le y x)) resolution-least (holds l) in
     let low = le→key binary64 milli x (milli-num .fit) f a in
-    let high = le→key binary64 x (fromInt 10_000) f (most-is .0) (holds h) in
-    let top = value-key binary64 (fromInt 10_000) false 10000 (most-is .0) (most-is .1) in
-    let s = some u o (k milli) (k x) (unit-pos binary64) milli-size low in
+    let high = le→key binary64 x (fromInt 10_000) f (resolution-most .0) (holds h) in
+    let top = value-key binary64 (fromInt 10_000) false 10000 (resolution-most .0) (resolution-most .1) in
+    let s = some u o (k milli) (k x) (unit-pos binary64) milli-thousandth low in
     let w : Upto 10000 x = record { atLeast = at-least o (k x) (10000 * u) s; atMost = subst (λ (y : ℕ). k x ≤ y) top high } in
-    record { fine = record { fit = f; isFinite = within-finite binary64 x 10000 f (le-real milli x a) (lit≤ tt) w }; some = s; least = most u o (k milli) (k x) milli-size low }
+    record { fine = record { fit = f; isFinite = within-finite binary64 x 10000 f (le-real milli x a) (lit≤ tt) w }; some = s; least = most u o (k milli) (k x) milli-thousandth low }
   where
     some : (u m l x : ℕ) → 0 < u → u ≤ 1000 * (l - m) → l ≤ x → m < x
     some u m l x p h g = omega arith

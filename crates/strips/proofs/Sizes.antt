@@ -11,7 +11,8 @@ use Rattle.numbers.specs.Numbers.{smaller, larger}
 use Rattle.numbers.proofs.Doubles.{k, finite, lt-yes}
 use Rattle.slab.specs.declared.Edge.{Edge}
 use Rattle.slab.specs.Slab.{up, sort, slab}
-use Rattle.slab.proofs.Sizes.{Coordinate, Height, Good, All, Sides, wide, all-append, all-sort, all-up, slab-good}
+use Rattle.slab.proofs.Sizes.{Coordinate, Height, Good, Sides, wide, all-sort, slab-good}
+use Rattle.slab.proofs.Merging.{All, all-append, all-up}
 use Rattle.strips.specs.declared.Rect.{Rect}
 use Rattle.strips.specs.Strips.{xOf, yOf, widened, boundsOn, bounds, frame, distinctFrom, distinct, xs, between, slabs, edge, after, loopEdges, edges, trapezoids}
 use Rattle.strips.specs.Tables.{Loops}

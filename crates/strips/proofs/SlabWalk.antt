@@ -1,10 +1,11 @@
 -- Laws of the walk over the x's, without equal ones. Assumes nothing.
 use Prim.Native.Nat.{ℕ, zero, suc, _-_, _≤_, _<_}
 use native.Mathlib.Omega.{arith}
-use mathlib.Core.Path.{_≡_, refl, ap, sym, _∙_}
+use mathlib.Core.Path.{_≡_, ap, sym, _∙_}
 use mathlib.Core.List.{List, [], _∷_, _++_}
 use mathlib.Core.Bool.{Bool, true, false, not}
 use lib.Ieee.{Float, lt, eq}
+use borrow.Author.Tests.{not-true, not-false}
 use Rattle.slab.specs.declared.Edge.{Edge}
 use Rattle.slab.specs.Slab.{slab, up, sort}
 use Rattle.slab.specs.Tables.{down, edgeAt, Held, hold}
@@ -24,14 +25,6 @@ from-same a b bs e = rw (e, distinctFrom)
 from-other : (a b : Float) (bs : List Float) → eq a b ≡ false → distinctFrom a (b ∷ bs) ≡ b ∷ distinctFrom b bs
 unfolding distinctFrom
 from-other a b bs e = rw (e, distinctFrom)
-
-not-true : (b : Bool) → not b ≡ true → b ≡ false
-not-true true e = sym e
-not-true false e = refl
-
-not-false : (b : Bool) → not b ≡ false → b ≡ true
-not-false true e = refl
-not-false false e = sym e
 
 pred-down : (f : ℕ → Float) (k : ℕ) → 0 < k → down f k ≡ f (k - 1) ∷ down f (k - 1)
 pred-down f zero p = absurd (omega arith)

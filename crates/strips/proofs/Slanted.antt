@@ -12,6 +12,7 @@ use Rattle.slab.specs.declared.Edge.{Edge}
 use Rattle.slab.specs.Slab.{up, sort, spans, Crossing, crossing, before, spanning, crossings, walk, slab}
 use Rattle.slab.specs.Tables.{edgeAt, setEdge}
 use Rattle.slab.proofs.Sorting.{up-snoc, up-ext}
+use Rattle.slab.proofs.Forward.{spanning-off}
 use Rattle.strips.specs.Tables.{slanted}
 use Rattle.strips.specs.Strips.{between, slabs}
 use Rattle.strips.proofs.EdgeTable.{edge-below, edge-above, edge-same}
@@ -77,10 +78,6 @@ spanning-on xa xb e a b h = go (spans xa xb e)
     go : (t : Bool) → _≡_ {A = List Crossing} (elim t [ true ↦ crossing xa xb e ∷ spanning xa xb a | false ↦ spanning xa xb a ]) (elim t [ true ↦ crossing xa xb e ∷ spanning xa xb b | false ↦ spanning xa xb b ])
     go true = ap (λ (l : List Crossing). crossing xa xb e ∷ l) h
     go false = h
-
-spanning-off : (xa xb : Float) (e : Edge) (es : List Edge) → spans xa xb e ≡ false → spanning xa xb (e ∷ es) ≡ spanning xa xb es
-unfolding spanning
-spanning-off xa xb e es h = rw (h, spanning)
 
 spanning-slanted : (xa xb : Float) (es : List Edge) → spanning xa xb (slanted es) ≡ spanning xa xb es
 unfolding slanted

@@ -101,17 +101,9 @@ fn loops_lie(ends: &[u16], n: usize) -> bool
     first == n
 }
 
-// The bits of x; 0 for a NaN.
-fn bits(x: f64) -> u64 {
-    if x == x {
-        return f64::to_bits(x);
-    }
-    0
-}
-
 fn show(x: f64) {
     io::write_all(1, b" ");
-    io::print_hex(1, bits(x), 16);
+    io::print_hex(1, numbers::bits_of(x), 16);
 }
 
 fn show_strip(s: trapezoid::Trapezoid) {

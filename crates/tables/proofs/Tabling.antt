@@ -1,9 +1,9 @@
 -- The tables of an accepted job say what the job says. Assumes nothing.
-use Prim.Native.Nat.{ℕ, zero, suc, _+_, _*_, _<_, _≤_}
+use Prim.Native.Nat.{ℕ, _+_, _*_, _<_, _≤_}
 use native.Mathlib.Omega.{arith}
 use mathlib.Core.Path.{_≡_, refl, ap, _∙_}
 use mathlib.Core.Bool.{false}
-use mathlib.Core.List.{List, [], _∷_, map}
+use mathlib.Core.List.{List, [], map}
 use lib.ListN.{length, getD}
 use lib.IntN.{pos}
 use lib.Dec.{eqb}
@@ -16,18 +16,13 @@ use Rattle.kinds.proofs.Tables.{length-tabulate, tabulate-at}
 use Rattle.job.specs.Jobs.{Job, accepted, readJob}
 use Rattle.filling.specs.State.{orientationCounts}
 use Rattle.filling.proofs.Sizes.{sized}
+use Rattle.index.proofs.Flat.{map-at}
 use Rattle.tables.specs.Tabled.{Tabled}
 use Rattle.sets.specs.Answers.{setAt}
 
 -- the job that the tables hold
 abbrev pub jobIn : Header → ℕ → ℕ → List ℕ → List ℕ → List Float → List ℕ → Job
 jobIn h s c bytes rows areas places = record { header = h; sheet = setAt bytes s; kinds = tabulate (kindAt bytes rows areas places) (h .kinds); copies = c }
-
--- one number of each of a list
-map-at : {A B : Type 0} (f : A → B) (l : List A) (k : ℕ) (d : A) (e : B) → k < length l → getD (map f l) k e ≡ f (getD l k d)
-map-at f [] k d e h = absurd (omega arith)
-map-at f (a ∷ l) zero d e h = refl
-map-at f (a ∷ l) (suc k) d e h = map-at f l k d e (omega arith)
 
 module _ (h : Header) (s c : ℕ) (bytes rows : List ℕ) (areas : List Float) (places : List ℕ) where
   abbrev j : Job
@@ -40,7 +35,7 @@ module _ (h : Header) (s c : ℕ) (bytes rows : List ℕ) (areas : List Float) (
   -- what f says of kind k
   kind-in : {B : Type 0} (f : Kind → B) (e : B) (k : ℕ) → k < length (j .kinds) → getD (map f (j .kinds)) k e ≡ f (kindAt bytes rows areas places k)
   kind-in f e k l =
-      map-at f (j .kinds) k (kindAt bytes rows areas places k) e l
+      map-at f (j .kinds) k e (kindAt bytes rows areas places k) l
       ∙ ap f (tabulate-at (kindAt bytes rows areas places) (h .kinds) k (kindAt bytes rows areas places k) (let q : length (j .kinds) ≡ h .kinds = kinds-in in omega arith))
 
   quantity-in : (k : ℕ) → kindAt bytes rows areas places k .quantity ≡ getD rows (4 * k) 0

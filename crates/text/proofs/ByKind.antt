@@ -9,7 +9,7 @@ use native.Mathlib.Numerals.{add-one}
 use lib.ListN.{length, getD, take, length-append}
 use lib.Ieee.{Float}
 use borrow.Author.Tests.{eq-eqb, ne-eqb}
-use Rattle.numbers.proofs.Rounding.{order}
+use Rattle.numbers.proofs.Truth.{below-or-not}
 use Rattle.index.specs.Buckets.{upFrom}
 use Rattle.index.proofs.Flat.{flat-snoc}
 use Rattle.kinds.specs.Kinds.{Kind}
@@ -123,7 +123,7 @@ fill-no k n f e = rw e
 
 pub left-most : (k n : ℕ) (f : Bool) → length (leftLine k f n) ≤ 47
 left-most k n true = rw (sym (left-fill k n true refl)) (omega arith)
-left-most k n false = elim (order 0 n) [
+left-most k n false = elim (below-or-not 0 n) [
   | inl l ↦ rw (sym (left-some k n false refl (λ z. omega arith))) (pair-most leftWord k n)
   | inr l ↦ rw (sym (left-none k n false refl (omega arith))) (omega arith)
 ]

@@ -1,39 +1,24 @@
 -- Laws of `field`: its length, its numbers, and what a store into the table does to it. Assumes nothing.
-use Prim.Native.Nat.{ℕ, zero, suc, _+_, _*_, _<_}
+use Prim.Native.Nat.{ℕ, _+_, _*_, _<_}
 use native.Mathlib.Omega.{arith}
 use native.Mathlib.Nat.{add-right-cancel, eq-of-mul-eq-mul-left}
-use mathlib.Core.Path.{_≡_, refl, sym, ap, subst, _∙_}
-use mathlib.Core.Logic.{_⊎_, inl, inr}
-use mathlib.Core.List.{List, map}
+use mathlib.Core.Path.{_≡_, sym, ap, subst, _∙_}
+use mathlib.Core.Logic.{inl, inr}
+use mathlib.Core.List.{List}
 use lib.ListN.{length, getD, set, take, length-map, length-set}
 use lib.Seq.{ext-getD, getD-set-same, getD-set-other, getD-take}
-use lib.Dec.{eqb}
-use borrow.Author.Tests.{eqb-true, eqb-false}
-use Rattle.numbers.proofs.Truth.{either}
+use Rattle.numbers.proofs.Truth.{same-or-not}
 use Rattle.index.specs.Buckets.{upFrom}
+use Rattle.index.proofs.Flat.{length-upFrom, getD-upFrom}
 use Rattle.tracks.specs.Tracks.{field}
 
 -- ---- numbers
-
-pub same : (a b : ℕ) → (a ≡ b) ⊎ (a ≡ b → ⊥)
-same a b = elim (either (eqb a b)) [ inl e ↦ inl (eqb-true a b e) | inr e ↦ inr (eqb-false a b e) ]
 
 -- two rows at one place are one row
 one-row : (k r i j : ℕ) → 0 < k → k * j + r ≡ k * i + r → j ≡ i
 one-row k r i j h e = eq-of-mul-eq-mul-left k h j i (add-right-cancel r e)
 
-length-upFrom : (n c : ℕ) → length (upFrom n c) ≡ n
-unfolding upFrom
-length-upFrom zero c = refl
-length-upFrom (suc n) c = ap suc (length-upFrom n (suc c))
-
 module _ {A : Type 0} where
-  getD-upFrom : (f : ℕ → A) (n c i : ℕ) (d : A) → i < n → getD (map f (upFrom n c)) i d ≡ f (c + i)
-  unfolding upFrom
-  getD-upFrom f zero c i d h = absurd (omega arith)
-  getD-upFrom f (suc n) c zero d h = ap f (omega arith)
-  getD-upFrom f (suc n) c (suc i) d h = let e : suc c + i ≡ c + suc i = omega arith in getD-upFrom f n (suc c) i d (omega arith) ∙ ap f e
-
   -- ---- a field's length and numbers
 
   pub length-field : (d : A) (k r n : ℕ) (t : List A) → length (field d k r n t) ≡ n
@@ -71,7 +56,7 @@ module _ {A : Type 0} where
       long = subst (λ (m : ℕ). i < m) (sym (length-field d k r n t)) h
 
       at : (j : ℕ) → j < n → getD (set (field d k r n t) i v) j d ≡ getD (set t (k * i + r) v) (k * j + r) d
-      at j b = elim (same j i) [
+      at j b = elim (same-or-not j i) [
         | inl e ↦ subst (λ (m : ℕ). getD (set (field d k r n t) i v) m d ≡ getD (set t (k * i + r) v) (k * m + r) d) (sym e)
             (getD-set-same (field d k r n t) i v d long ∙ sym (getD-set-same t (k * i + r) v d q))
         | inr e ↦ getD-set-other (field d k r n t) i j v d e

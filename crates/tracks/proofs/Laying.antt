@@ -7,9 +7,9 @@ use mathlib.Core.Logic.{inl, inr}
 use mathlib.Core.List.{List}
 use lib.ListN.{length, getD, set, length-set}
 use lib.Seq.{getD-set-same, getD-set-other}
-use Rattle.numbers.proofs.Rounding.{order}
+use Rattle.numbers.proofs.Truth.{below-or-not, same-or-not}
 use Rattle.tracks.specs.Tracks.{field}
-use Rattle.tracks.proofs.Fields.{same, field-is}
+use Rattle.tracks.proofs.Fields.{field-is}
 
 -- ---- two numbers to a slot
 
@@ -35,11 +35,11 @@ module _ (f g : ℕ → ℕ) where
 
   pub laid-on : (t : List ℕ) (i a b : ℕ) → 2 * i + 1 < length t → a ≡ f i → b ≡ g i → Laid f g i t
       → Laid f g (i + 1) (set (set t (2 * i) a) (2 * i + 1) b)
-  laid-on t i a b h u v l p m = elim (same p i) [
+  laid-on t i a b h u v l p m = elim (same-or-not p i) [
     | inl e ↦ subst
         (λ (q : ℕ). (getD (set (set t (2 * i) a) (2 * i + 1) b) (2 * q + 0) 0 ≡ f q) × (getD (set (set t (2 * i) a) (2 * i + 1) b) (2 * q + 1) 0 ≡ g q))
         (sym e) (here t i a b h ∙ u, beside t i a b h ∙ v)
-    | inr e ↦ earlier (l p (elim (order p i) [ inl w ↦ w | inr w ↦ absurd (e (omega arith)) ])) e
+    | inr e ↦ earlier (l p (elim (below-or-not p i) [ inl w ↦ w | inr w ↦ absurd (e (omega arith)) ])) e
   ]
     where
       earlier : (getD t (2 * p + 0) 0 ≡ f p) × (getD t (2 * p + 1) 0 ≡ g p) → (p ≡ i → ⊥)
@@ -71,9 +71,9 @@ module _ {A : Type 0} (d : A) (k r : ℕ) (t : List A) where
   read-none out p h = absurd (omega arith)
 
   pub read-on : (out : List A) (i : ℕ) (v : A) → i < length out → v ≡ getD t (k * i + r) d → Read i out → Read (i + 1) (set out i v)
-  read-on out i v h e l p m = elim (same p i) [
+  read-on out i v h e l p m = elim (same-or-not p i) [
     | inl z ↦ subst (λ (q : ℕ). getD (set out i v) q d ≡ getD t (k * q + r) d) (sym z) (getD-set-same out i v d h ∙ e)
-    | inr z ↦ getD-set-other out i p v d z ∙ l p (elim (order p i) [ inl w ↦ w | inr w ↦ absurd (z (omega arith)) ])
+    | inr z ↦ getD-set-other out i p v d z ∙ l p (elim (below-or-not p i) [ inl w ↦ w | inr w ↦ absurd (z (omega arith)) ])
   ]
 
   pub read-all : (out : List A) (n i : ℕ) → length out ≡ n → length out ≤ i → Read i out → out ≡ field d k r n t

@@ -3,13 +3,11 @@ use Prim.Native.Nat.{ℕ, _-_, _≤_, _<_}
 use mathlib.Core.Path.{_≡_, sym, _∙_}
 use native.Mathlib.Omega.{arith}
 use lib.ListN.{length, length-set, getD}
+use Rattle.numbers.proofs.Truth.{not-below-zero}
 use Rattle.accounts.specs.Counting.{lookIn}
 use Rattle.accounts.proofs.Looks.{table-next, table-end}
 use Rattle.accounts.proofs.look_table.Statement.{statement}
 use Rattle.accounts.proofs.look_table.Tie as tie
-
-none : (q : ℕ) → q < 0 → ⊥
-none q h = omega arith
 
 abbrev Inv-loop : tie.InvT-loop
 Inv-loop rows kinds look-counts table₀ i₀ table i =
@@ -19,7 +17,7 @@ abbrev μ-loop : tie.MeasureT-loop
 μ-loop rows kinds look-counts table₀ i₀ table i = 1024 - i
 
 loop-holds : tie.Need-loop-holds Inv-loop μ-loop
-loop-holds c = (omega arith, c .before .before .before .pre .3, λ q h. absurd (none q h))
+loop-holds c = (omega arith, c .before .before .before .pre .3, λ q h. absurd (not-below-zero q h))
 
 look-count-requires : tie.Need-look-count-requires Inv-loop μ-loop
 look-count-requires c κs = let l = c .before .loop in let p = c .before .before .before .before .before .pre in (p .0, p .1, let t = c .loop-test .taken in omega arith)

@@ -3,13 +3,11 @@ use Prim.Native.Nat.{ℕ, _+_, _-_, _≤_, _<_}
 use mathlib.Core.Path.{_≡_, sym, ap, _∙_}
 use native.Mathlib.Omega.{arith}
 use lib.ListN.{length, length-set, getD}
+use Rattle.numbers.proofs.Truth.{not-below-zero}
 use Rattle.accounts.specs.Counting.{sumTo}
 use Rattle.accounts.proofs.Counts.{sum-none, sum-next, starts-next, starts-table}
 use Rattle.accounts.proofs.sum_up.Statement.{statement}
 use Rattle.accounts.proofs.sum_up.Tie as tie
-
-none : (q : ℕ) → q < 0 → ⊥
-none q h = omega arith
 
 abbrev Inv-loop : tie.InvT-loop
 Inv-loop counts starts₀ sum₀ k₀ starts sum k =
@@ -19,7 +17,7 @@ abbrev μ-loop : tie.MeasureT-loop
 μ-loop counts starts₀ sum₀ k₀ starts sum k = 64 - k
 
 loop-holds : tie.Need-loop-holds Inv-loop μ-loop
-loop-holds c = (omega arith, c .pre .1, sum-none (λ i. getD (c .args .counts .now) i 0), λ q h. absurd (none q h))
+loop-holds c = (omega arith, c .pre .1, sum-none (λ i. getD (c .args .counts .now) i 0), λ q h. absurd (not-below-zero q h))
 
 mul-starts : tie.Need-mul-starts Inv-loop μ-loop
 mul-starts c = omega arith

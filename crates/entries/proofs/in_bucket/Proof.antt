@@ -1,10 +1,8 @@
-use mathlib.Core.Path.{_≡_, sym, ap, _∙_, refl, subst}
-use mathlib.Core.Bool.{Bool, true, false, _&&_}
+use mathlib.Core.Path.{sym, ap, _∙_, subst}
+use mathlib.Core.Bool.{_&&_}
 use mathlib.Core.List.{List, [], _∷_, _++_}
-use Prim.Native.Nat.{ℕ, suc, _+_, _-_, _*_, _≤_, _<_}
-use native.Mathlib.Omega.{arith}
+use Prim.Native.Nat.{suc, _+_, _-_, _*_}
 use lib.ListN.{length, getD}
-use lib.Dec.{leb}
 use borrow.Author.Needs.{needs}
 use Rattle.trapezoid.specs.declared.Trapezoid.{Trapezoid}
 use Rattle.trapezoid.specs.Strip.{stripAt}
@@ -15,29 +13,13 @@ use Rattle.entries.specs.declared.Walked.the-variants.{At, Wrong}
 use Rattle.entries.specs.Walk.{follows}
 use Rattle.entries.proofs.Following.{follows-on, follows-short, follows-other, follows-none, then-at, then-wrong, Passed, passed, keep-on, keep-end, one-in, one-out}
 use borrow.Author.Needs.{needs}
+use borrow.Author.Tests.{le-leb, lt-leb}
 use Rattle.entries.proofs.in_bucket.Statement.{statement}
 use Rattle.entries.proofs.in_bucket.Tie as tie
 use Rattle.entries.proofs.in_bucket.Reads as reads
 use Rattle.entries.proofs.in_bucket.Lts as lts
 use Rattle.index.proofs.Index.bucket.Reads as bucket-reads
 use Rattle.index.specs.Listing.{covers, entered}
-
-is : (t : Bool) → lib.Dec.T t → t ≡ true
-is true x = refl
-is false x = absurd x
-
-yes : (a c : ℕ) → a ≤ c → leb a c ≡ true
-yes a c h = is (leb a c) (lib.Dec.le→leb a c h)
-
-no : (a c : ℕ) → c < a → leb a c ≡ false
-no a c h = go (leb a c) (lib.Dec.leb→le a c)
-  where
-    never : a ≤ c → ⊥
-    never l = omega arith
-
-    go : (t : Bool) → (lib.Dec.T t → a ≤ c) → t ≡ false
-    go true x = absurd (never (x tt))
-    go false x = refl
 
 -- src/lib.rt:22:8
 bucket-requires : tie.Need-bucket-requires
@@ -50,12 +32,12 @@ bucket-requires-2 c κs = search needs
 -- src/lib.rt:23:9
 returns : tie.Need-returns
 unfolding covers
-returns c = rw (← c .before .before .bucket .ensures, ← c .bucket2 .ensures, yes _ _ (c .before .if1 .taken))
+returns c = rw (← c .before .before .bucket .ensures, ← c .bucket2 .ensures, le-leb _ _ (c .before .if1 .taken))
 
 -- src/lib.rt:19:1
 returns-2 : tie.Need-returns-2
 unfolding covers
-returns-2 c = rw (← c .before .bucket .ensures, no _ _ (c .if1 .left))
+returns-2 c = rw (← c .before .bucket .ensures, lt-leb _ _ (c .if1 .left))
 
 pub in-bucket-spec : {M : Type 1} → statement M
 in-bucket-spec = tie.close (tie.spec bucket-requires bucket-requires-2 returns returns-2)

@@ -1,10 +1,10 @@
 -- `fill_copies`: what holds between copies is `Going`. Assumes nothing.
-use Prim.Native.Nat.{ℕ, _*_, _-_, _≤_, _<_}
+use Prim.Native.Nat.{_*_, _-_}
 use mathlib.Core.Path.{sym, ap, refl, subst}
-use native.Mathlib.Omega.{arith}
-use lib.ListN.{length, getD}
+use lib.ListN.{length}
 use lib.Dec.{T}
 use lib.Ieee.{ofBits}
+use native.Mathlib.Nat.{lt-of-lt-of-le}
 use Rattle.filling_laws.proofs.ReadyStrips.{take-fit, drop-fit}
 use Rattle.fill_laws.specs.Prepared.{givenIn}
 use Rattle.fill_laws.proofs.Between.{kind-below}
@@ -22,9 +22,6 @@ Inv-loop g order rows areas inset-bounds parts shapes sheet sheet-entries sheet-
 abbrev μ-loop : tie.MeasureT-loop
 μ-loop g order rows areas inset-bounds parts shapes sheet sheet-entries sheet-starts placed₀ entries₀ starts₀ gains₀ room₀ tracks₀ spots₀ n₀ v₀ t₀ i₀
     placed entries starts gains room tracks spots v t i = length order - i
-
-under : (k n : ℕ) → k < n → n ≤ 64 → k < 64
-under k n h f = omega arith
 
 loop-holds : tie.Need-loop-holds Inv-loop μ-loop
 unfolding ofBits
@@ -48,7 +45,7 @@ copy-at-requires c κs =
     let i = c .before .loop .i in
     let h = c .loop-test .taken in (
       h,
-      under (getD (a .order .now) i 0) _ (kind-below (p .0 .0) g (p .0 .1) (a .order .now) (p .0 .2) i h) (p .0 .1 .tabled .few),
+      lt-of-lt-of-le (kind-below (p .0 .0) g (p .0 .1) (a .order .now) (p .0 .2) i h) (p .0 .1 .tabled .few),
       p .0 .1 .tabled .rows-long,
       p .0 .1 .tabled .areas-long,
     )
@@ -84,8 +81,8 @@ place-next-requires c κs =
 verdict-of-requires : tie.Need-verdict-of-requires Inv-loop μ-loop
 verdict-of-requires c κs = tt
 
-place-after-requires : tie.Need-place-after-requires Inv-loop μ-loop
-place-after-requires c κs =
+next-after-requires : tie.Need-next-after-requires Inv-loop μ-loop
+next-after-requires c κs =
     let c16 = c .before .before .before .before .before .before .before .before .before .before .before .before .before .before .before .before in
     let c25 = c16 .before .before .before .before .before .before .before .before .before in
     c25 .loop-test .taken
@@ -95,7 +92,7 @@ loop-less c =
     let c16 = c .before .before .before .before .before .before .before .before .before .before .before .before .before .before .before .before in
     let c26 = c16 .before .before .before .before .before .before .before .before .before .before in
     let c27 = c26 .before in
-    after-less (c .before .verdict-of .result) (c27 .loop .i) (c .place-after .result) _ (c26 .loop-test .taken) (c .place-after .ensures)
+    after-less (c .before .verdict-of .result) (c27 .loop .i) (c .next-after .result) _ (c26 .loop-test .taken) (c .next-after .ensures)
 
 loop-again : tie.Need-loop-again Inv-loop μ-loop
 loop-again c =
@@ -120,7 +117,7 @@ loop-again c =
     (ap (λ z. z .area) (q .ensures)) (ap (λ z. z .slot) (q .ensures)) (ap (λ z. z .orientations) (q .ensures))
     (s .ensures .0) (s .ensures .1) (s .ensures .2) (s .ensures .3) (s .ensures .4)
     (k .0) (k .1 .0) (k .1 .1 .0) (k .1 .1 .1 .0) (k .1 .1 .1 .1 .0) (k .1 .1 .1 .1 .1 .0) (k .1 .1 .1 .1 .1 .1 .0)
-    (c15 .slice-known8 .given) (c1 .verdict-of .result) (c .place-after .result) (c1 .verdict-of .ensures) (c .place-after .ensures)
+    (c15 .slice-known8 .given) (c1 .verdict-of .result) (c .next-after .result) (c1 .verdict-of .ensures) (c .next-after .ensures)
 
 same-length : tie.Need-same-length Inv-loop μ-loop
 same-length c = c .before .loop .inv .placed-long
@@ -165,7 +162,7 @@ fill-copies-spec =
     copy-at-requires
     place-next-requires
     verdict-of-requires
-    place-after-requires
+    next-after-requires
     loop-less
     loop-again
     same-length

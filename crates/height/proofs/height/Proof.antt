@@ -23,7 +23,7 @@ use Rattle.height.proofs.height.Tie as tie
 use Rattle.height.proofs.height.Reads as reads
 use Rattle.height.proofs.height.Lts as lts
 use Rattle.height.proofs.next_turn.Reads as next-turn-reads
-use Rattle.height.proofs.plus_zero.Reads as plus-zero-reads
+use Rattle.numbers.proofs.plus_zero.Reads as plus-zero-reads
 use Rattle.height.proofs.raise.Reads as raise-reads
 use Rattle.height.proofs.raise_up.Reads as raise-up-reads
 

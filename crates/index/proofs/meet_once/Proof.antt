@@ -16,8 +16,9 @@ use Rattle.index.specs.declared.Meeting.the-variants.{Apart, Forbidden}
 use Rattle.index.specs.Buckets.{buckets, upFrom, indexOf, bucketIn}
 use Rattle.index.specs.Intervals.{intervalOf, countsOf}
 use Rattle.index.specs.Listing.{movingOf, heightsOf, meetingAt, pairOf, Collected, collected, push, pushAll, metIn, entryOf, listEntries, listBucket, listMoving, listed, Usable}
-use Rattle.index.proofs.Steps.{meeting-apart, meeting-over, pair-none, pair-counts, pair-counts-not, pushAll-one, pushAll-none, entry-true, entry-false, eqb-yes, eqb-no, push-true, push-false, lt-ltb, ge-ltb, kept-length, over-end, turn, bucket-top}
+use Rattle.index.proofs.Steps.{meeting-apart, meeting-over, pair-none, pair-counts, pair-counts-not, pushAll-one, pushAll-none, entry-true, entry-false, push-true, push-false, kept-length, over-end, turn, bucket-top}
 use borrow.Author.Needs.{needs}
+use borrow.Author.Tests.{eq-eqb, ne-eqb}
 use Rattle.index.proofs.meet_once.Statement.{statement}
 use Rattle.index.proofs.meet_once.Tie as tie
 use Rattle.index.proofs.meet_once.Reads as reads
@@ -37,7 +38,7 @@ same-length c = search needs
 returns : tie.Need-returns
 unfolding metIn
 returns c = let g = c .before .before .before .before .before .before .args in
-    c .before .before .meet .ensures ∙ sym (ap (pushAll (collected (g .room .now) (g .n))) (entry-true (g .ix) (g .m) (g .first) (g .b) (g .p) (rw (eqb-yes (g .b) (g .first) (c .before .before .before .before .if1 .taken)))))
+    c .before .before .meet .ensures ∙ sym (ap (pushAll (collected (g .room .now) (g .n))) (entry-true (g .ix) (g .m) (g .first) (g .b) (g .p) (rw (eq-eqb (g .b) (g .first) (c .before .before .before .before .if1 .taken)))))
 
 -- src/lib.rt:114:8
 bucket-requires : tie.Need-bucket-requires
@@ -55,15 +56,15 @@ same-length-2 c = search needs
 returns-2 : tie.Need-returns-2
 unfolding metIn
 returns-2 c = let g = c .before .before .before .before .before .before .before .before .args in
-    let e = eqb-no (g .b) (g .first) (c .before .before .before .before .before .before .if1 .left) in
-    c .before .before .meet2 .ensures ∙ sym (ap (pushAll (collected (g .room .now) (g .n))) (entry-true (g .ix) (g .m) (g .first) (g .b) (g .p) (rw (e, eqb-yes (bucketIn (g .ix) (g .p .x0)) (g .b) (sym (c .before .before .before .before .before .bucket .ensures) ∙ c .before .before .before .before .if2 .taken)))))
+    let e = ne-eqb (g .b) (g .first) (c .before .before .before .before .before .before .if1 .left) in
+    c .before .before .meet2 .ensures ∙ sym (ap (pushAll (collected (g .room .now) (g .n))) (entry-true (g .ix) (g .m) (g .first) (g .b) (g .p) (rw (e, eq-eqb (bucketIn (g .ix) (g .p .x0)) (g .b) (sym (c .before .before .before .before .before .bucket .ensures) ∙ c .before .before .before .before .if2 .taken)))))
 
 -- src/lib.rt:108:1
 returns-3 : tie.Need-returns-3
 unfolding metIn
 returns-3 c = let g = c .before .before .before .before .args in
-    let e = eqb-no (g .b) (g .first) (c .before .before .if1 .left) in
-    sym (ap (pushAll (collected (g .room .now) (g .n))) (entry-false (g .ix) (g .m) (g .first) (g .b) (g .p) (rw (e, eqb-no (bucketIn (g .ix) (g .p .x0)) (g .b) (λ (q : bucketIn (g .ix) (g .p .x0) ≡ g .b). c .if2 .left (c .before .bucket .ensures ∙ q))))) ∙ pushAll-none (collected (g .room .now) (g .n)))
+    let e = ne-eqb (g .b) (g .first) (c .before .before .if1 .left) in
+    sym (ap (pushAll (collected (g .room .now) (g .n))) (entry-false (g .ix) (g .m) (g .first) (g .b) (g .p) (rw (e, ne-eqb (bucketIn (g .ix) (g .p .x0)) (g .b) (λ (q : bucketIn (g .ix) (g .p .x0) ≡ g .b). c .if2 .left (c .before .bucket .ensures ∙ q))))) ∙ pushAll-none (collected (g .room .now) (g .n)))
 
 pub meet-once-spec : {M : Type 1} → statement M
 meet-once-spec =

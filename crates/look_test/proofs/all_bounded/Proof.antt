@@ -6,8 +6,9 @@ use lib.Ieee.{nan}
 use Rattle.index.specs.Listing.{Bounded}
 use mathlib.Core.Path.{sym, subst}
 use lib.Dec.{T}
-use Rattle.look_test.proofs.Tested.{none, one-more, all-strips}
+use Rattle.look_test.proofs.Tested.{one-more, all-strips}
 use borrow.Author.Needs.{needs}
+use Rattle.numbers.proofs.Truth.{not-below-zero}
 use Rattle.look_test.proofs.all_bounded.Statement.{statement}
 use Rattle.look_test.proofs.all_bounded.Tie as tie
 
@@ -18,7 +19,7 @@ abbrev μ-loop : tie.MeasureT-loop
 μ-loop strips i₀ i = length strips - i
 
 loop-holds : tie.Need-loop-holds Inv-loop μ-loop
-loop-holds c = (omega arith, λ j h. absurd (none j h))
+loop-holds c = (omega arith, λ j h. absurd (not-below-zero j h))
 
 mul-bounded : tie.Need-mul-bounded Inv-loop μ-loop
 mul-bounded c = omega arith

@@ -3,8 +3,9 @@ use Prim.Native.Nat.{ℕ, _-_, _<_}
 use native.Mathlib.Omega.{arith}
 use mathlib.Core.Path.{_≡_, _∙_, refl}
 use lib.ListN.{length, getD, length-set}
+use Rattle.numbers.proofs.Truth.{not-below-zero}
 use Rattle.enter.proofs.Starts.{cleared-step}
-use Rattle.look_test.proofs.Tested.{none, all-zero}
+use Rattle.look_test.proofs.Tested.{all-zero}
 use Rattle.look_test.proofs.clear.Statement.{statement}
 use Rattle.look_test.proofs.clear.Tie as tie
 
@@ -15,7 +16,7 @@ abbrev μ-loop : tie.MeasureT-loop
 μ-loop starts₀ n b₀ starts b = n - b
 
 loop-holds : tie.Need-loop-holds Inv-loop μ-loop
-loop-holds c = (refl, refl, λ d h. absurd (none d h))
+loop-holds c = (refl, refl, λ d h. absurd (not-below-zero d h))
 
 mul-starts : tie.Need-mul-starts Inv-loop μ-loop
 mul-starts c = omega arith

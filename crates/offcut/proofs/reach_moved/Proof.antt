@@ -4,8 +4,8 @@ use native.Mathlib.Omega.{arith}
 use mathlib.Core.Path.{_≡_, sym}
 use borrow.Author.Needs.{needs}
 use Rattle.trapezoid.specs.Strip.{capacity}
+use Rattle.trapezoid.proofs.Strips.{strip-in-room}
 use Rattle.offcut.specs.Reaching.{reachUpTo}
-use Rattle.slab.proofs.Storing.{cap-in}
 use Rattle.offcut.proofs.Reached.{reach-none, reach-step, reach-all}
 use Rattle.offcut.proofs.reach_moved.Statement.{statement}
 use Rattle.offcut.proofs.reach_moved.Tie as tie
@@ -24,7 +24,7 @@ loop-holds c = let a = c .before .before .args in (sym (reach-none (a .part .now
 
 load-requires : tie.Need-load-requires Inv-loop μ-loop
 load-requires c κs =
-    cap-in (c .before .before .before .before .args .part .now) (c .before .loop .i) _ (c .before .before .capacity .ensures) (c .loop-test .taken)
+    strip-in-room (c .before .before .before .before .args .part .now) (c .before .loop .i) _ (c .before .before .capacity .ensures) (c .loop-test .taken)
 
 larger-requires : tie.Need-larger-requires Inv-loop μ-loop
 larger-requires c κs = search needs

@@ -8,10 +8,10 @@ use Rattle.filling.specs.Rooms.{Lent}
 use Rattle.filling.specs.Shapes.{plannerOf}
 use Rattle.tracks.specs.Tracks.{trackNumbers, spotNumbers}
 use Rattle.fill_laws.proofs.Between.{kind-below}
-use Rattle.round_laws.proofs.Swapping.{under}
 use Rattle.round_laws.proofs.Halves.{written, part-length, part-long, other-half}
 use Rattle.round_laws.proofs.Turning.{drew-arranged, drew-places, left-arranged, turn-over, turn-in-half}
 use borrow.Author.Needs.{needs}
+use native.Mathlib.Nat.{lt-of-lt-of-le}
 use Rattle.rounds.proofs.round.Statement.{statement}
 use Rattle.rounds.proofs.round.Tie as tie
 
@@ -19,7 +19,7 @@ draw-swap-requires : tie.Need-draw-swap-requires
 draw-swap-requires c κs =
     let c15 = c .before .before .before .before .before .before .before .before .before .before .before .before .before .before .before in
     let p = c15 .pre .0 in
-    (c15 .pre .6, p .1 .tabled .rows-long, λ (q : ℕ) h. under (kind-below (p .0) _ (p .1) (now (c15 .args .order)) (p .2) q h) (p .1 .tabled .few))
+    (c15 .pre .6, p .1 .tabled .rows-long, λ (q : ℕ) h. lt-of-lt-of-le (kind-below (p .0) _ (p .1) (now (c15 .args .order)) (p .2) q h) (p .1 .tabled .few))
 
 sub-other : tie.Need-sub-other
 sub-other c =

@@ -10,9 +10,10 @@ use Rattle.filling.specs.Rooms.{Lent}
 use Rattle.filling.specs.Shapes.{plannerOf}
 use Rattle.nesting.specs.Rounds.{kept}
 use Rattle.fill_laws.specs.Prepared.{givenIn}
+use Rattle.fill_laws.proofs.Copies.{after-less}
 use Rattle.round_laws.proofs.Swapping.{fits}
 use Rattle.rounds.specs.Turns.{roundsFor, turns}
-use Rattle.rounds.proofs.Going.{Going, keptAt, going-start, going-on, going-end, after-less, all-turns, turns-upto, later-copies, few-enough}
+use Rattle.rounds.proofs.Going.{Going, keptAt, going-start, going-on, going-end, all-turns, turns-upto, later-copies, few-enough}
 use Rattle.rounds.proofs.rounds.Statement.{statement}
 use Rattle.rounds.proofs.rounds.Tie as tie
 
@@ -76,8 +77,8 @@ round-requires c κs =
       λ f. subst (λ (m : ℕ). 0 < m) (sym (h .inv .1)) (later-copies (length (now (a .order))) (a .n) (t .result) (h .i) (t .ensures) w f),
     )
 
-turn-after-requires : tie.Need-turn-after-requires Inv-loop μ-loop
-turn-after-requires c κs =
+next-after-requires : tie.Need-next-after-requires Inv-loop μ-loop
+next-after-requires c κs =
     let c16 = c .before .before .before .before .before .before .before .before .before .before .before .before .before .before .before .before in
     let c20 = c16 .before .before .before .before in
     c20 .loop-test .taken
@@ -88,7 +89,7 @@ loop-less c =
     let c21 = c14 .before .before .before .before .before .before .before in
     let c22 = c21 .before in
     let c24 = c22 .before .before in
-    after-less (c14 .round .result .verdict) (c22 .loop .i) (c24 .turns-for .result) (c .turn-after .result) (c21 .loop-test .taken) (c .turn-after .ensures)
+    after-less (c14 .round .result .verdict) (c22 .loop .i) (c .next-after .result) (c24 .turns-for .result) (c21 .loop-test .taken) (c .next-after .ensures)
 
 loop-again : tie.Need-loop-again Inv-loop μ-loop
 loop-again c =
@@ -113,7 +114,7 @@ loop-again c =
             tracks = q .last .1 .1 .1 .1 .1 .1 .1 .1 .1 .1 .1 .1 .1 .1 .1 .0;
             spots = q .last .1 .1 .1 .1 .1 .1 .1 .1 .1 .1 .1 .1 .1 .1 .1 .1 .0;
           }))
-          (sym (c .turn-after .ensures))
+          (sym (c .next-after .ensures))
           (going-on g n (record { best = c23 .none-kept .result; order = now (a .order); tracks = now (a .tracks); spots = now (a .spots) })
           (now (a .placed)) (now (a .entries)) (now (a .room)) (h .i) (h .verdict)
           (record { best = h .best; order = h .order; tracks = h .tracks; spots = h .spots }) (h .inv .0) (c21 .loop-test .taken) (q .result .verdict)
@@ -192,7 +193,7 @@ rounds-spec =
     none-kept-requires
     loop-holds
     round-requires
-    turn-after-requires
+    next-after-requires
     loop-less
     loop-again
     same-length

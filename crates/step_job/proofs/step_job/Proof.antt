@@ -2,7 +2,7 @@ use Prim.Native.Nat.{ℕ, _≤_}
 use mathlib.Core.Path.{refl, sym, subst⁻¹, _∙_}
 use lib.ListN.{length-replicate}
 use Rattle.step.specs.Going.{rooms}
-use Rattle.step_job.proofs.Opening.{step-inconsistent, step-consistent, step-used-up, going, numbers}
+use Rattle.step_job.proofs.Opening.{step-used-up, going, numbers}
 use borrow.Author.Needs.{needs}
 use Rattle.step_job.proofs.step_job.Statement.{statement}
 use Rattle.step_job.proofs.step_job.Tie as tie
@@ -11,6 +11,7 @@ use Rattle.step_job.proofs.step_job.Lts as lts
 use Rattle.step_job.proofs.agree.Reads as agree-reads
 use Rattle.step_job.proofs.refuse.Reads as refuse-reads
 use Rattle.step.proofs.step_copy.Reads as step-copy-reads
+use Rattle.filling.proofs.Runs.{step-consistent, step-inconsistent}
 
 slice-aggregate-agree : tie.Need-slice-aggregate-agree
 slice-aggregate-agree c = sym (length-replicate {A = ℕ} 513 0)
@@ -78,8 +79,8 @@ returns c =
     let w = rooms (a .shapes .now) (a .sheet .now) (a .placed .now) (a .sheet-entries .now) (a .entries .now) in
     λ j O. c7 .step-copy .ensures j (going j (a .state) w (a .rows .now) (a .areas .now) (a .kinds) (a .copies) (c18 .agree .last .1 .1 .1 .1 .1 .1 .1 .1 .1 .0)
     (c18 .agree .last .1 .1 .1 .1 .1 .1 .1 .1 .1 .1 .0) O (sym (c18 .agree .ensures .0 j (a .areas .now) (O .tabled) (O .kinds-are) (O .copies-are)) ∙
-    c15 .if1 .taken) (c13 .if2 .taken) (c18 .agree .ensures .1 (c15 .if1 .taken) .0) (c18 .agree .ensures .1 (c15 .if1 .taken) .1)) ∙ step-consistent j
-    (a .state) w (a .intervals .now) (sym (c18 .agree .ensures .0 j (a .areas .now) (O .tabled) (O .kinds-are) (O .copies-are)) ∙ c15 .if1 .taken)
+    c15 .if1 .taken) (c13 .if2 .taken) (c18 .agree .ensures .1 (c15 .if1 .taken) .0) (c18 .agree .ensures .1 (c15 .if1 .taken) .1)) ∙ sym (step-consistent j
+    (a .state) w (a .intervals .now) (sym (c18 .agree .ensures .0 j (a .areas .now) (O .tabled) (O .kinds-are) (O .copies-are)) ∙ c15 .if1 .taken))
 
 refuse-requires : tie.Need-refuse-requires
 refuse-requires c κs = search needs
@@ -124,8 +125,8 @@ returns-3 c =
     let a = c20 .args in
     let p = c20 .pre in
     let w = rooms (a .shapes .now) (a .sheet .now) (a .placed .now) (a .sheet-entries .now) (a .entries .now) in
-    λ j O. c .before .before .refuse2 .ensures w ∙ step-inconsistent j (a .state) w (a .intervals .now)
-    (sym (c7 .agree .ensures .0 j (a .areas .now) (O .tabled) (O .kinds-are) (O .copies-are)) ∙ c .before .before .before .before .if1 .left)
+    λ j O. c .before .before .refuse2 .ensures w ∙ sym (step-inconsistent j (a .state) w (a .intervals .now)
+    (sym (c7 .agree .ensures .0 j (a .areas .now) (O .tabled) (O .kinds-are) (O .copies-are)) ∙ c .before .before .before .before .if1 .left))
 
 pub step-job-spec : {M : Type 1} → statement M
 step-job-spec =

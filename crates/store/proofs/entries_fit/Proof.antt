@@ -4,7 +4,7 @@ use borrow.Author.Needs.{needs}
 use Prim.Native.Nat.{ℕ, _/_, _+_, _-_, _*_, _≤_, _<_, _^_}
 use lib.ListN.{length, getD}
 use Rattle.trapezoid.specs.Strip.{capacity}
-use Rattle.store.proofs.Whole.{in-room, Counting, counting-start, counting-next, counting-over, counting-end}
+use Rattle.store.proofs.Whole.{Counting, counting-start, counting-next, counting-over, counting-end}
 use Rattle.store.proofs.entries_fit.Statement.{statement}
 use Rattle.store.proofs.entries_fit.Tie as tie
 use Rattle.store.proofs.entries_fit.Reads as reads
@@ -12,6 +12,7 @@ use Rattle.store.proofs.entries_fit.Lts as lts
 use Rattle.store.proofs.width_at.Reads as width-at-reads
 use Rattle.trapezoid.proofs.capacity.Reads as capacity-reads
 use Rattle.trapezoid.proofs.load.Reads as load-reads
+use Rattle.trapezoid.proofs.Strips.{strip-in-room}
 
 abbrev Inv-loop : tie.InvT-loop
 Inv-loop ix apart x left count rest₀ j₀ rest j = Counting ix apart x left rest j
@@ -28,7 +29,7 @@ loop-holds c =
     counting-start (c2 .args .ix) (c2 .args .apart .now) (c2 .args .x) (c2 .args .left)
 
 load-requires : tie.Need-load-requires Inv-loop μ-loop
-load-requires c κs = in-room (c .before .before .before .before .args .apart .now) _ _ (c .before .before .capacity .ensures) (c .loop-test .taken)
+load-requires c κs = strip-in-room (c .before .before .before .before .args .apart .now) _ _ (c .before .before .capacity .ensures) (c .loop-test .taken)
 
 width-at-requires : tie.Need-width-at-requires Inv-loop μ-loop
 width-at-requires c κs = search needs

@@ -5,7 +5,7 @@ use Prim.Native.Nat.{ℕ, _/_, _+_, _-_, _*_, _≤_, _<_, _^_}
 use lib.ListN.{length, getD}
 use Rattle.trapezoid.specs.Strip.{capacity}
 use Rattle.store.specs.Storing.{movedTo}
-use Rattle.store.proofs.Whole.{in-room, moved-start, moved-next, moved-length, moved-end}
+use Rattle.store.proofs.Whole.{moved-start, moved-next, moved-length, moved-end}
 use Rattle.store.proofs.store_moved.Statement.{statement}
 use Rattle.store.proofs.store_moved.Tie as tie
 use Rattle.store.proofs.store_moved.Reads as reads
@@ -14,6 +14,7 @@ use Rattle.trapezoid.proofs.Trapezoid.moved.Reads as moved-reads
 use Rattle.trapezoid.proofs.capacity.Reads as capacity-reads
 use Rattle.trapezoid.proofs.load.Reads as load-reads
 use Rattle.trapezoid.proofs.store.Reads as store-reads
+use Rattle.trapezoid.proofs.Strips.{strip-in-room}
 
 abbrev Inv-loop : tie.InvT-loop
 Inv-loop apart x y placed₀ n count j₀ placed j = (j ≤ capacity apart) × (placed ≡ movedTo apart x y n placed₀ j)
@@ -30,7 +31,7 @@ loop-holds c =
     (omega arith, moved-start (c3 .args .apart .now) (c3 .args .x) (c3 .args .y) (c3 .args .n) (c3 .args .placed .now))
 
 load-requires : tie.Need-load-requires Inv-loop μ-loop
-load-requires c κs = in-room (c .before .before .before .before .before .args .apart .now) _ _ (c .before .before .capacity .ensures) (c .loop-test .taken)
+load-requires c κs = strip-in-room (c .before .before .before .before .before .args .apart .now) _ _ (c .before .before .capacity .ensures) (c .loop-test .taken)
 
 add-store : tie.Need-add-store Inv-loop μ-loop
 add-store c =

@@ -6,88 +6,13 @@ use Rattle.trapezoid.proofs.store.Statement.{statement}
 use Rattle.trapezoid.proofs.store.Tie as tie
 use Rattle.trapezoid.specs.Writing.{setStrip}
 
-mul-at : tie.Need-mul-at
-mul-at c = search needs
-
-mul-room : tie.Need-mul-room
-mul-room c = search needs
-
-slice-write-room : tie.Need-slice-write-room
-slice-write-room c = search needs
-
-add-room : tie.Need-add-room
-add-room c = search needs
-
-mul-room-2 : tie.Need-mul-room-2
-mul-room-2 c = search needs
-
-slice-write-room-2 : tie.Need-slice-write-room-2
-slice-write-room-2 c = simp length-set (omega arith)
-
-add-room-2 : tie.Need-add-room-2
-add-room-2 c = search needs
-
-mul-room-3 : tie.Need-mul-room-3
-mul-room-3 c = search needs
-
-slice-write-room-3 : tie.Need-slice-write-room-3
-slice-write-room-3 c = simp length-set (omega arith)
-
-add-room-3 : tie.Need-add-room-3
-add-room-3 c = search needs
-
-mul-room-4 : tie.Need-mul-room-4
-mul-room-4 c = search needs
-
-slice-write-room-4 : tie.Need-slice-write-room-4
-slice-write-room-4 c = simp length-set (omega arith)
-
-add-room-4 : tie.Need-add-room-4
-add-room-4 c = search needs
-
-mul-room-5 : tie.Need-mul-room-5
-mul-room-5 c = search needs
-
-slice-write-room-5 : tie.Need-slice-write-room-5
-slice-write-room-5 c = simp length-set (omega arith)
-
-add-room-5 : tie.Need-add-room-5
-add-room-5 c = search needs
-
-mul-room-6 : tie.Need-mul-room-6
-mul-room-6 c = search needs
-
-slice-write-room-6 : tie.Need-slice-write-room-6
-slice-write-room-6 c = simp length-set (omega arith)
-
-same-length : tie.Need-same-length
-same-length c = search needs
-
 returns : tie.Need-returns
 unfolding setStrip
 returns c = search needs
 
 pub store-spec : {M : Type 1} → statement M
 store-spec =
-    tie.close
-    (tie.spec
-    mul-at
-    mul-room
-    slice-write-room
-    add-room
-    mul-room-2
-    slice-write-room-2
-    add-room-2
-    mul-room-3
-    slice-write-room-3
-    add-room-3
-    mul-room-4
-    slice-write-room-4
-    add-room-4
-    mul-room-5
-    slice-write-room-5
-    add-room-5
-    mul-room-6
-    slice-write-room-6
-    same-length
-    returns)
+    tie.close (tie.spec (λ c. search needs) (λ c. search needs) (λ c. search needs) (λ c. search needs) (λ c. search needs)
+    (λ c. simp length-set (omega arith)) (λ c. search needs) (λ c. search needs) (λ c. simp length-set (omega arith)) (λ c. search needs) (λ c. search needs)
+    (λ c. simp length-set (omega arith)) (λ c. search needs) (λ c. search needs) (λ c. simp length-set (omega arith)) (λ c. search needs) (λ c. search needs)
+    (λ c. simp length-set (omega arith)) (λ c. search needs) returns)

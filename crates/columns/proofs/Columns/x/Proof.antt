@@ -8,7 +8,7 @@ use Rattle.columns.proofs.Columns.x.Tie as tie
 use Rattle.columns.proofs.Columns.x.Reads as reads
 use Rattle.columns.proofs.Columns.x.Lts as lts
 use Rattle.columns.proofs.Columns.regular.Reads as regular-reads
-use Rattle.columns.proofs.plus_zero.Reads as plus-zero-reads
+use Rattle.numbers.proofs.plus_zero.Reads as plus-zero-reads
 
 -- src/lib.rt:70:30
 regular-requires : tie.Need-regular-requires

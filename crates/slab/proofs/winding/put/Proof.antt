@@ -1,8 +1,9 @@
 -- `slab::winding::put` meets its contract. Assumes nothing.
 use native.Mathlib.Omega.{arith}
 use denote.Ref.{now}
-use Rattle.slab.proofs.Storing.{cap-in, cap-next, put-stores, put-stops}
+use Rattle.slab.proofs.Storing.{cap-next, put-stores, put-stops}
 use borrow.Author.Needs.{needs}
+use Rattle.trapezoid.proofs.Strips.{strip-in-room}
 use Rattle.slab.proofs.winding.put.Statement.{statement}
 use Rattle.slab.proofs.winding.put.Tie as tie
 
@@ -11,7 +12,7 @@ capacity-requires c κs = search needs
 
 store-requires : tie.Need-store-requires
 store-requires c κs =
-    let a = c .before .before .before .before .before .args in let g = c .before .before .capacity in cap-in (now (a .room)) (a .n) (g .result) (g .ensures) (c .before .if1 .taken)
+    let a = c .before .before .before .before .before .args in let g = c .before .before .capacity in strip-in-room (now (a .room)) (a .n) (g .result) (g .ensures) (c .before .if1 .taken)
 
 add-result : tie.Need-add-result
 add-result c = search needs

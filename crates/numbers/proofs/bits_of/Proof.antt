@@ -1,11 +1,11 @@
--- `lines::bits_of` meets its contract. Assumes nothing.
-use Rattle.lines.proofs.Digits.{not-nan, nan-bits}
+-- `numbers::bits_of` meets its contract. Assumes nothing.
 use borrow.Author.Needs.{needs}
-use Rattle.lines.proofs.bits_of.Statement.{statement}
-use Rattle.lines.proofs.bits_of.Tie as tie
+use Rattle.numbers.proofs.Patterns.{self-not-nan, nan-bits}
+use Rattle.numbers.proofs.bits_of.Statement.{statement}
+use Rattle.numbers.proofs.bits_of.Tie as tie
 
 float-to-bits-result : tie.Need-float-to-bits-result
-float-to-bits-result c = not-nan (c .before .args .x) (c .if1 .taken)
+float-to-bits-result c = self-not-nan (c .before .args .x) (c .if1 .taken)
 
 returns : tie.Need-returns
 returns c = search needs
