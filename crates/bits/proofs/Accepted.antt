@@ -40,6 +40,9 @@ bad-not-ok e = zero-not-one (cc)
 pub ok-same : {A : Type 0} {a b : A} {p q : ℕ} → ok a p ≡ ok b q → a ≡ b
 ok-same e = cc
 
+ok-place : {A : Type 0} {a b : A} {p q : ℕ} → ok a p ≡ ok b q → p ≡ q
+ok-place e = cc
+
 pub after-ok : {A B : Type 0} (r : Read A) (f : A → ℕ → Read B) (b : B) (q : ℕ) → after r f ≡ ok b q → (a : A) × (p : ℕ) × (r ≡ ok a p) × (f a p ≡ ok b q)
 unfolding after
 after-ok (ok a p) f b q e = (a, p, refl, e)
@@ -81,6 +84,34 @@ bits-less w bytes p a q e = go (leb (p + w) (8 * lib.ListN.length bytes)) e
     go : (t : Bool) → cond t (ok (fieldAt bytes p w 0) (p + w)) (bad Truncated) ≡ ok a q → a < 2 ^ w
     go true e = subst (λ (x : ℕ). x < 2 ^ w) (ok-same e) (subst (λ (x : ℕ). fieldAt bytes p w 0 < x) (one-mul (2 ^ w)) (field-less bytes p w 0))
     go false e = absurd (bad-not-ok e)
+
+-- ---- where a reader stands after what it read
+bits-end : (w : ℕ) (bytes : List ℕ) (p n q : ℕ) → bits w bytes p ≡ ok n q → q ≡ p + w
+unfolding bits
+bits-end w bytes p n q e = go (leb (p + w) (8 * lib.ListN.length bytes)) e
+  where
+    go : (t : Bool) → cond t (ok (fieldAt bytes p w 0) (p + w)) (bad Truncated) ≡ ok n q → q ≡ p + w
+    go true e = sym (ok-place e)
+    go false e = absurd (bad-not-ok e)
+
+measured-end : (t : Measured) (v : ℕ) (a : Float) (q : ℕ) → measured t v ≡ ok a q → q ≡ v
+measured-end (Value x) v a q e = sym (ok-place e)
+measured-end (NoValue k) v a q e = absurd (bad-not-ok e)
+
+number-place : (r : Range) (bytes : List ℕ) (p : ℕ) (a : Float) (q : ℕ) → number r bytes p ≡ ok a q → q ≡ p + 64
+unfolding number
+number-place r bytes p a q e =
+    let s = after-ok (bits 64 bytes p) (λ n v. measured (judgeNumber (r .least) (r .most) n) v) a q e in
+    measured-end (judgeNumber (r .least) (r .most) (s .0)) (s .1) a q (s .3) ∙ bits-end 64 bytes p (s .0) (s .1) (s .2)
+
+pub point-place : (bytes : List ℕ) (p : ℕ) (a : Spot) (q : ℕ) → point bytes p ≡ ok a q → q ≡ p + 64 + 64
+unfolding point
+point-place bytes p a q e =
+    let s = after-ok (number coordinateRange bytes p) (λ x v. after (number coordinateRange bytes v) (λ y w. ok (record { x = x; y = y }) w)) a q e in
+    let t = after-ok (number coordinateRange bytes (s .1)) (λ y w. ok (record { x = s .0; y = y }) w) a q (s .3) in
+    let m = number-place coordinateRange bytes p (s .0) (s .1) (s .2) in
+    let n = number-place coordinateRange bytes (s .1) (t .0) (t .1) (t .2) in
+    sym (ok-place (t .3)) ∙ n ∙ ap (λ (v : ℕ). v + 64) m
 
 -- ---- counts
 counted-in : (least most n a q v : ℕ) → counted (judgeCount least most n) v ≡ ok a q → (least ≤ a) × (a ≤ most) × (a ≡ n)

@@ -1,5 +1,6 @@
 -- Inner functions' contracts only: what the code's answers say of bits, counts and points. Definitions only. Assumes nothing.
-use Prim.Native.Nat.{ℕ}
+use Prim.Native.Nat.{ℕ, _+_}
+use Rattle.bits.specs.declared.BitReader.{BitReader}
 use Rattle.bits.specs.declared.Counted.{Counted}
 use Rattle.bits.specs.declared.Counted.the-variants.{Count, NoCount}
 use Rattle.bits.specs.declared.PointRead.{PointRead}
@@ -16,11 +17,15 @@ countOf (Count n) = n
 countOf (NoCount k) = 0
 
 -- a point that was read, with the position after it
-abbrev pub pointRead : PointRead → ℕ → Read Spot
-pointRead (Point a b) q = ok (record { x = a; y = b }) q
-pointRead (NoPoint k) q = bad k
+abbrev pub pointRead : PointRead → Read Spot
+pointRead (Point a b q) = ok (record { x = a; y = b }) q
+pointRead (NoPoint k) = bad k
 
 -- what taking bits answers, with the position after them
 abbrev pub taken : Taken → ℕ → Read ℕ
 taken (Bits n) q = ok n q
 taken End q = bad Truncated
+
+-- the reader, n bits further on
+abbrev pub past : ℕ → BitReader → BitReader
+past n d = record { bytes = d .bytes; at = d .at + n }

@@ -2,12 +2,13 @@
 // and points that they stand for, each judged as it is read. The functions with a `requires` are
 // called by this project's crates alone.
 ghost use mathlib.Core.Path.{_≡_};
-ghost use Prim.Native.Nat.{_+_, _*_, _/_, _%_, _^_, _≤_, _<_, min};
+ghost use mathlib.Core.List.{List};
+ghost use Prim.Native.Nat.{ℕ, _+_, _*_, _/_, _%_, _^_, _≤_, _<_, min};
 ghost use lib.ListN.{length};
 ghost use Rattle.bits.specs.Bits.{fieldAt};
 ghost use Rattle.bits.specs.Reading.{numberOf, bits};
+ghost use Rattle.bits.specs.Answers.{past, pointRead, countOf, taken};
 ghost use Rattle.bits.specs.Fields.{judgeCount, judgePoints, counted, count, pointCount, coordinateRange, judgeNumber, measured, number, point};
-ghost use Rattle.bits.specs.Answers.{pointRead, countOf, taken};
 
 // Why a job is refused: document 01's numbers 1 to 8, in this order.
 pub enum Refusal {
@@ -106,21 +107,26 @@ impl<'a> BitReader<'a> {
         BitReader { bytes, at }
     }
 
-    // The n bits at the reader's position, or that its bytes end inside them.
-    pub fn take(self, n: usize) -> Taken
-        requires { ⌜ (self .at ≤ 1152921504606846976) × (n ≤ 64) ⌝ }
-        ensures { λ r. ⌜ bits n (now (self .entry .bytes)) (self .entry .at) ≡ taken r (self .entry .at + n) ⌝ }
+    // The n bits at the reader's position, or that its bytes end inside them. The reader moves on by n bits.
+    pub fn take(&mut self, n: usize) -> Taken
+        requires { ⌜ (now self .at ≤ 1152921504606846976) × (n ≤ 64) ⌝ }
+        ensures { λ r. ⌜ (now (self .exit) ≡ past n (now (self .entry))) ×
+            (bits n (now (now (self .entry) .bytes)) (now (self .entry) .at) ≡ taken r (now (self .exit) .at)) ⌝ }
     {
-        take_bits(self.bytes, self.at, n)
+        let at = self.at;
+        let found = take_bits(self.bytes, at, n);
+        self.at = at + n;
+        found
     }
 }
 
-// Every field of a job is read through this function.
+// One field. A job's fields are read here, but for a point's, which `read_point` takes from one reader.
 pub fn read_field(bytes: &[u8], at: usize, width: usize) -> Taken
     requires { ⌜ (at ≤ 1152921504606846976) × (width ≤ 64) ⌝ }
     ensures { λ r. ⌜ bits width (now (bytes .entry)) at ≡ taken r (at + width) ⌝ }
 {
-    BitReader::new(bytes, at).take(width)
+    let mut reader = BitReader::new(bytes, at);
+    reader.take(width)
 }
 
 // A count, or why it is refused.
@@ -135,9 +141,9 @@ pub enum Measured {
     NoValue(Refusal),
 }
 
-// A point's x and y, or why it is refused.
+// A point's x and y and the position after it, or why it is refused.
 pub enum PointRead {
-    Point(f64, f64),
+    Point(f64, f64, usize),
     NoPoint(Refusal),
 }
 
@@ -227,27 +233,37 @@ pub fn read_number(bytes: &[u8], at: usize, least: f64, most: f64) -> Measured
     }
 }
 
-// A coordinate.
-fn read_coordinate(bytes: &[u8], at: usize) -> Measured
-    requires { ⌜ at ≤ 1152921504606846976 ⌝ }
-    ensures { λ r. ⌜ number coordinateRange (now (bytes .entry)) at ≡ measured r (at + 64) ⌝ }
+// The coordinate whose bits a reader took.
+fn taken_coordinate(t: Taken) -> Measured
+    ensures { λ r. ⌜ ((bytes : List ℕ) (p q : ℕ) → bits 64 bytes p ≡ taken t q → number coordinateRange bytes p ≡ measured r q) ⌝ }
 {
-    match read_field(bytes, at, 64) {
+    match t {
         Taken::Bits(n) => judge_coordinate(n),
         Taken::End => Measured::NoValue(Refusal::Truncated),
+    }
+}
+
+// The point whose x and y a reader took, one after the other; the reader then stands at next.
+fn taken_point(x: Taken, y: Taken, next: usize) -> PointRead
+    ensures { λ r. ⌜ ((bytes : List ℕ) (p q : ℕ) → bits 64 bytes p ≡ taken x q → bits 64 bytes q ≡ taken y next →
+        point bytes p ≡ pointRead r) ⌝ }
+{
+    match taken_coordinate(x) {
+        Measured::Value(a) => match taken_coordinate(y) {
+            Measured::Value(b) => PointRead::Point(a, b, next),
+            Measured::NoValue(k) => PointRead::NoPoint(k),
+        },
+        Measured::NoValue(k) => PointRead::NoPoint(k),
     }
 }
 
 // A point.
 pub fn read_point(bytes: &[u8], at: usize) -> PointRead
     requires { ⌜ at ≤ 1152921504606846000 ⌝ }
-    ensures { λ r. ⌜ point (now (bytes .entry)) at ≡ pointRead r (at + 64 + 64) ⌝ }
+    ensures { λ r. ⌜ point (now (bytes .entry)) at ≡ pointRead r ⌝ }
 {
-    match read_coordinate(bytes, at) {
-        Measured::Value(x) => match read_coordinate(bytes, at + 64) {
-            Measured::Value(y) => PointRead::Point(x, y),
-            Measured::NoValue(k) => PointRead::NoPoint(k),
-        },
-        Measured::NoValue(k) => PointRead::NoPoint(k),
-    }
+    let mut reader = BitReader::new(bytes, at);
+    let x = reader.take(64);
+    let y = reader.take(64);
+    taken_point(x, y, reader.at)
 }

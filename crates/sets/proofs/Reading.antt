@@ -9,6 +9,7 @@ use lib.Ieee.{Float}
 use Rattle.bits.specs.declared.Refusal.{Refusal}
 use Rattle.bits.specs.Reading.{Read, ok, bad, after}
 use Rattle.bits.specs.Fields.{loopsField, count, pointCount, Spot, point}
+use Rattle.bits.proofs.Accepted.{point-place}
 use Rattle.sets.specs.declared.SetRead.{SetRead}
 use Rattle.sets.specs.declared.SetRead.the-variants.{Loops, NoSet}
 use Rattle.sets.specs.Answers.{setFits}
@@ -59,14 +60,15 @@ module _ (bytes : List ℕ) (at n first : ℕ) (room₀ : List Float) where
       record { same = ap (λ (k : ℕ). somePoints k (take (2 * first) room₀) bytes at) a ∙ ap (λ (k : ℕ). somePoints (n - 0) (take k room₀) bytes at) b; place = omega arith; inside = omega arith; long = refl }
 
   module _ (room : List Float) (i p : ℕ) (r : PointsTo bytes at n first room₀ room i p) where
-    pub points-on : {x y : Float} → point bytes p ≡ ok (record { x = x; y = y }) (p + 64 + 64) → i < n → first + n ≤ 512 → 1024 ≤ length room₀ → PointsTo bytes at n first room₀ (set (set room (2 * (first + i)) x) (2 * (first + i) + 1) y) (i + 1) (p + 128)
-    points-on {x} {y} e h l w =
+    pub points-on : {x y : Float} {q : ℕ} → point bytes p ≡ ok (record { x = x; y = y }) q → i < n → first + n ≤ 512 → 1024 ≤ length room₀
+        → PointsTo bytes at n first room₀ (set (set room (2 * (first + i)) x) (2 * (first + i) + 1) y) (i + 1) q
+    points-on {x} {y} {q} e h l w =
         let k : 2 * (first + i) + 1 < length room = omega (arith, r .long) in
-        let q : p + 64 + 64 ≡ p + 128 = omega arith in
+        let g : q ≡ p + 64 + 64 = point-place bytes p (record { x = x; y = y }) q e in
         let t : take (2 * (first + (i + 1))) (set (set room (2 * (first + i)) x) (2 * (first + i) + 1) y) ≡ take (2 * (first + i)) room ++ (x ∷ y ∷ []) = take-two room (2 * (first + i)) (2 * (first + (i + 1))) x y k (omega arith) in
         record {
-          same = r .same ∙ points-step bytes (take (2 * (first + i)) room) n i p e h ∙ ap (λ (v : ℕ). somePoints (n - (i + 1)) (take (2 * (first + i)) room ++ (x ∷ y ∷ [])) bytes v) q ∙ ap (λ (xs : List Float). somePoints (n - (i + 1)) xs bytes (p + 128)) (sym t);
-          place = omega (arith, r .place);
+          same = r .same ∙ points-step bytes (take (2 * (first + i)) room) n i p e h ∙ ap (λ (xs : List Float). somePoints (n - (i + 1)) xs bytes q) (sym t);
+          place = omega (arith, r .place, g);
           inside = omega arith;
           long = length-set (set room (2 * (first + i)) x) (2 * (first + i) + 1) y ∙ length-set room (2 * (first + i)) x ∙ r .long;
         }

@@ -38,17 +38,17 @@ fn read_points(bytes: &[u8], at: usize, n: usize, room: &mut [f64], first: usize
     let mut p = at;
     while i < n {
         match bits::read_point(bytes, p) {
-            PointRead::Point(x, y) => {
+            PointRead::Point(x, y, q) => {
                 let j = 2 * (first + i);
                 room[j] = x;
                 room[j + 1] = y;
+                p = q;
             }
             PointRead::NoPoint(k) => {
                 return Run::Stopped(k);
             }
         }
         i += 1;
-        p += 128;
     }
     Run::Past(p)
 }

@@ -2,7 +2,7 @@
 use borrow.Author.Needs.{needs}
 use native.Mathlib.Omega.{arith}
 use mathlib.Core.Path.{ap, _∙_}
-use Prim.Native.Nat.{_+_, _-_}
+use Prim.Native.Nat.{_-_}
 use lib.ListN.{length-set}
 use Rattle.bits.specs.declared.PointRead.{PointRead}
 use Rattle.bits.specs.Answers.{pointRead}
@@ -59,16 +59,13 @@ returns c =
     let c5 = c .before .before .before .before .before in
     let c8 = c5 .before .before .before in (
       points-end (c8 .args .bytes .now) (c8 .args .at) (c8 .args .n) (c8 .args .first) (c8 .args .room .now) (c5 .loop .room) (c5 .loop .i) (c5 .loop .p)
-          (c5 .loop .inv) (c .before .before .before .read-point .ensures ∙ ap (λ (t : PointRead). pointRead t (c5 .loop .p + 64 + 64)) (c .before .k .given .1))
+          (c5 .loop .inv) (c .before .before .before .read-point .ensures ∙ ap (λ (t : PointRead). pointRead t) (c .before .k .given .1))
           (c .before .before .before .before .loop-test .taken),
       tt,
     )
 
 add-i : tie.Need-add-i Inv-loop μ-loop
 add-i c = search needs
-
-add-p : tie.Need-add-p Inv-loop μ-loop
-add-p c = omega (arith, c .before .before .before .before .before .loop .inv .place)
 
 loop-less : tie.Need-loop-less Inv-loop μ-loop
 loop-less c = search needs
@@ -78,7 +75,7 @@ loop-again c =
     let c5 = c .before .before .before .before .before in
     let c8 = c5 .before .before .before in
     points-on (c8 .args .bytes .now) (c8 .args .at) (c8 .args .n) (c8 .args .first) (c8 .args .room .now) (c5 .loop .room) (c5 .loop .i) (c5 .loop .p)
-    (c5 .loop .inv) (c .before .before .before .read-point .ensures ∙ ap (λ (t : PointRead). pointRead t (c5 .loop .p + 64 + 64)) (c .before .x .given .1))
+    (c5 .loop .inv) (c .before .before .before .read-point .ensures ∙ ap (λ (t : PointRead). pointRead t) (c .before .x .given .1))
     (c .before .before .before .before .loop-test .taken) (c8 .pre .1) (c8 .pre .2)
 
 same-length-2 : tie.Need-same-length-2 Inv-loop μ-loop
@@ -111,7 +108,6 @@ read-points-spec =
     same-length
     returns
     add-i
-    add-p
     loop-less
     loop-again
     same-length-2
