@@ -41,11 +41,6 @@ class Script:
     def order(self, kinds):
         self.put("O", n=len(kinds), rest=b"".join(k.to_bytes(2, "big") for k in kinds))
 
-    def counts(self, j):
-        """How many orientations each kind has, for the leaf."""
-        list_ = bytes(len(p["orientations"]) for p in j["parts"])
-        self.put("Q", n=len(list_), rest=list_)
-
     def length(self, room, n):
         if self.lengths[room] != n:
             self.lengths[room] = n

@@ -77,8 +77,6 @@ fn garbage(a: usize, state: &mut u64) -> u64 {
 pub struct Script {
     job: Vec<u8>,
     order: Vec<usize>,
-    /// How many orientations each kind has, for the leaf.
-    counts: Vec<u64>,
     /// Every room as bits or numbers, at its longest.
     rooms: [Vec<u64>; 7],
     lengths: [usize; 7],
@@ -93,7 +91,6 @@ impl Script {
         Self {
             job: vec![],
             order: vec![],
-            counts: vec![],
             rooms: LONGEST.map(|n| vec![0; n]),
             lengths: [0; 7],
             state: Flat::zero(),
@@ -249,16 +246,22 @@ impl Script {
         Ok(())
     }
 
-    /// The leaf: the inset or the apart strips of one orientation, or 9 and an empty part.
+    /// The leaf: the inset or the apart strips of one orientation; or the job's refusal, then 9, and
+    /// an empty part.
     fn leaf(&mut self, kind: usize, orientation: u64, inset: bool) {
-        let has = self.counts.get(kind).is_some_and(|&n| orientation < n);
+        let number = match job::read(&self.job) {
+            Err(n) => n,
+            Ok(job) => match job.parts.get(kind) {
+                Some(part) if orientation < part.orientations.len() as u64 => 0,
+                _ => 9,
+            },
+        };
         let mut part = vec![];
-        if has {
+        if number == 0 {
             let (apart, other) = self.state.ranges(16 * kind + orientation as usize);
             let which = if inset { other } else { apart };
             part = self.rooms[0][6 * which.start..6 * which.end].to_vec();
         }
-        let number = if has { 0 } else { 9 };
         let n = part.len();
         self.out += &format!("leaf {number} {n} {:016x}\n", hash(&part));
     }
@@ -325,7 +328,6 @@ impl Script {
                 self.rooms[c.a][c.n] = if entry_room(c.a) { c.m % 65_536 } else { c.m };
                 self.edited = true;
             }
-            b'Q' => self.counts = data.take(c.n)?.iter().map(|&n| n as u64).collect(),
             b'E' => self.edit(c.a, c.n, c.m)?,
             b'S' => self.start()?,
             b'N' => self.next()?,

@@ -55,7 +55,6 @@ def step_jobs():
 
 def leaves(s, j):
     """Every orientation's strips, and 9 beyond."""
-    s.counts(j)
     for kind, p in enumerate(j["parts"]):
         for o in range(len(p["orientations"])):
             s.leaf(kind, o, False, 0)
@@ -133,7 +132,6 @@ def limits(s):
     order = [63] + list(range(63)) + [63]
     s.job(j)
     s.order(order)
-    s.counts(j)
     s.rooms([n + 7 for n in needs(trace(j, order), len(order))])
     s.start(0)
     for kind, o in ((0, 0), (62, 0), (63, 0), (63, 15), (63, 16), (62, 1)):

@@ -79,29 +79,6 @@ pub fn read_job(n: usize, bytes: &mut [u8]) -> usize {
     read_into(bytes, n)
 }
 
-fn one_at(from: &[u8], i: usize) -> usize {
-    if i < from.len() {
-        return wide(from[i]) as usize;
-    }
-    0
-}
-
-// Numbers of one byte each.
-fn spread(from: &[u8], to: &mut [usize]) {
-    let mut i: usize = 0;
-    while i < to.len() {
-        to[i] = one_at(from, i);
-        i += 1;
-    }
-}
-
-pub fn read_counts(n: usize, counts: &mut [usize]) -> usize {
-    let mut text = [0u8; 64];
-    let got = read_into(&mut text, n);
-    spread(&text, counts);
-    got
-}
-
 fn pair_at(from: &[u8], i: usize) -> usize {
     if i < from.len() / 2 {
         return (wide(from[2 * i]) * 256 + wide(from[2 * i + 1])) as usize;

@@ -20,15 +20,9 @@ pub fn lent(lengths: &[usize], a: usize, most: usize) -> usize
     most
 }
 
-// Job (J), order (O), the kinds' numbers of orientations (Q), a room's length (L), a title (T).
-pub fn load(
-    c: Command,
-    bytes: &mut [u8],
-    order: &mut [usize],
-    counts: &mut [usize],
-    lengths: &mut [usize],
-)
-    requires { ⌜ 10 ≤ length (now lengths) ⌝ }
+// Job (J), order (O), a room's length (L), a title (T).
+pub fn load(c: Command, bytes: &mut [u8], order: &mut [usize], lengths: &mut [usize])
+    requires { ⌜ 9 ≤ length (now lengths) ⌝ }
 {
     let letter = c.letter;
     match letter {
@@ -37,9 +31,6 @@ pub fn load(
         }
         79 => {
             lengths[8] = command::read_order(c.n, order);
-        }
-        81 => {
-            lengths[9] = command::read_counts(c.n, counts);
         }
         76 => {
             let a = c.a;

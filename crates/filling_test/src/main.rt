@@ -206,13 +206,13 @@ fn call(
 }
 
 // The leaf (K): kind n, orientation m, inset strips where a is 1.
-fn leaf(c: Command, state: State, counts: &[usize], shapes: &[f64]) {
+fn leaf(c: Command, state: State, bytes: &[u8], shapes: &[f64]) {
     let t = state.tables;
     let parts = t.parts;
     let apart = lent_strips(t.apart_strips, shapes.len());
     let o = c.m as usize;
     let strips = leaf::strips_by_kind(
-        counts,
+        bytes,
         &parts,
         &shapes[..apart],
         &shapes[apart..],
@@ -221,7 +221,7 @@ fn leaf(c: Command, state: State, counts: &[usize], shapes: &[f64]) {
         c.a == 1,
     );
     io::write_all(1, b"leaf ");
-    show::verdict(leaf::shape_verdict(counts, c.n, o));
+    show::verdict(leaf::shape_verdict(bytes, c.n, o));
     show::number(strips.len());
     show::room(strips);
     show::end();
@@ -238,13 +238,13 @@ fn lent_strips(n: usize, most: usize) -> usize
 }
 
 // What reads or changes the state alone: one number (E), the leaf (K).
-fn revise(c: Command, state: State, lengths: &[usize], counts: &[usize], shapes: &[f64]) -> State {
+fn revise(c: Command, state: State, lengths: &[usize], bytes: &[u8], shapes: &[f64]) -> State {
     if c.letter == 69 {
         return edit::edit(c, state);
     }
-    let k = lend::lent(lengths, 9, counts.len());
+    let j = lend::lent(lengths, 7, bytes.len());
     let n = lend::lent(lengths, 0, shapes.len());
-    leaf(c, state, &counts[..k], &shapes[..n]);
+    leaf(c, state, &bytes[..j], &shapes[..n]);
     state
 }
 
@@ -279,8 +279,7 @@ fn is_of_state(letter: u8) -> bool {
 }
 
 fn main() {
-    let mut lengths = [0usize; 10];
-    let mut counts = [0usize; 64];
+    let mut lengths = [0usize; 9];
     let mut bytes = [0u8; 66000];
     let mut order = [0usize; 4100];
     let mut shapes = [0.0f64; 8200];
@@ -295,9 +294,9 @@ fn main() {
     while left > 0 {
         let c = command::next();
         left = turns_left(c.letter, left);
-        lend::load(c, &mut bytes, &mut order, &mut counts, &mut lengths);
+        lend::load(c, &mut bytes, &mut order, &mut lengths);
         if is_of_state(c.letter) {
-            state = revise(c, state, &lengths, &counts, &shapes);
+            state = revise(c, state, &lengths, &bytes, &shapes);
         } else if is_call(c.letter) {
             state = call(
                 c,

@@ -115,7 +115,7 @@ impl Moving {
     }
 }
 
-// The number of the strip of entry e. Entries are read here and nowhere else.
+// The number of the strip of entry e. An entry becomes a number here alone; `moves` copies entries.
 pub fn entry(entries: &[Entry], e: usize) -> usize
     requires { ⌜ e < length (now entries) ⌝ }
     ensures { λ r. ⌜ r ≡ getD (now (entries .entry)) e 0 ⌝ }

@@ -9,7 +9,6 @@ ghost use lib.Ieee.{Float};
 ghost use Rattle.job.specs.Jobs.{Job};
 ghost use Rattle.filling.specs.declared.Plan.{Plan};
 ghost use Rattle.filling.specs.declared.Verdict.the-variants.{Accepted};
-ghost use Rattle.filling.specs.Refusals.{numberOf};
 ghost use Rattle.filling.specs.Rooms.{Lent};
 ghost use Rattle.tables.specs.Tabled.{Tabled};
 ghost use Rattle.nesting.specs.Text.{decimal, line, lookWord, positionAt, putLine, leftLine, fillLine, lastLines, planText, refusalText, replyText};
@@ -17,13 +16,6 @@ ghost use Rattle.lines.specs.Writing.{Wrote};
 ghost use Rattle.text.specs.Tables.{fillAt, putsTo, leftsTo, fillsTo, looksOf, looksTo};
 use filling::Refusal;
 use filling::Verdict;
-
-// A buffer for every plan. The `ensures` gives the length, which lending it as a slice needs.
-pub fn buffer() -> [u8; 524288]
-    ensures { λ r. ⌜ 524288 ≡ length r ⌝ }
-{
-    [0; 524288]
-}
 
 // The line of position i of a room.
 fn put_line(out: &mut [u8], at: usize, room: &[f64], i: usize) -> usize
@@ -197,29 +189,13 @@ pub fn plan_text(
     last_lines(out, end, right, unplaced_area, offcut)
 }
 
-// The number of a refusal.
-fn number_of(r: Refusal) -> usize
-    ensures { λ n. ⌜ n ≡ numberOf r ⌝ }
-{
-    match r {
-        Refusal::Job(k) => bits::refusal_number(k) as usize,
-        Refusal::MissingShape => 9,
-        Refusal::WrongOrder => 10,
-        Refusal::StripRoom => 20,
-        Refusal::EntryRoom => 21,
-        Refusal::IntervalRoom => 22,
-        Refusal::OrderUsedUp => 23,
-        Refusal::PositionRoom => 30,
-        Refusal::Inconsistent => 31,
-    }
-}
-
 // The text of a refusal.
 pub fn refusal_text(out: &mut [u8], r: Refusal) -> usize
     requires { ⌜ 24 ≤ length (now out) ⌝ }
     ensures { λ n. ⌜ (n ≤ 24) × (take n (now (out .exit)) ≡ refusalText r) ⌝ }
 {
-    lines::count_line(out, 0, b"no", number_of(r))
+    let number = verdicts::refusal_number(r) as usize;
+    lines::count_line(out, 0, b"no", number)
 }
 
 // The text of a reply: a plan, or a refusal.

@@ -6,14 +6,14 @@ use Rattle.filling_test.proofs.main.Statement.{statement}
 use Rattle.filling_test.proofs.main.Tie as tie
 
 abbrev Inv-loop : tie.InvT-loop
-Inv-loop lengths₀ counts₀ bytes₀ order₀ shapes₀ sheet₀ placed₀ sheet-entries₀ placed-entries₀ intervals₀ positions₀ state₀ left₀ lengths counts bytes order
-    shapes sheet placed sheet-entries placed-entries intervals positions state left =
-    (10 ≡ length lengths) × (64 ≡ length counts) × (66000 ≡ length bytes) × (4100 ≡ length order) × (8200 ≡ length shapes) × (8200 ≡ length sheet) ×
-    (8200 ≡ length placed) × (16500 ≡ length sheet-entries) × (16500 ≡ length placed-entries) × (8200 ≡ length intervals) × (20500 ≡ length positions)
+Inv-loop lengths₀ bytes₀ order₀ shapes₀ sheet₀ placed₀ sheet-entries₀ placed-entries₀ intervals₀ positions₀ state₀ left₀ lengths bytes order shapes sheet placed
+    sheet-entries placed-entries intervals positions state left =
+    (9 ≡ length lengths) × (66000 ≡ length bytes) × (4100 ≡ length order) × (8200 ≡ length shapes) × (8200 ≡ length sheet) × (8200 ≡ length placed) ×
+    (16500 ≡ length sheet-entries) × (16500 ≡ length placed-entries) × (8200 ≡ length intervals) × (20500 ≡ length positions)
 
 abbrev μ-loop : tie.MeasureT-loop
-μ-loop lengths₀ counts₀ bytes₀ order₀ shapes₀ sheet₀ placed₀ sheet-entries₀ placed-entries₀ intervals₀ positions₀ state₀ left₀ lengths counts bytes order shapes
-    sheet placed sheet-entries placed-entries intervals positions state left =
+μ-loop lengths₀ bytes₀ order₀ shapes₀ sheet₀ placed₀ sheet-entries₀ placed-entries₀ intervals₀ positions₀ state₀ left₀ lengths bytes order shapes sheet placed
+    sheet-entries placed-entries intervals positions state left =
     left
 
 zero-state-requires : tie.Need-zero-state-requires Inv-loop μ-loop
@@ -37,9 +37,6 @@ slice-aggregate-load-2 c = search needs
 slice-aggregate-load-3 : tie.Need-slice-aggregate-load-3 Inv-loop μ-loop
 slice-aggregate-load-3 c = search needs
 
-slice-aggregate-load-4 : tie.Need-slice-aggregate-load-4 Inv-loop μ-loop
-slice-aggregate-load-4 c = search needs
-
 load-requires : tie.Need-load-requires Inv-loop μ-loop
 load-requires c κs = search needs
 
@@ -60,16 +57,16 @@ revise-requires c κs = search needs
 
 loop-less : tie.Need-loop-less Inv-loop μ-loop
 loop-less c =
-    let c15 = c .before .before .before .before .before .before .before .before .before .before .before .before .before .before .before in
-    c15 .turns-left .ensures
+    let c13 = c .before .before .before .before .before .before .before .before .before .before .before .before .before in
+    c13 .turns-left .ensures
 
 loop-again : tie.Need-loop-again Inv-loop μ-loop
 loop-again c =
-    let c10 = c .before .before .before .before .before .before .before .before .before .before in
-    let c18 = c10 .before .before .before .before .before .before .before .before in
-    let i = c18 .loop .inv in
-    let l = c10 .load .kept in
-    (i .0 ∙ sym (l .1 .1 .1 .1 .0), i .1 ∙ sym (l .1 .1 .1 .0), i .2 ∙ sym (l .1 .0), i .3 ∙ sym (l .1 .1 .0), i .4, i .5, i .6, i .7, i .8, i .9, i .10)
+    let c9 = c .before .before .before .before .before .before .before .before .before in
+    let c16 = c9 .before .before .before .before .before .before .before in
+    let i = c16 .loop .inv in
+    let l = c9 .load .kept in
+    (i .0 ∙ sym (l .1 .1 .1 .0), i .1 ∙ sym (l .1 .0), i .2 ∙ sym (l .1 .1 .0), i .3, i .4, i .5, i .6, i .7, i .8, i .9)
 
 is-call-requires : tie.Need-is-call-requires Inv-loop μ-loop
 is-call-requires c κs = search needs
@@ -110,31 +107,28 @@ call-requires c κs = search needs
 loop-less-2 : tie.Need-loop-less-2 Inv-loop μ-loop
 loop-less-2 c =
     let c16 = c .before .before .before .before .before .before .before .before .before .before .before .before .before .before .before .before in
-    let c31 = c16 .before .before .before .before .before .before .before .before .before .before .before .before .before .before .before in
-    c31 .turns-left .ensures
+    let c29 = c16 .before .before .before .before .before .before .before .before .before .before .before .before .before in
+    c29 .turns-left .ensures
 
 loop-again-2 : tie.Need-loop-again-2 Inv-loop μ-loop
 loop-again-2 c =
     let c7 = c .before .before .before .before .before .before .before in
     let c23 = c7 .before .before .before .before .before .before .before .before .before .before .before .before .before .before .before .before in
-    let c26 = c23 .before .before .before in
-    let c34 = c26 .before .before .before .before .before .before .before .before in
-    let i = c34 .loop .inv in
-    let l = c26 .load .kept in
+    let c25 = c23 .before .before in
+    let c32 = c25 .before .before .before .before .before .before .before in
+    let i = c32 .loop .inv in
+    let l = c25 .load .kept in
     let k = c7 .call .kept in (
-      i .0 ∙ sym (l .1 .1 .1 .1 .0),
-      i .1 ∙ sym (l .1 .1 .1 .0),
-      i .2 ∙ sym (l .1 .0),
-      i .3 ∙ sym (l .1 .1 .0),
-      i .4 ∙ sym (k .1 .1 .1 .1 .1 .0),
-      i .5 ∙ sym
-          (k .1 .1 .1 .1 .1 .1 .0),
-      i .6 ∙ sym (k .1 .1 .1 .1 .1 .1 .1 .0),
-      i .7 ∙ sym (k .1 .1 .1 .1 .1 .1 .1 .1 .0),
-      i .8 ∙ sym
-          (k .1 .1 .1 .1 .1 .1 .1 .1 .1 .0),
-      i .9 ∙ sym (k .1 .1 .1 .1 .1 .1 .1 .1 .1 .1 .0),
-      i .10 ∙ sym (k .1 .1 .1 .1 .1 .1 .1 .1 .1 .1 .1 .0),
+      i .0 ∙ sym (l .1 .1 .1 .0),
+      i .1 ∙ sym (l .1 .0),
+      i .2 ∙ sym (l .1 .1 .0),
+      i .3 ∙ sym (k .1 .1 .1 .1 .1 .0),
+      i .4 ∙ sym (k .1 .1 .1 .1 .1 .1 .0),
+      i .5 ∙ sym (k .1 .1 .1 .1 .1 .1 .1 .0),
+      i .6 ∙ sym (k .1 .1 .1 .1 .1 .1 .1 .1 .0),
+      i .7 ∙ sym (k .1 .1 .1 .1 .1 .1 .1 .1 .1 .0),
+      i .8 ∙ sym (k .1 .1 .1 .1 .1 .1 .1 .1 .1 .1 .0),
+      i .9 ∙ sym (k .1 .1 .1 .1 .1 .1 .1 .1 .1 .1 .1 .0),
     )
 
 slice-aggregate-touch-rooms : tie.Need-slice-aggregate-touch-rooms Inv-loop μ-loop
@@ -167,31 +161,27 @@ touch-rooms-requires c κs = search needs
 loop-less-3 : tie.Need-loop-less-3 Inv-loop μ-loop
 loop-less-3 c =
     let c16 = c .before .before .before .before .before .before .before .before .before .before .before .before .before .before .before .before in
-    let c29 = c16 .before .before .before .before .before .before .before .before .before .before .before .before .before in
-    c29 .turns-left .ensures
+    let c27 = c16 .before .before .before .before .before .before .before .before .before .before .before in
+    c27 .turns-left .ensures
 
 loop-again-3 : tie.Need-loop-again-3 Inv-loop μ-loop
 loop-again-3 c =
     let c7 = c .before .before .before .before .before .before .before in
     let c23 = c7 .before .before .before .before .before .before .before .before .before .before .before .before .before .before .before .before in
-    let c24 = c23 .before in
-    let c32 = c24 .before .before .before .before .before .before .before .before in
-    let i = c32 .loop .inv in
-    let l = c24 .load .kept in
+    let c30 = c23 .before .before .before .before .before .before .before in
+    let i = c30 .loop .inv in
+    let l = c23 .load .kept in
     let k = c7 .touch-rooms .kept in (
-      i .0 ∙ sym (l .1 .1 .1 .1 .0),
-      i .1 ∙ sym (l .1 .1 .1 .0),
-      i .2 ∙ sym (l .1 .0),
-      i .3 ∙ sym (l .1 .1 .0),
-      i .4 ∙ sym (k .1 .1 .0),
-      i .5 ∙ sym
-          (k .1 .1 .1 .0),
-      i .6 ∙ sym (k .1 .1 .1 .1 .0),
-      i .7 ∙ sym (k .1 .1 .1 .1 .1 .0),
-      i .8 ∙ sym (k .1 .1 .1 .1 .1 .1 .0),
-      i .9 ∙ sym
-          (k .1 .1 .1 .1 .1 .1 .1 .0),
-      i .10 ∙ sym (k .1 .1 .1 .1 .1 .1 .1 .1 .0),
+      i .0 ∙ sym (l .1 .1 .1 .0),
+      i .1 ∙ sym (l .1 .0),
+      i .2 ∙ sym (l .1 .1 .0),
+      i .3 ∙ sym (k .1 .1 .0),
+      i .4 ∙ sym (k .1 .1 .1 .0),
+      i .5 ∙ sym (k .1 .1 .1 .1 .0),
+      i .6 ∙ sym (k .1 .1 .1 .1 .1 .0),
+      i .7 ∙ sym (k .1 .1 .1 .1 .1 .1 .0),
+      i .8 ∙ sym (k .1 .1 .1 .1 .1 .1 .1 .0),
+      i .9 ∙ sym (k .1 .1 .1 .1 .1 .1 .1 .1 .0),
     )
 
 returns : tie.Need-returns Inv-loop μ-loop
@@ -210,7 +200,6 @@ main-spec =
     slice-aggregate-load
     slice-aggregate-load-2
     slice-aggregate-load-3
-    slice-aggregate-load-4
     load-requires
     is-of-state-requires
     slice-aggregate-revise
