@@ -25,6 +25,7 @@ use Rattle.filling.specs.Start.{startVerdict, firstState, firstRooms, St
 use Rattle.filling.specs.NextCopy.{newStrips, stateAfter, Step}
 use Rattle.filling.specs.Accounts.{lookCountsOf}
 use Rattle.filling.specs.Fill.{fillOrder, fillGiven, fillOf}
+use Rattle.filling.specs.Reports.{Reports}
 use Rattle.filling.specs.Calls.{Call, After, afterCalls, refusals, stateOutcome, plainOutcome, plainAfter}
 use Rattle.filling.proofs.FirstFree.{FullFrom, FoundAt, skip, none-free, found-at, found-nowhere, Grows, grows-append, look-grows}
 use Rattle.filling.proofs.Reading.{rows-length, toCome}
@@ -32,7 +33,7 @@ use Rattle.filling.proofs.Sizes.{Sized, sized}
 use Rattle.filling.proofs.Rows.{Relation, Row, Table, table-map, table-get, table-set, fresh-table, same-found, row-searched, table-counts}
 use Rattle.filling.proofs.Steps as Steps
 use Rattle.filling.proofs.Steps.{Linked, Took, standing-more, standing-sixfold}
-use Rattle.filling.proofs.Runs.{Reports, calls-keep, fill-keeps, fill-reports}
+use Rattle.filling.proofs.Runs.{calls-keep, fill-keeps, fill-reports}
 use Rattle.filling.proofs.Begin.{tracks-read, first-linked, first-to-come, first-standing, first-without, rearranged-length, Begun, begun, Started, start-accepted}
 
 -- ---- one orientation

@@ -1,19 +1,14 @@
--- A call is refused exactly where a line of the tables holds, with the number first met; a refused call changes nothing.
--- Of every state and every room. Assumes nothing.
+-- A call is refused exactly where a line of the tables holds, with the number first met: a single step, a start, a filling. A refused single step
+-- changes nothing. Of every state and every room. Assumes nothing.
 use mathlib.Core.Path.{_≡_, refl, sym, ap, _∙_}
 use mathlib.Core.Logic.{_⊎_, inl, inr}
-use mathlib.Core.Bool.{Bool, true, false, not}
-use mathlib.Core.List.{List, [], _∷_, _++_, map}
-use Prim.Native.Nat.{ℕ, zero, suc, _+_, _*_, _/_, _≤_, _<_}
-use native.Mathlib.Omega.{arith}
+use mathlib.Core.Bool.{Bool, true, false}
+use mathlib.Core.List.{List, [], _∷_, _++_}
+use Prim.Native.Nat.{ℕ, zero, suc}
 use lib.ListN.{length, getD, drop}
-use lib.Dec.{T, ltb, nltb→le}
 use lib.Ieee.{Float}
 use Rattle.numbers.proofs.Truth.{either}
 use Rattle.numbers.specs.Numbers.{posZero}
-use Rattle.trapezoid.specs.Strip.{capacity}
-use Rattle.index.specs.Buckets.{standingCapacity}
-use Rattle.bits.specs.declared.Refusal as Input
 use Rattle.job.specs.Jobs.{Job, Answer, accepted, refused, readJob}
 use Rattle.filling.specs.declared.State.{State}
 use Rattle.filling.specs.declared.Refusal.{Refusal}
@@ -21,51 +16,23 @@ use Rattle.filling.specs.declared.Refusal.the-variants as Why
 use Rattle.filling.specs.declared.Verdict.{Verdict}
 use Rattle.filling.specs.declared.Verdict.the-variants.{Accepted, Refused}
 use Rattle.filling.specs.Refusals.{refuseIf}
-use Rattle.filling.specs.Shapes.{Planner, Shape}
+use Rattle.filling.specs.Shapes.{Planner, plannerOf, Shape}
 use Rattle.filling.specs.Search.{Found, Track, searchAll}
-use Rattle.filling.specs.Choice.{Choice, choices, best}
-use Rattle.filling.specs.Rooms.{Rooms, intervalCapacity, laid, zeros}
+use Rattle.filling.specs.Choice.{Choice, choices}
+use Rattle.filling.specs.Rooms.{Rooms, Lent, intervalCapacity, zeros}
 use Rattle.filling.specs.State.{plannerAt, orderOf, tracksOf}
-use Rattle.filling.specs.Consistent.{entriesFor, placedStrips, consistent}
-use Rattle.filling.specs.NextCopy.{intervalCounts, anyAbove, newStrips, storeVerdict, winnerVerdict, copyVerdict, stored, roomsAfter, Step, noStep, placeCopy, placeNext, coreStep, stepJob, stepGiven, nextCopyOf}
-use Rattle.filling.proofs.Runs.{step-consistent, step-inconsistent}
-use Rattle.filling.proofs.Steps.{later-accepted, place-refused, place-taken, winner-accepted}
+use Rattle.filling.specs.Consistent.{placedStrips, consistent}
+use Rattle.filling.specs.Start.{prepareVerdict, startVerdict, firstState, firstRooms, noStart, goodStart, startJob, startGiven, startOf}
+use Rattle.filling.specs.NextCopy.{intervalCounts, anyAbove, storeVerdict, winnerVerdict, copyVerdict, Step, noStep}
+use Rattle.filling.specs.NextCopy.{placeCopy, placeNext, coreStep, stepJob, stepGiven, nextCopyOf}
+use Rattle.filling.specs.Fill.{Filling, filled, stopped, fillFrom, fillOrder, notPlanned, plannedWith, plannedBy, fillJob, fillGiven, fillOf}
+use Rattle.filling.specs.RefusalLines.{Line, firstMet, givenLines, positionLine, prepareLines, startLines}
+use Rattle.filling.specs.RefusalLines.{copyLines, nextLines, stepLines, copiesLines, orderLines, fillLines}
+use Rattle.filling.proofs.Runs.{step-consistent, step-inconsistent, fill-stopped, fill-runs}
+use Rattle.filling.proofs.Steps.{refused≢accepted, place-refused, place-taken}
+use Rattle.filling.proofs.Begin.{start-refused, start-good}
 
--- ---- the lines of the tables
-
--- a line: whether it holds, and its refusal
-pub record Line : Type 0 where
-  pub holds : Bool
-  pub refusal : Refusal
-
--- "with the number first met"
-pub firstMet : List Line → Verdict
-firstMet [] = Accepted
-firstMet (l ∷ ls) = refuseIf (l .holds) (l .refusal) (firstMet ls)
-
--- for a copy of kind k, whose strips would be these: 22, 20, 21
-pub copyLines : Planner → Rooms → List Float → ℕ → List Float → List Shape → List Track → List Found → List Choice → List Line
-copyLines p w iv k st ss ts fs [] = record { holds = anyAbove (intervalCapacity iv) (intervalCounts p st ss ts fs); refusal = Why.IntervalRoom } ∷ []
-copyLines p w iv k st ss ts fs (a ∷ as′) =
-    let strips = st ++ newStrips p k (best a as′) in
-    record { holds = anyAbove (intervalCapacity iv) (intervalCounts p st ss ts fs); refusal = Why.IntervalRoom }
-    ∷ record { holds = ltb (standingCapacity (w .placed)) (capacity strips); refusal = Why.StripRoom }
-    ∷ record { holds = ltb (length (w .placed-entries)) (length (entriesFor (p .bounds) strips)); refusal = Why.EntryRoom }
-    ∷ []
-
--- 23 where the order is used up
-pub nextLines : Job → State → Rooms → List Float → List ℕ → List Line
-nextLines j s w iv [] = record { holds = true; refusal = Why.OrderUsedUp } ∷ []
-nextLines j s w iv (k ∷ ks) =
-    let p = plannerAt j (s .tables) w in
-    let st = placedStrips s w in
-    let ss = getD (p .shapes) k [] in
-    let ts = getD (tracksOf j s) k [] in
-    copyLines p w iv k st ss ts (searchAll p st ss ts) (choices p 0 ss (searchAll p st ss ts))
-
--- "31 before all else in a step"
-pub stepLines : Job → State → Rooms → List Float → List Line
-stepLines j s w iv = record { holds = not (consistent j s w); refusal = Why.Inconsistent } ∷ nextLines j s w iv (drop (s .taken) (orderOf j s))
+-- ---- a single step
 
 module _ (p : Planner) (w : Rooms) (iv : List Float) (k : ℕ) (st : List Float) (ss : List Shape) (ts : List Track) (fs : List Found) where
   copy-met : (cs : List Choice) → refuseIf (anyAbove (intervalCapacity iv) (intervalCounts p st ss ts fs)) Why.IntervalRoom (winnerVerdict p w k st cs) ≡ firstMet (copyLines p w iv k st ss ts fs cs)
@@ -100,14 +67,119 @@ step-met j s w iv = go (either (consistent j s w))
 
 -- "A call is refused exactly where a line of the tables holds for it, with the number first met": a job that is refused has its own number
 pub next-copy-refused : (bytes : List ℕ) (s : State) (w : Rooms) (iv : List Float)
-    → ((k : Input.Refusal) → readJob bytes ≡ refused k → nextCopyOf bytes s w iv .verdict ≡ Refused (Why.Job k))
-    × ((j : Job) → readJob bytes ≡ accepted j → nextCopyOf bytes s w iv .verdict ≡ firstMet (stepLines j s w iv))
-unfolding nextCopyOf stepGiven noStep
-next-copy-refused bytes s w iv = (λ k e. rw e, λ j e. rw e (step-met j s w iv))
+    → nextCopyOf bytes s w iv .verdict ≡ firstMet (givenLines (readJob bytes) (λ j. stepLines j s w iv))
+unfolding nextCopyOf
+next-copy-refused bytes s w iv = go (readJob bytes)
+  where
+    go : (a : Answer) → stepGiven a s w iv .verdict ≡ firstMet (givenLines a (λ j. stepLines j s w iv))
+    go (refused k) = unfold stepGiven in (unfold noStep in (unfold givenLines in (unfold firstMet in (unfold refuseIf in refl))))
+    go (accepted j) = unfold stepGiven in (unfold givenLines in step-met j s w iv)
+
+-- ---- lines after lines
+
+-- a verdict, or what is met later
+abbrev pub orLater : Verdict → Verdict → Verdict
+orLater Accepted v = v
+orLater (Refused k) v = Refused k
+
+pub met-append : (ls ms : List Line) → firstMet (ls ++ ms) ≡ orLater (firstMet ls) (firstMet ms)
+unfolding firstMet refuseIf
+met-append [] ms = refl
+met-append (l ∷ ls) ms = go (l .holds) (met-append ls ms)
+  where
+    go : (t : Bool) → firstMet (ls ++ ms) ≡ orLater (firstMet ls) (firstMet ms)
+        → refuseIf t (l .refusal) (firstMet (ls ++ ms)) ≡ orLater (refuseIf t (l .refusal) (firstMet ls)) (firstMet ms)
+    go true e = refl
+    go false e = e
+
+-- ---- a start
+
+pub prepare-met : (p : Planner) (w : Rooms) → prepareVerdict p w ≡ firstMet (prepareLines p w)
+unfolding prepareVerdict prepareLines firstMet
+prepare-met p w = refl
+
+pub start-met : (j : Job) (order : List ℕ) (l : Lent) → startVerdict j order l ≡ firstMet (startLines j order l)
+unfolding startVerdict startLines positionLine prepareVerdict prepareLines firstMet
+start-met j order l = refl
+
+pub start-verdict : (j : Job) (order : List ℕ) (l : Lent) → startJob j order l .verdict ≡ startVerdict j order l
+unfolding noStart goodStart
+start-verdict j order l = go (startVerdict j order l) refl
+  where
+    go : (v : Verdict) → startVerdict j order l ≡ v → startJob j order l .verdict ≡ startVerdict j order l
+    go Accepted d = ap (λ r. r .verdict) (start-good j order l d) ∙ sym d
+    go (Refused k) d = ap (λ r. r .verdict) (start-refused j order l k d) ∙ sym d
+
+-- the same of a start
+pub start-refused-where : (bytes order : List ℕ) (l : Lent) → startOf bytes order l .verdict ≡ firstMet (givenLines (readJob bytes) (λ j. startLines j order l))
+unfolding startOf
+start-refused-where bytes order l = go (readJob bytes)
+  where
+    go : (a : Answer) → startGiven a order l .verdict ≡ firstMet (givenLines a (λ j. startLines j order l))
+    go (refused k) = unfold startGiven in (unfold noStart in (unfold givenLines in (unfold firstMet in (unfold refuseIf in refl))))
+    go (accepted j) = unfold startGiven in (unfold givenLines in start-verdict j order l ∙ start-met j order l)
+
+-- ---- a filling
+
+-- what a filling is refused with
+abbrev pub fillingVerdict : Filling → Verdict
+fillingVerdict (filled s) = Accepted
+fillingVerdict (stopped k) = Refused k
+
+copies-met : (j : Job) (iv : List Float) (n : ℕ) (s : State) (w : Rooms) → fillingVerdict (fillFrom j iv n s w) ≡ firstMet (copiesLines j iv n s w)
+unfolding fillFrom copiesLines
+copies-met j iv zero s w = unfold firstMet in refl
+copies-met j iv (suc n) s w =
+    step (coreStep j s w iv .verdict)
+    ∙ ap (orLater (coreStep j s w iv .verdict)) (copies-met j iv n (coreStep j s w iv .state) (coreStep j s w iv .rooms))
+    ∙ ap (λ v. orLater v (firstMet (copiesLines j iv n (coreStep j s w iv .state) (coreStep j s w iv .rooms)))) core-met
+    ∙ sym (met-append (nextLines j s w iv (drop (s .taken) (orderOf j s))) (copiesLines j iv n (coreStep j s w iv .state) (coreStep j s w iv .rooms)))
+  where
+    later : Filling
+    later = fillFrom j iv n (coreStep j s w iv .state) (coreStep j s w iv .rooms)
+
+    step : (v : Verdict) → fillingVerdict (elim v [ Accepted ↦ later | Refused k ↦ stopped k ]) ≡ orLater v (fillingVerdict later)
+    step Accepted = refl
+    step (Refused k) = refl
+
+    core-met : coreStep j s w iv .verdict ≡ firstMet (nextLines j s w iv (drop (s .taken) (orderOf j s)))
+    core-met = unfold coreStep in next-met j s w iv (drop (s .taken) (orderOf j s))
+
+-- one filling in an order
+pub order-met : (j : Job) (l : Lent) (order : List ℕ) → fillingVerdict (fillOrder j l order) ≡ firstMet (orderLines j l order)
+unfolding fillOrder orderLines
+order-met j l order = copies-met j (l .intervals) (length order) (firstState (plannerOf j) order) (firstRooms (plannerOf j) (l .rooms))
+
+planned-verdict : (j : Job) (l : Lent) (f : Filling) → plannedBy j l f .verdict ≡ fillingVerdict f
+unfolding plannedBy plannedWith notPlanned
+planned-verdict j l (filled s) = refl
+planned-verdict j l (stopped k) = refl
+
+fill-met : (j : Job) (order : List ℕ) (l : Lent) → fillJob j order l .verdict ≡ firstMet (fillLines j order l)
+unfolding fillLines notPlanned
+fill-met j order l = go (startVerdict j order l) refl ∙ sym (met-append (startLines j order l) (orderLines j l order))
+  where
+    later : Verdict
+    later = firstMet (orderLines j l order)
+
+    go : (v : Verdict) → startVerdict j order l ≡ v → fillJob j order l .verdict ≡ orLater (firstMet (startLines j order l)) later
+    go Accepted d =
+        ap (λ r. r .verdict) (fill-runs j order l d) ∙ planned-verdict j l (fillOrder j l order) ∙ order-met j l order
+        ∙ ap (λ v. orLater v later) (sym d ∙ start-met j order l)
+    go (Refused k) d = ap (λ r. r .verdict) (fill-stopped j order l k d) ∙ ap (λ v. orLater v later) (sym d ∙ start-met j order l)
+
+-- the same of a filling in a given order
+pub fill-refused-where : (bytes order : List ℕ) (l : Lent) → fillOf bytes order l .verdict ≡ firstMet (givenLines (readJob bytes) (λ j. fillLines j order l))
+unfolding fillOf
+fill-refused-where bytes order l = go (readJob bytes)
+  where
+    go : (a : Answer) → fillGiven a order l .verdict ≡ firstMet (givenLines a (λ j. fillLines j order l))
+    go (refused k) = unfold fillGiven in (unfold notPlanned in (unfold givenLines in (unfold firstMet in (unfold refuseIf in refl))))
+    go (accepted j) = unfold fillGiven in (unfold givenLines in fill-met j order l)
 
 -- ---- what a step leaves
 
-pub data Leaves (s : State) (w : Rooms) (iv : List Float) (r : Step) : Type 0 where
+data Leaves (s : State) (w : Rooms) (iv : List Float) (r : Step) : Type 0 where
   unchanged : r .state ≡ s → r .rooms ≡ w → r .intervals ≡ zeros posZero iv → Leaves s w iv r
   taken : r .verdict ≡ Accepted → r .intervals ≡ zeros posZero iv → Leaves s w iv r
 
@@ -137,12 +209,23 @@ job-leaves j s w iv = go (either (consistent j s w))
     go (inl e) = rw (step-consistent j s w iv e) (core-leaves j s w iv)
     go (inr e) = rw (step-inconsistent j s w iv e) (no-step Why.Inconsistent s w iv)
 
--- "a refused call changes nothing": "A refused single step returns state, strip and entry rooms unchanged; every single step leaves zeros in the
--- interval room."
-pub next-copy-leaves : (bytes : List ℕ) (s : State) (w : Rooms) (iv : List Float) → Leaves s w iv (nextCopyOf bytes s w iv)
+leaves : (bytes : List ℕ) (s : State) (w : Rooms) (iv : List Float) → Leaves s w iv (nextCopyOf bytes s w iv)
 unfolding nextCopyOf stepGiven
-next-copy-leaves bytes s w iv = go (readJob bytes)
+leaves bytes s w iv = go (readJob bytes)
   where
     go : (g : Answer) → Leaves s w iv (stepGiven g s w iv)
     go (refused k) = no-step (Why.Job k) s w iv
     go (accepted j) = job-leaves j s w iv
+
+-- "a refused call changes nothing": "A refused single step returns state, strip and entry rooms unchanged; every single step leaves zeros in the
+-- interval room."
+pub next-copy-leaves : (bytes : List ℕ) (s : State) (w : Rooms) (iv : List Float)
+    → (nextCopyOf bytes s w iv .intervals ≡ zeros posZero iv)
+    × ((k : Refusal) → nextCopyOf bytes s w iv .verdict ≡ Refused k → (nextCopyOf bytes s w iv .state ≡ s) × (nextCopyOf bytes s w iv .rooms ≡ w))
+next-copy-leaves bytes s w iv = go (leaves bytes s w iv)
+  where
+    go : Leaves s w iv (nextCopyOf bytes s w iv)
+        → (nextCopyOf bytes s w iv .intervals ≡ zeros posZero iv)
+        × ((k : Refusal) → nextCopyOf bytes s w iv .verdict ≡ Refused k → (nextCopyOf bytes s w iv .state ≡ s) × (nextCopyOf bytes s w iv .rooms ≡ w))
+    go (unchanged a b c) = (c, λ k f. (a, b))
+    go (taken a c) = (c, λ k f. absurd (refused≢accepted (sym f ∙ a)))

@@ -5,13 +5,11 @@ use mathlib.Core.Bool.{Bool, true, false}
 use mathlib.Core.List.{List, [], _∷_}
 use Prim.Native.Nat.{ℕ, zero, suc}
 use native.Mathlib.Omega.{arith}
-use lib.ListN.{length, replicate}
+use lib.ListN.{replicate}
 use lib.Ieee.{Float}
 use Rattle.numbers.proofs.Truth.{either}
-use Rattle.numbers.specs.Numbers.{posZero}
 use Rattle.job.specs.Jobs.{Job, Answer, accepted, refused, readJob}
 use Rattle.filling.specs.declared.State.{State}
-use Rattle.filling.specs.declared.Plan.{Plan}
 use Rattle.filling.specs.declared.Refusal.{Refusal}
 use Rattle.filling.specs.declared.Refusal.the-variants as Why
 use Rattle.filling.specs.declared.Verdict.{Verdict}
@@ -19,12 +17,13 @@ use Rattle.filling.specs.declared.Verdict.the-variants.{Accepted, Refuse
 use Rattle.filling.specs.Refusals.{isRefused}
 use Rattle.filling.specs.Shapes.{Planner, plannerOf}
 use Rattle.filling.specs.Plain.{Plain, plainTake, plainCalls}
-use Rattle.filling.specs.Rooms.{Rooms, Lent, laid, zeros, onlyPositions}
+use Rattle.filling.specs.Rooms.{Rooms, Lent, onlyPositions}
 use Rattle.filling.specs.Consistent.{consistent}
 use Rattle.filling.specs.Start.{startVerdict, firstState, firstRooms}
 use Rattle.filling.specs.NextCopy.{Step, noStep, coreStep, stepJob, stepGiven, nextCopyOf}
-use Rattle.filling.specs.Accounts.{positions, flatPositions, placedOf, unplacedOf, looksBySlot, planOf}
-use Rattle.filling.specs.Fill.{Filling, filled, stopped, fillFrom, fillOrder, Planned, notPlanned, plannedWith, plannedBy, fillJob, fillGiven, fillOf}
+use Rattle.filling.specs.Accounts.{planOf}
+use Rattle.filling.specs.Fill.{Filling, filled, stopped, fillFrom, fillOrder, notPlanned, plannedWith, plannedBy, fillJob, fillGiven, fillOf}
+use Rattle.filling.specs.Reports.{Reports}
 use Rattle.filling.specs.Calls.{Call, nextCopy, After, callStep, afterCalls, refusals, Outcome, stateOutcome}
 use Rattle.filling.proofs.Steps as Steps
 use Rattle.filling.proofs.Steps.{Linked, Took, unchanged, took, core-outcome, refused≢accepted}
@@ -99,27 +98,20 @@ module _ (j : Job) (K : State → Rooms → Plain → Type 0) (linked : (s : Sta
 
 -- ---- what a filling's reply and position room say of an outcome
 
-pub record Reports (j : Job) (l : Lent) (r : Planned) (o : Outcome) : Type 0 where
-  pub placed : r .plan .placed ≡ length (o .standing)
-  pub placed-of : r .plan .«placed_of» ≡ placedOf (o .standing)
-  pub positions-are : r .lent .positions ≡ laid (flatPositions (positions j (o .standing))) (zeros posZero (l .positions))
-  pub unplaced : r .plan .unplaced ≡ length (o .without)
-  pub unplaced-of : r .plan .«unplaced_of» ≡ unplacedOf (o .without)
-  pub look-counts : r .plan .«look_counts» ≡ looksBySlot (o .look-counts)
-
 state-reports : (j : Job) (l : Lent) (s : State) (n : ℕ) → Reports j l (plannedWith j l s n) (stateOutcome j s)
 unfolding plannedWith planOf onlyPositions stateOutcome
 state-reports j l s n = record { placed = refl; placed-of = refl; positions-are = refl; unplaced = refl; unplaced-of = refl; look-counts = refl }
 
-module _ (j : Job) (order : List ℕ) (l : Lent) (o : Outcome) (is : startVerdict j order l ≡ Accepted → (s : State) → fillOrder j l order ≡ filled s → stateOutcome j s ≡ o) where
-  fill-stopped : (k : Refusal) → startVerdict j order l ≡ Refused k → fillJob j order l ≡ notPlanned k l
+module _ (j : Job) (order : List ℕ) (l : Lent) where
+  pub fill-stopped : (k : Refusal) → startVerdict j order l ≡ Refused k → fillJob j order l ≡ notPlanned k l
   unfolding fillJob
   fill-stopped k e = rw (e, fillJob)
 
-  fill-runs : startVerdict j order l ≡ Accepted → fillJob j order l ≡ plannedBy j l (fillOrder j l order)
+  pub fill-runs : startVerdict j order l ≡ Accepted → fillJob j order l ≡ plannedBy j l (fillOrder j l order)
   unfolding fillJob
   fill-runs e = rw (e, fillJob)
 
+module _ (j : Job) (order : List ℕ) (l : Lent) (o : Outcome) (is : startVerdict j order l ≡ Accepted → (s : State) → fillOrder j l order ≡ filled s → stateOutcome j s ≡ o) where
   by-filling : startVerdict j order l ≡ Accepted → (f : Filling) → fillOrder j l order ≡ f → plannedBy j l f .verdict ≡ Accepted → Reports j l (plannedBy j l f) o
   unfolding plannedBy notPlanned
   by-filling v (stopped k) d e = absurd (refused≢accepted e)
@@ -130,5 +122,5 @@ module _ (j : Job) (order : List ℕ) (l : Lent) (o : Outcome) (is : startVerdic
   fill-reports e = go (startVerdict j order l) refl
     where
       go : (v : Verdict) → startVerdict j order l ≡ v → Reports j l (fillJob j order l) o
-      go (Refused k) d = absurd (refused≢accepted (sym (ap (λ r. r .verdict) (fill-stopped k d)) ∙ e))
-      go Accepted d = rw (fill-runs d) (by-filling d (fillOrder j l order) refl (rw (fill-runs d) at e))
+      go (Refused k) d = absurd (refused≢accepted (sym (ap (λ r. r .verdict) (fill-stopped j order l k d)) ∙ e))
+      go Accepted d = rw (fill-runs j order l d) (by-filling d (fillOrder j l order) refl (rw (fill-runs j order l d) at e))

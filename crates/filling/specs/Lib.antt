@@ -14,3 +14,5 @@ pub mod Accounts
 pub mod Fill
 pub mod Leaf
 pub mod Calls
+pub mod RefusalLines
+pub mod Reports

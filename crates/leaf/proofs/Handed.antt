@@ -18,7 +18,7 @@ use Rattle.filling.specs.State.{orientationCounts, slotRows, partAt, apartRoom,
 use Rattle.filling.specs.Start.{firstState, startOf}
 use Rattle.filling.specs.Leaf.{lacks, partIn, stripsByKind}
 use Rattle.filling.proofs.Sizes.{sized}
-use Rattle.filling.proofs.Reading.{getD-upFrom}
+use Rattle.index.proofs.Flat.{getD-upFrom}
 use Rattle.filling.proofs.Begin.{first-linked, start-accepted}
 use Rattle.leaf.proofs.ByKind.{verdict-had}
 

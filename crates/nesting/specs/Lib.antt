@@ -3,3 +3,4 @@ pub mod Rounds
 pub mod Nest
 pub mod Text
 pub mod Cases
+pub mod RefusalLines

@@ -1,11 +1,12 @@
--- Demand 1 of the whole plan, and that no number of its reply or rooms is non-finite. Assumes nothing.
+-- Demand 1 of a start, a filling and the whole plan; no number of the whole plan's reply or rooms is non-finite. Assumes nothing.
 use Prim.{⊥}
-use Prim.Native.Nat.{ℕ, _≤_}
+use Prim.Native.Nat.{ℕ}
 use native.Mathlib.Omega.{arith}
-use mathlib.Core.Path.{_≡_, refl, sym, ap, subst, _∙_}
-use mathlib.Core.Bool.{true, false, not}
-use mathlib.Core.List.{List}
-use lib.Dec.{ltb, lit≤}
+use mathlib.Core.Path.{_≡_, refl, sym, subst, _∙_}
+use mathlib.Core.Bool.{Bool, true, false, not}
+use mathlib.Core.List.{List, [], _∷_}
+use lib.Dec.{ltb}
+use Rattle.slab.proofs.Merging.{All}
 use Rattle.bits.specs.declared.Refusal as Input
 use Rattle.bits.specs.declared.Refusal.the-variants.{Truncated, TrailingData, UnknownVersion, NonFinite, OutOfRange, CountOutOfRange, TooManyCopies, TooManyColumns}
 use Rattle.job.specs.Jobs.{Job, Answer, accepted, refused, readJob}
@@ -13,27 +14,120 @@ use Rattle.filling.specs.declared.Refusal.{Refusal}
 use Rattle.filling.specs.declared.Refusal.the-variants as Why
 use Rattle.filling.specs.declared.Verdict.{Verdict}
 use Rattle.filling.specs.declared.Verdict.the-variants.{Accepted, Refused}
-use Rattle.filling.specs.Refusals.{numberOf, refuseIf}
+use Rattle.filling.specs.Refusals.{numberOf, verdictNumber, refuseIf}
 use Rattle.filling.specs.Shapes.{plannerOf}
 use Rattle.filling.specs.Rooms.{Lent, positionCapacity}
-use Rattle.filling.specs.Start.{prepareVerdict, startVerdict}
-use Rattle.filling.specs.Fill.{filled, stopped, fillOrder, Planned, notPlanned, plannedWith}
+use Rattle.filling.specs.Start.{prepareVerdict, startVerdict, noStart, startGiven, startOf}
+use Rattle.filling.specs.Fill.{Filling, filled, stopped, fillOrder, notPlanned, plannedWith, plannedBy, fillJob, fillGiven, fillOf}
+use Rattle.filling.specs.RefusalLines.{Line, firstMet, positionLine, prepareLines, startLines}
 use Rattle.filling.specs.Order.{rearranged}
 use Rattle.filling.proofs.Steps.{later-accepted, accepted≢refused}
+use Rattle.filling.proofs.Begin.{begun}
+use Rattle.filling.proofs.Runs.{fill-stopped, fill-runs}
+use Rattle.filling.proofs.Refused.{start-met, start-verdict}
 use Rattle.nesting.specs.Rounds.{Kept, Swaps, kept, ended, swapSearch}
 use Rattle.nesting.specs.Nest.{nestVerdict, nested, nestJob, nestGiven, nestOf}
 use Rattle.promises.proofs.Numbers.{LentNumbers}
 use Rattle.promises.proofs.Left.{PlanNumbers, OffcutBounds, not-planned, offcut-bounds, planned-numbers}
-use Rattle.promises.proofs.Suffice.{Ample, AmpleIntervals, AmpleStart, start-fits, fill-ends}
+use Rattle.promises.specs.Ample.{Ample, AmpleIntervals, AmpleStart}
+use Rattle.promises.proofs.Suffice.{start-fits, fill-ends}
 use Rattle.copy_order.proofs.Rearranged.{accepted-rearranged}
 use Rattle.nesting.specs.CopyOrder.{copyOrder}
 use Rattle.plan_promises.proofs.Rounds.{RoomRefusal, strips, entries, intervals, refused-by, stopped-is, Sound, keeps, ends, search-sound}
+use Rattle.plan_promises.specs.RefusalNumbers.{oneOf}
 
--- a plan, or the refusal for the kind of lent room that was overrun: 20, 21, 22 or 30
-pub data PlanOrRoom : Verdict → Type 0 where
-  plan : PlanOrRoom Accepted
-  room : {r : Refusal} → RoomRefusal r → PlanOrRoom (Refused r)
-  positions : PlanOrRoom (Refused Why.PositionRoom)
+-- ---- numbers
+
+-- a verdict's number is 0 or one of these
+abbrev pub Among : List ℕ → Verdict → Type 0
+Among ns v = oneOf (verdictNumber v) (0 ∷ ns) ≡ true
+
+-- of the first line that is met
+met-among : (ns : List ℕ) (ls : List Line) → All (λ (l : Line). Among ns (Refused (l .refusal))) ls → Among ns (firstMet ls)
+unfolding firstMet refuseIf verdictNumber oneOf
+met-among ns [] h = refl
+met-among ns (l ∷ ls) h = go (l .holds) (met-among ns ls (h .1))
+  where
+    go : (t : Bool) → Among ns (firstMet ls) → Among ns (refuseIf t (l .refusal) (firstMet ls))
+    go true e = h .0
+    go false e = e
+
+-- a job's own refusal has a number from 1 to 8
+pub input-number : (k : Input.Refusal) → oneOf (numberOf (Why.Job k)) (1 ∷ 2 ∷ 3 ∷ 4 ∷ 5 ∷ 6 ∷ 7 ∷ 8 ∷ []) ≡ true
+unfolding numberOf oneOf
+input-number Truncated = refl
+input-number TrailingData = refl
+input-number UnknownVersion = refl
+input-number NonFinite = refl
+input-number OutOfRange = refl
+input-number CountOutOfRange = refl
+input-number TooManyCopies = refl
+input-number TooManyColumns = refl
+
+room-fill : {r : Refusal} → RoomRefusal r → Among (10 ∷ 20 ∷ 21 ∷ 22 ∷ 30 ∷ []) (Refused r)
+unfolding verdictNumber numberOf oneOf
+room-fill strips = refl
+room-fill entries = refl
+room-fill intervals = refl
+
+room-plan : {r : Refusal} → RoomRefusal r → Among (20 ∷ 21 ∷ 22 ∷ 30 ∷ []) (Refused r)
+unfolding verdictNumber numberOf oneOf
+room-plan strips = refl
+room-plan entries = refl
+room-plan intervals = refl
+
+-- ---- a start and a filling
+
+module _ (j : Job) (order : List ℕ) (l : Lent) where
+  start-lines : All (λ (x : Line). Among (10 ∷ 20 ∷ 21 ∷ 30 ∷ []) (Refused (x .refusal))) (startLines j order l)
+  unfolding startLines positionLine prepareLines verdictNumber numberOf oneOf
+  start-lines = (refl, (refl, (refl, (refl, (refl, tt)))))
+
+  fill-lines : All (λ (x : Line). Among (10 ∷ 20 ∷ 21 ∷ 22 ∷ 30 ∷ []) (Refused (x .refusal))) (startLines j order l)
+  unfolding startLines positionLine prepareLines verdictNumber numberOf oneOf
+  fill-lines = (refl, (refl, (refl, (refl, (refl, tt)))))
+
+  start-among : Among (10 ∷ 20 ∷ 21 ∷ 30 ∷ []) (startVerdict j order l)
+  start-among =
+      subst (λ (v : Verdict). Among (10 ∷ 20 ∷ 21 ∷ 30 ∷ []) v) (sym (start-met j order l))
+      (met-among (10 ∷ 20 ∷ 21 ∷ 30 ∷ []) (startLines j order l) start-lines)
+
+  fill-among : Among (10 ∷ 20 ∷ 21 ∷ 22 ∷ 30 ∷ []) (startVerdict j order l)
+  fill-among =
+      subst (λ (v : Verdict). Among (10 ∷ 20 ∷ 21 ∷ 22 ∷ 30 ∷ []) v) (sym (start-met j order l))
+      (met-among (10 ∷ 20 ∷ 21 ∷ 22 ∷ 30 ∷ []) (startLines j order l) fill-lines)
+
+-- an accepted job's start: a state, or 10, 20, 21 or 30
+pub start-number : (bytes order : List ℕ) (l : Lent) (j : Job) → readJob bytes ≡ accepted j → Among (10 ∷ 20 ∷ 21 ∷ 30 ∷ []) (startOf bytes order l .verdict)
+unfolding startOf startGiven
+start-number bytes order l j e = rw e (subst (λ (v : Verdict). Among (10 ∷ 20 ∷ 21 ∷ 30 ∷ []) v) (sym (start-verdict j order l)) (start-among j order l))
+
+-- and a state where the rooms suffice
+pub start-suffices : (bytes order : List ℕ) (l : Lent) (j : Job) → readJob bytes ≡ accepted j
+    → rearranged j order ≡ true → AmpleStart j l → startOf bytes order l .verdict ≡ Accepted
+unfolding startOf startGiven
+start-suffices bytes order l j e r f = rw e (start-verdict j order l ∙ start-fits j order l r f)
+
+module _ (bytes order : List ℕ) (l : Lent) (j : Job) (e : readJob bytes ≡ accepted j) where
+  filling-among : startVerdict j order l ≡ Accepted → (f : Filling) → fillOrder j l order ≡ f → Among (10 ∷ 20 ∷ 21 ∷ 22 ∷ 30 ∷ []) (plannedBy j l f .verdict)
+  unfolding plannedBy plannedWith notPlanned startVerdict
+  filling-among v (filled s) d = unfold verdictNumber in (unfold oneOf in refl)
+  filling-among v (stopped r) d =
+      let a = later-accepted (ltb (positionCapacity (l .positions)) (j .copies)) Why.PositionRoom _ v in
+      let b = begun j order l v in
+      room-fill (stopped-is bytes j e l (a .0) (b .prepared) order (b .rearranges) r d)
+
+  job-among : (v : Verdict) → startVerdict j order l ≡ v → Among (10 ∷ 20 ∷ 21 ∷ 22 ∷ 30 ∷ []) (fillJob j order l .verdict)
+  unfolding notPlanned
+  job-among Accepted d = rw (fill-runs j order l d) (filling-among d (fillOrder j l order) refl)
+  job-among (Refused r) d = rw (fill-stopped j order l r d) (subst (λ (v : Verdict). Among (10 ∷ 20 ∷ 21 ∷ 22 ∷ 30 ∷ []) v) d (fill-among j order l))
+
+  -- an accepted job's filling: a plan, or 10, 20, 21, 22 or 30
+  pub fill-number : Among (10 ∷ 20 ∷ 21 ∷ 22 ∷ 30 ∷ []) (fillOf bytes order l .verdict)
+  unfolding fillOf fillGiven
+  fill-number = rw e (job-among (startVerdict j order l) refl)
+
+-- ---- the whole plan
 
 module _ (j : Job) (l : Lent) where
   prepare-refusal : (r : Refusal) → prepareVerdict (plannerOf j) (l .rooms) ≡ Refused r → RoomRefusal r
@@ -41,9 +135,13 @@ module _ (j : Job) (l : Lent) where
   prepare-refusal r e =
       refused-by RoomRefusal _ Why.StripRoom _ r strips (λ f. refused-by RoomRefusal _ Why.EntryRoom _ r entries (λ g. refused-by RoomRefusal _ Why.StripRoom Accepted r strips (λ h. absurd (accepted≢refused h)) g) f) e
 
-  nest-refusal : (r : Refusal) → nestVerdict j l ≡ Refused r → PlanOrRoom (Refused r)
+  nest-refusal : (r : Refusal) → nestVerdict j l ≡ Refused r → Among (20 ∷ 21 ∷ 22 ∷ 30 ∷ []) (Refused r)
   unfolding nestVerdict
-  nest-refusal r e = refused-by (λ (k : Refusal). PlanOrRoom (Refused k)) _ Why.PositionRoom _ r positions (λ f. room (prepare-refusal r f)) e
+  nest-refusal r e =
+      refused-by (λ (k : Refusal). Among (20 ∷ 21 ∷ 22 ∷ 30 ∷ []) (Refused k)) _ Why.PositionRoom _ r positions (λ f. room-plan (prepare-refusal r f)) e
+    where
+      positions : Among (20 ∷ 21 ∷ 22 ∷ 30 ∷ []) (Refused Why.PositionRoom)
+      positions = unfold verdictNumber in (unfold numberOf in (unfold oneOf in refl))
 
   pub nest-stops : (r : Refusal) → nestVerdict j l ≡ Refused r → nestJob j l ≡ notPlanned r l
   unfolding nestJob
@@ -60,12 +158,12 @@ module _ (j : Job) (l : Lent) where
 module _ (bytes : List ℕ) (j : Job) (e : readJob bytes ≡ accepted j) (l : Lent) where
   -- ---- every accepted job
 
-  found-plan : (pos : ltb (positionCapacity (l .positions)) (j .copies) ≡ false) (prep : prepareVerdict (plannerOf j) (l .rooms) ≡ Accepted) (q : Swaps) → Sound bytes j e l pos prep RoomRefusal q → PlanOrRoom (nested j l q .verdict)
+  found-plan : (pos : ltb (positionCapacity (l .positions)) (j .copies) ≡ false) (prep : prepareVerdict (plannerOf j) (l .rooms) ≡ Accepted) (q : Swaps) → Sound bytes j e l pos prep RoomRefusal q → Among (20 ∷ 21 ∷ 22 ∷ 30 ∷ []) (nested j l q .verdict)
   unfolding nested plannedWith notPlanned
-  found-plan pos prep (kept q) s = plan
-  found-plan pos prep (ended r) (ends h) = room h
+  found-plan pos prep (kept q) s = unfold verdictNumber in (unfold oneOf in refl)
+  found-plan pos prep (ended r) (ends h) = room-plan h
 
-  job-plan : (v : Verdict) → nestVerdict j l ≡ v → PlanOrRoom (nestJob j l .verdict)
+  job-plan : (v : Verdict) → nestVerdict j l ≡ v → Among (20 ∷ 21 ∷ 22 ∷ 30 ∷ []) (nestJob j l .verdict)
   unfolding notPlanned
   job-plan (Refused r) d = rw (nest-stops j l r d) (nest-refusal j l r d)
   job-plan Accepted d = let t = tested j l d in rw (nest-runs j l d) (found-plan (t .0) (t .1) (swapSearch j l) (search-sound bytes j e l (t .0) (t .1) RoomRefusal (stopped-is bytes j e l (t .0) (t .1))))
@@ -110,25 +208,22 @@ module _ (bytes : List ℕ) (j : Job) (e : readJob bytes ≡ accepted j) (l : Le
   job-numbers (Refused r) d = rw (nest-stops j l r d) (not-planned r l)
   job-numbers Accepted d = let t = tested j l d in rw (nest-runs j l d) (found-numbers (t .0) (t .1) (swapSearch j l) (search-sound bytes j e l (t .0) (t .1) RoomRefusal (stopped-is bytes j e l (t .0) (t .1))))
 
--- a job's own refusal has a number from 1 to 8
-input-number : (k : Input.Refusal) → (1 ≤ numberOf (Why.Job k)) × (numberOf (Why.Job k) ≤ 8)
-unfolding numberOf
-input-number Truncated = (lit≤ tt, lit≤ tt)
-input-number TrailingData = (lit≤ tt, lit≤ tt)
-input-number UnknownVersion = (lit≤ tt, lit≤ tt)
-input-number NonFinite = (lit≤ tt, lit≤ tt)
-input-number OutOfRange = (lit≤ tt, lit≤ tt)
-input-number CountOutOfRange = (lit≤ tt, lit≤ tt)
-input-number TooManyCopies = (lit≤ tt, lit≤ tt)
-input-number TooManyColumns = (lit≤ tt, lit≤ tt)
+-- an accepted job's whole plan: a plan, or 20, 21, 22 or 30
+pub nest-number : (bytes : List ℕ) (l : Lent) (j : Job) → readJob bytes ≡ accepted j → Among (20 ∷ 21 ∷ 22 ∷ 30 ∷ []) (nestOf bytes l .verdict)
+unfolding nestOf nestGiven
+nest-number bytes l j e = rw e (job-plan bytes j e l (nestVerdict j l) refl)
 
--- Demand 1: "A job within document 01's limits gets a plan, or the refusal for the kind of lent room it overran. Every other job .. is refused by its number"
-pub demand-1 : (bytes : List ℕ) (l : Lent)
-    → ((k : Input.Refusal) → readJob bytes ≡ refused k → (nestOf bytes l .verdict ≡ Refused (Why.Job k)) × (1 ≤ numberOf (Why.Job k)) × (numberOf (Why.Job k) ≤ 8))
-    × ((j : Job) → readJob bytes ≡ accepted j
-    → PlanOrRoom (nestOf bytes l .verdict) × ((m n : ℕ) → AmpleStart j l → Ample j m n (l .rooms) → AmpleIntervals j m n (l .intervals) → nestOf bytes l .verdict ≡ Accepted))
-unfolding nestOf nestGiven notPlanned
-demand-1 bytes l = (λ k d. (rw d, input-number k .0, input-number k .1), λ j d. (rw d (job-plan bytes j d l (nestVerdict j l) refl), λ m n f a i. rw d (ample-plan bytes j d l m n f a i)))
+-- and a plan where the rooms suffice
+pub nest-suffices : (bytes : List ℕ) (l : Lent) (j : Job) → readJob bytes ≡ accepted j
+    → (m n : ℕ) → AmpleStart j l → Ample j m n (l .rooms) → AmpleIntervals j m n (l .intervals) → nestOf bytes l .verdict ≡ Accepted
+unfolding nestOf nestGiven
+nest-suffices bytes l j e m n f a i = rw e (ample-plan bytes j e l m n f a i)
+
+-- a job that is refused: its own number, of a start, a filling and a whole plan
+pub refused-number : (bytes order : List ℕ) (l : Lent) (k : Input.Refusal) → readJob bytes ≡ refused k
+    → (startOf bytes order l .verdict ≡ Refused (Why.Job k)) × (fillOf bytes order l .verdict ≡ Refused (Why.Job k)) × (nestOf bytes l .verdict ≡ Refused (Why.Job k))
+unfolding startOf startGiven noStart fillOf fillGiven nestOf nestGiven notPlanned
+refused-number bytes order l k e = (rw e, rw e, rw e)
 
 -- whatever the bytes and the rooms
 pub nest-numbers : (bytes : List ℕ) (l : Lent) → PlanNumbers (nestOf bytes l .plan) × LentNumbers (nestOf bytes l .lent)

@@ -24,7 +24,7 @@ use Rattle.filling.specs.declared.Refusal.the-variants as Why
 use Rattle.filling.specs.declared.Verdict.{Verdict}
 use Rattle.filling.specs.declared.Verdict.the-variants.{Accepted, Refused}
 use Rattle.filling.specs.Shapes.{plannerOf, Standing, standingStrips}
-use Rattle.filling.specs.Rooms.{Rooms, Lent, zeros}
+use Rattle.filling.specs.Rooms.{Rooms, Lent}
 use Rattle.filling.specs.State.{plannerAt, standsAt, standingTo, standingOf}
 use Rattle.filling.specs.Start.{firstState, firstRooms, startVerdict, noStart, goodStart, startJob, startGiven, startOf}
 use Rattle.filling.specs.NextCopy.{nextCopyOf}
@@ -35,7 +35,7 @@ use Rattle.filling.specs.Plain.{Plain, plainStart, plainCalls}
 use Rattle.filling.proofs.Sizes.{sized}
 use Rattle.filling.proofs.Begin.{start-good, start-refused, start-accepted}
 use Rattle.filling.proofs.Runs.{calls-keep, fill-keeps}
-use Rattle.filling.proofs.Refused.{Leaves, unchanged, taken, next-copy-leaves}
+use Rattle.filling.proofs.Refused.{next-copy-leaves}
 use Rattle.filling.proofs.WithinBounds.{framed}
 use Rattle.promises.proofs.Few.{stands-few}
 use Rattle.promises.proofs.Numbers.{Numbers, StateNumbers, RoomNumbers, LentNumbers, zero-is, all-zeros, zero-state, only-positions}
@@ -72,11 +72,7 @@ calls-numbers bytes order l j e v calls =
 
 -- a single step's interval room, whatever the step
 pub step-intervals : (bytes : List ℕ) (s : State) (w : Rooms) (iv : List Float) → Numbers (nextCopyOf bytes s w iv .intervals)
-step-intervals bytes s w iv = go (next-copy-leaves bytes s w iv)
-  where
-    go : Leaves s w iv (nextCopyOf bytes s w iv) → Numbers (nextCopyOf bytes s w iv .intervals)
-    go (unchanged a b c) = subst Numbers (sym c) (all-zeros iv)
-    go (taken a c) = subst Numbers (sym c) (all-zeros iv)
+step-intervals bytes s w iv = subst Numbers (sym (next-copy-leaves bytes s w iv .0)) (all-zeros iv)
 
 -- ---- positions
 

@@ -4,3 +4,4 @@ pub mod Numbers
 pub mod Stays
 pub mod Offcut
 pub mod Left
+pub mod Doubles

@@ -37,20 +37,10 @@ use Rattle.filling.proofs.Runs.{step-consistent}
 use Rattle.filling.proofs.Numbers31.{WithinBounds}
 use Rattle.filling.proofs.WithinBounds.{jobs-within}
 use Rattle.filling.proofs.Never31.{Own, own-consistent, own-start, own-took}
+use Rattle.promises.specs.Ample.{Ample, AmpleIntervals, AmpleStart, AmpleCalls, no-call, and-call}
 use Rattle.promises.proofs.Few.{entries-few, new-few, standing-few, stands-few, counts-below, look-few}
 
 -- ---- rooms that suffice
-
--- rooms that hold whatever the copies of a job need, where an orientation has at most m apart strips and n inset strips
-pub record Ample (j : Job) (m n : ℕ) (w : Rooms) : Type 0 where
-  pub apart : (k o : ℕ) → capacity (shapeOf (plannerOf j) k o .apart) ≤ m
-  pub inset : (k o : ℕ) → capacity (shapeOf (plannerOf j) k o .inset) ≤ n
-  pub placed : j .copies * m ≤ standingCapacity (w .placed)
-  pub placed-entries : 512 * (j .copies * m) ≤ length (w .placed-entries)
-
--- an interval room that holds whatever a look at a copy of the job can count
-abbrev pub AmpleIntervals : Job → ℕ → ℕ → List Float → Type 0
-AmpleIntervals j m n intervals = n * capacity (plannerOf j .sheet) + m * (j .copies * m) ≤ intervalCapacity intervals
 
 laid-capacity : (l room : List Float) → Sixfold l → capacity l ≤ standingCapacity room → standingCapacity (laid l room) ≡ standingCapacity room
 unfolding standingCapacity capacity
@@ -189,12 +179,7 @@ module _ (bytes : List ℕ) (j : Job) (e : readJob bytes ≡ accepted j) (order 
     unfolding callStep nextCopyOf stepGiven
     call-is = rw e (step-consistent j s w iv (own-consistent j order s w q z b r (h .own)))
 
-  -- every call's interval room suffices
-  pub data AmpleCalls : List Call → Type 0 where
-    no-call : AmpleCalls []
-    and-call : {iv : List Float} {cs : List Call} → AmpleIntervals j m n iv → AmpleCalls cs → AmpleCalls (nextCopy iv ∷ cs)
-
-  calls-take : {cs : List Call} → AmpleCalls cs → (s : State) (w : Rooms) (q : Plain) → Ready s w q → s .taken + length cs ≤ j .copies → afterCalls bytes cs s w .verdicts ≡ replicate (length cs) Accepted
+  calls-take : {cs : List Call} → AmpleCalls j m n cs → (s : State) (w : Rooms) (q : Plain) → Ready s w q → s .taken + length cs ≤ j .copies → afterCalls bytes cs s w .verdicts ≡ replicate (length cs) Accepted
   unfolding afterCalls
   calls-take no-call s w q h l = refl
   calls-take (and-call {iv = iv} {cs = cs} a as′) s w q h l =
@@ -209,13 +194,6 @@ module _ (bytes : List ℕ) (j : Job) (e : readJob bytes ≡ accepted j) (order 
       let t = core-counts s w q h (omega arith) iv a in
       let f = fill-takes iv a n′ (coreStep j s w iv .state) (coreStep j s w iv .rooms) (plainTake (plannerOf j) q (q .to-come)) (core-ready s w q h (omega arith) iv a) (rw t (omega arith)) in
       (f .0, fill-on j iv n′ s w (core-takes s w q h (omega arith) iv a) ∙ f .1)
-
--- rooms that hold what a start stores
-pub record AmpleStart (j : Job) (l : Lent) : Type 0 where
-  pub positions : j .copies ≤ positionCapacity (l .positions)
-  pub sheet : capacity (plannerOf j .sheet) ≤ standingCapacity (l .rooms .sheet)
-  pub sheet-entries : length (entriesFor (plannerOf j .bounds) (plannerOf j .sheet)) ≤ length (l .rooms .sheet-entries)
-  pub shapes : capacity (apartStrips (plannerOf j) ++ insetStrips (plannerOf j)) ≤ capacity (l .rooms .shapes)
 
 pub start-fits : (j : Job) (order : List ℕ) (l : Lent) → rearranged j order ≡ true → AmpleStart j l → startVerdict j order l ≡ Accepted
 unfolding startVerdict prepareVerdict refuseIf
@@ -249,7 +227,7 @@ module _ (bytes : List ℕ) (j : Job) (e : readJob bytes ≡ accepted j) (order 
   unfolding goodStart
   start-is = ap (λ s. s .verdict) start-takes
 
-  calls-are : {cs : List Call} → AmpleCalls bytes j e order r m n cs → length cs ≤ j .copies → afterCalls bytes cs (startOf bytes order l .state) (startOf bytes order l .lent .rooms) .verdicts ≡ replicate (length cs) Accepted
+  calls-are : {cs : List Call} → AmpleCalls j m n cs → length cs ≤ j .copies → afterCalls bytes cs (startOf bytes order l .state) (startOf bytes order l .lent .rooms) .verdicts ≡ replicate (length cs) Accepted
   unfolding goodStart
   calls-are cs h = rw start-takes (calls-take bytes j e order r m n cs (firstState (plannerOf j) order) (firstRooms (plannerOf j) (l .rooms)) (plainStart (plannerOf j) order) start-ready (unfold firstState in (let q = h in omega arith)))
 
@@ -264,6 +242,6 @@ module _ (bytes : List ℕ) (j : Job) (e : readJob bytes ≡ accepted j) (order 
 
   -- an accepted job in a given order, with rooms that suffice: the start is accepted, so is every call up to the last copy, so is the filling
   pub rooms-suffice : (startOf bytes order l .verdict ≡ Accepted)
-      × ((cs : List Call) → AmpleCalls bytes j e order r m n cs → length cs ≤ j .copies → afterCalls bytes cs (startOf bytes order l .state) (startOf bytes order l .lent .rooms) .verdicts ≡ replicate (length cs) Accepted)
+      × ((cs : List Call) → AmpleCalls j m n cs → length cs ≤ j .copies → afterCalls bytes cs (startOf bytes order l .state) (startOf bytes order l .lent .rooms) .verdicts ≡ replicate (length cs) Accepted)
       × (AmpleIntervals j m n (l .intervals) → fillOf bytes order l .verdict ≡ Accepted)
   rooms-suffice = (start-is, λ cs a h. calls-are a h, fill-is)

@@ -1,0 +1,1 @@
+// What the planner promises, each with its whole statement: proofs/Claims.antt. Laws alone.
