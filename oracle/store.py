@@ -1,7 +1,7 @@
 #!/usr/bin/env python3
 """Makes what is stored of the oracle's answers, always the same: the files stdin and stdout of the
-crates filling_test, job_test, look_test, plan_test, strips_test, swaps_test and wide_test, by the
-modules of samples/, and the jobs and plans of examples/.
+crates filling_test, job_test, long_job_test, look_test, plan_test, strips_test, swaps_test and
+wide_test, by the modules of samples/, and the jobs and plans of examples/.
 
 store.py [NAME..]            writes the files of each NAME (job for job_test, ..; examples), or all
 store.py --check [NAME..]    writes nothing; the last line is 'N files, D differ'
@@ -13,7 +13,7 @@ import sys
 from jobs.oracle import ROOT
 
 # The swaps are made of stored plans and an example.
-NAMES = ["strips", "look", "job", "filling", "plan", "examples", "swaps", "wide"]
+NAMES = ["strips", "look", "job", "filling", "plan", "examples", "swaps", "wide", "long_job"]
 
 
 def folder(name):

@@ -85,12 +85,17 @@ def wrapped(text):
 def lost_edits():
     """The must-fail edits whose old text is not in its file exactly once."""
     for path in sorted((ROOT / "crates").glob("*/must-fail/*.edit")):
-        file = None
+        file, old, texts = None, "", {}  # a replacement is made in what the one before left
         for line in path.read_text().split("\n"):
             if line.startswith("file: "):
                 file = path.parent.parent / line[6:].strip()
-            elif line.startswith("old: ") and (found := file.read_text().count(line[5:])) != 1:
-                yield f"{path.relative_to(ROOT)}: {found} times in {file.relative_to(ROOT)}: {line[5:]}"
+                texts.setdefault(file, file.read_text())
+            elif line.startswith("old: "):
+                old = line[5:]
+                if (found := texts[file].count(old)) != 1:
+                    yield f"{path.relative_to(ROOT)}: {found} times in {file.relative_to(ROOT)}: {old}"
+            elif line.startswith("new:"):
+                texts[file] = texts[file].replace(old, line[4:].removeprefix(" "))
 
 
 def main():

@@ -1,15 +1,18 @@
 """Jobs with more strips than entries of 16 bits can number, and the rooms that the program wide_test
-lends for them. All fixed."""
+lends for them; fillings that it asks for. All fixed."""
 import subprocess
 
 from jobs.bits import pack, pack_fields, set_fields
-from jobs.cases import grid, job, part, rect
+from jobs.cases import case4, grid, job, part, rect
+from jobs.examples import nan_corner
 from jobs.oracle import ORACLE
+from jobs.script import POSITIONS, Script, answers
 
 STRIPS = 65_536   # that entries can number
 WIDE = 400_000    # slots: 66,666 strips
 NARROW = 8190
 ENTRIES = 132_000
+POSITION_SLOTS = 40   # of a filling: eight positions
 ROOMS = ["shapes", "sheet", "placed"]
 
 
@@ -92,3 +95,31 @@ def answer(room, slots, entries, j, program=ORACLE, options=()):
     if done.returncode:
         raise SystemExit(done.stderr.decode())
     return done.stdout
+
+
+def fillings():
+    """Label, how many copies of kind 0 the order has, the slots of each entry room, the job."""
+    return [
+        ("filling of five plates", 5, 1000, case4()),
+        ("filling of six plates where there are five", 6, 1000, case4()),
+        ("filling of nine plates in room for eight", 8, 1000, job([part([rect(4, 3)], 9, 12)])),
+        ("filling of five plates without entries", 5, 0, case4()),
+        ("filling of a hatch with a corner not a number", 1, 1000, nan_corner()),
+    ]
+
+
+def fill_record(copies, entries, j):
+    """A filling as wide_test reads it: 3, the copies, the entries, the job's bytes."""
+    return bytes([len(ROOMS)]) + copies.to_bytes(4, "big") + entries.to_bytes(4, "big") + pack(j)
+
+
+def fill_answer(copies, entries, j):
+    """The oracle's number of the filling, and the positions that it leaves."""
+    s = Script()
+    s.job(j)
+    s.order([0] * copies)
+    s.rooms([NARROW, NARROW, NARROW, entries, entries, 8192, POSITION_SLOTS])
+    s.fill()
+    s.show(POSITIONS)
+    text, (call,) = answers(s)
+    return " ".join(call.split(" ")[:2]) + "\n" + text.splitlines()[-1] + "\n"

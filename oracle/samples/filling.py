@@ -4,6 +4,7 @@ import collections
 from jobs.bits import answer, pack
 from jobs.cases import CLOCKWISE, TRIANGLE, case4, job, part, rect
 from jobs.draws import Draws
+from jobs.examples import nan_corner
 from jobs.faults import clauses, double_faults
 from jobs.random_jobs import random_job
 from jobs.script import (INTERVALS, PLACED, PLACED_ENTRIES, POSITIONS, RECORD, SHAPES, SHEET,
@@ -188,6 +189,21 @@ def fillings(s):
         s.fill()
 
 
+def refused_leaves(s):
+    """After a start the job is exchanged for refused ones: the leaf answers their numbers."""
+    s.title("the leaf of refused jobs")
+    j, data = case4(), pack(case4())
+    s.job(j)
+    s.order([0] * 5)
+    s.rooms([n + record for n, record in zip(needs(trace(j, [0] * 5), 5), RECORD)])
+    s.start(0)
+    s.leaf(0, 0, False, 0)
+    for other, number in ((b"", 1), (data[:-1], 1), (data + b"\0", 2), (bytes([data[0] + 16]) + data[1:], 3), (nan_corner(), 4)):
+        s.job(other)
+        s.leaf(0, 0, False, number)
+        s.leaf(0, 1, True, number)
+
+
 def script():
     s = Script(SEED)
     for one in step_jobs():
@@ -198,6 +214,7 @@ def script():
     clauses(s, holed(), [1, 1, 0, 1, 0, 1, 1, 0, 1, 1])
     double_faults(s)
     fillings(s)
+    refused_leaves(s)
     return s
 
 

@@ -3,7 +3,7 @@
 use Prim.Native.Nat.{ℕ, _+_, _*_, _≤_, _<_}
 use mathlib.Core.Path.{_≡_}
 use mathlib.Core.Logic.{_⊎_}
-use mathlib.Core.Bool.{true, false, _&&_}
+use mathlib.Core.Bool.{true, false, not, _&&_}
 use mathlib.Core.List.{List, [], _∷_, map, List·Memᴰ}
 use lib.ListN.{length, replicate}
 use lib.Ieee.{Float, binary64, le, lt, ofBits}
@@ -21,7 +21,7 @@ use Rattle.filling.specs.declared.Refusal.{Refusal}
 use Rattle.filling.specs.declared.Refusal.the-variants as Why
 use Rattle.filling.specs.declared.Verdict.the-variants.{Accepted, Refused}
 use Rattle.filling.specs.Refusals.{numberOf, verdictNumber}
-use Rattle.filling.specs.RefusalLines.{firstMet, givenLines, startLines, stepLines, fillLines}
+use Rattle.filling.specs.RefusalLines.{Line, firstMet, givenLines, startLines, stepLines, fillLines}
 use Rattle.filling.specs.Shapes.{plannerOf, standingStrips}
 use Rattle.filling.specs.Rooms.{Rooms, Lent, zeros}
 use Rattle.filling.specs.Order.{rearranged}
@@ -55,6 +55,7 @@ use Rattle.plan_promises.proofs.Refused as ProvedPlan
 use Rattle.plan_promises.proofs.Replies as ProvedReplies
 use Rattle.claims.specs.JobNumbers.{jobWithin}
 use Rattle.claims.proofs.Within.{job-within}
+use Rattle.claims.proofs.ExactLines as ProvedLines
 use Rattle.claims.proofs.Reader as ProvedReader
 
 -- ---- Demand 1. "A job within document 01's limits gets a plan, or the refusal for the kind of lent room it overran. Every other job, and every call
@@ -95,6 +96,10 @@ pub rooms-suffice : (bytes order : List ℕ) (l : Lent) (j : Job) → readJob by
 rooms-suffice bytes order l j e r m n f a = ProvedSuffice.rooms-suffice bytes j e order r m n l f a .1
 
 -- ---- "A call is refused exactly where a line of the tables holds for it, with the number first met"
+
+pub met-exactly : (ls : List Line)
+    → (firstMet ls ≡ Accepted → every (λ (x : Line). not (x .holds)) ls ≡ true) × (every (λ (x : Line). not (x .holds)) ls ≡ true → firstMet ls ≡ Accepted)
+met-exactly = ProvedLines.met-exactly
 
 pub start-refused : (bytes order : List ℕ) (l : Lent) → startOf bytes order l .verdict ≡ firstMet (givenLines (readJob bytes) (λ j. startLines j order l))
 start-refused = ProvedRefused.start-refused-where

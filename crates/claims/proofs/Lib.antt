@@ -1,3 +1,4 @@
 pub mod Within
 pub mod Reader
+pub mod ExactLines
 pub mod Claims

@@ -1,1 +1,1 @@
-// What the planner promises, each with its whole statement: proofs/Claims.antt. Laws alone.
+// What the planner promises, each with its whole statement: proofs/Claims.antt. Words in specs/, laws in proofs/.

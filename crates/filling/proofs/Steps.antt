@@ -103,6 +103,9 @@ refused≢accepted e = let z : _≡_ {A = ℕ} 0 1 = cc in omega arith
 pub accepted≢refused : {k : Refusal} → Accepted ≡ Refused k → ⊥
 accepted≢refused e = refused≢accepted (sym e)
 
+pub same-refusal : {k r : Refusal} → Refused k ≡ Refused r → k ≡ r
+same-refusal e = cc
+
 pub no-step-refused : (k : Refusal) (s : State) (w : Rooms) (iv : List Float) → noStep k s w iv .verdict ≡ Refused k
 unfolding noStep
 no-step-refused k s w iv = refl

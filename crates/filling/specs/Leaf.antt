@@ -35,8 +35,3 @@ partIn is-inset q apart inset =
 unfoldable pub stripsByKind : List ℕ → List ℕ → List Float → List Float → ℕ → ℕ → Bool → List Float
 stripsByKind bytes parts apart inset k o is-inset =
     cond (isRefused (shapeVerdict bytes k o)) [] (partIn is-inset (partAt parts (16 * k + o)) apart inset)
-
--- what a computed claim opens
-unfoldable pub leaf-computes : Unit {0}
-unfolding lacks shapeGiven shapeVerdict partIn stripsByKind
-leaf-computes = tt

@@ -18,6 +18,7 @@ use Rattle.filling.specs.State.{orientationCounts, slotRows, partAt, apartRoom,
 use Rattle.filling.specs.Start.{firstState, startOf}
 use Rattle.filling.specs.Leaf.{lacks, partIn, stripsByKind}
 use Rattle.filling.proofs.Sizes.{sized}
+use Rattle.numbers.proofs.Truth.{both-second}
 use Rattle.index.proofs.Flat.{getD-upFrom}
 use Rattle.filling.proofs.Begin.{first-linked, start-accepted}
 use Rattle.leaf.proofs.ByKind.{verdict-had}
@@ -34,18 +35,13 @@ slot-read f d k (n ∷ ns) (suc i) o h =
     let e : 16 * (suc k + i) + o ≡ 16 * (k + suc i) + o = omega arith in
     slot-read f d (suc k) ns i o h ∙ ap f e
 
-second : (a b : Bool) → a && b ≡ true → b ≡ true
-second true b e = e
-second false true e = refl
-second false false e = e
-
 module _ (j : Job) (k o : ℕ) (h : lacks j k o ≡ false) where
   turns : o < getD (orientationCounts j) k 0
   unfolding lacks
   turns =
       let a = ltb k (length (j .kinds)) in
       let b = ltb o (getD (orientationCounts j) k 0) in
-      ltb-true o (getD (orientationCounts j) k 0) (second a b (not-false (a && b) h))
+      ltb-true o (getD (orientationCounts j) k 0) (both-second a b (not-false (a && b) h))
 
   module _ (t : Tables) (w : Rooms) (p : plannerAt j t w ≡ plannerOf j) where
     shape-is : shapeAt t (w .shapes) (16 * k + o) ≡ shapeOf (plannerOf j) k o

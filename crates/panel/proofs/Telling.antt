@@ -48,7 +48,7 @@ cleared-end before s n i e h g f =
 drop-replicate : (n m v : ℕ) → drop n (replicate (n + m) v) ≡ replicate m v
 drop-replicate n m v = ap (λ (xs : List ℕ). drop n xs) (sym (replicate-append-replicate n m v)) ∙ drop-at (replicate n v) (replicate m v) n (length-replicate n v)
 
-zeros-behind : (n : ℕ) (a b : List ℕ) → length a ≡ length b → n ≤ length a → zeros 0 (drop n a) ≡ drop n (zeros 0 b)
+pub zeros-behind : (n : ℕ) (a b : List ℕ) → length a ≡ length b → n ≤ length a → zeros 0 (drop n a) ≡ drop n (zeros 0 b)
 unfolding zeros
 zeros-behind n a b e h =
     let s : length b ≡ n + length (drop n a) = let d = length-drop n a in omega arith in

@@ -8,8 +8,8 @@ ghost use Rattle.filling.specs.Rooms.{zeros, lentOf};
 ghost use Rattle.panel.specs.Told.{toldOf};
 use index::Entry;
 
-// Zeros from byte n on.
-fn zero_from(out: &mut [u8], n: usize)
+// Zeros from byte n on. Only crates of ours call it.
+pub fn zero_from(out: &mut [u8], n: usize)
     requires { ⌜ n ≤ length (now out) ⌝ }
     ensures { λ _. ⌜ now (out .exit) ≡ take n (now (out .entry)) ++ zeros 0 (drop n (now (out .entry))) ⌝ }
 {

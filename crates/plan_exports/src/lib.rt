@@ -1,6 +1,11 @@
-// What C and Rust may link (`rt staticlib plan_exports`, include/panel.h): the text of a whole plan, and a
-// filling for speed tables, under plain names.
+// What C and Rust may link (`rt staticlib plan_exports`, include/panel.h), under plain names: the text of a
+// whole plan; a filling in a given order.
+ghost use mathlib.Core.Path.{_≡_};
+ghost use Rattle.filling.specs.Rooms.{lentOf};
+ghost use Rattle.panel.specs.Told.{toldOf};
 use index::Entry;
+
+pub mod given;
 
 // Where the text ends, or 0 for a buffer of less than 524,288 bytes.
 #[no_mangle]
@@ -14,7 +19,17 @@ pub extern "C" fn panel_nest(
     intervals: &mut [f64],
     positions: &mut [f64],
     out: &mut [u8],
-) -> usize {
+) -> usize
+    ensures { λ r. ⌜ record {
+      end = r;
+      out = now (out .exit);
+      lent = lentOf (now (shapes .exit)) (now (sheet .exit)) (now (placed .exit))
+          (now («sheet_entries» .exit)) (now («placed_entries» .exit)) (now (intervals .exit)) (now (positions .exit));
+    }
+        ≡ toldOf (now (bytes .entry)) (now (out .entry))
+        (lentOf (now (shapes .entry)) (now (sheet .entry)) (now (placed .entry))
+        (now («sheet_entries» .entry)) (now («placed_entries» .entry)) (now (intervals .entry)) (now (positions .entry))) ⌝ }
+{
     panel::plan_text(
         bytes,
         shapes,
@@ -26,32 +41,4 @@ pub extern "C" fn panel_nest(
         positions,
         out,
     )
-}
-
-// The number of a refused filling, or 0; the positions lie in their room.
-#[no_mangle]
-pub extern "C" fn panel_fill(
-    bytes: &[u8],
-    order: &[usize],
-    shapes: &mut [f64],
-    sheet: &mut [f64],
-    placed: &mut [f64],
-    sheet_entries: &mut [Entry],
-    placed_entries: &mut [Entry],
-    intervals: &mut [f64],
-    positions: &mut [f64],
-) -> u64 {
-    let r = fill::fill(
-        bytes,
-        order,
-        shapes,
-        sheet,
-        placed,
-        sheet_entries,
-        placed_entries,
-        intervals,
-        positions,
-    );
-    let v = r.verdict;
-    verdicts::verdict_number(v)
 }

@@ -12,15 +12,12 @@ use Rattle.filling.specs.Shapes.{plannerOf}
 use Rattle.filling.specs.Rooms.{Lent}
 use Rattle.filling.specs.Start.{Start, startVerdict, noStart, goodStart, startJob, startGiven, startOf}
 use Rattle.filling.specs.Fill.{Filling, filled, stopped, fillOrder, Planned, notPlanned, plannedWith, plannedBy, fillJob, fillGiven, fillOf}
-use Rattle.filling.proofs.Steps.{refused≢accepted, accepted≢refused}
+use Rattle.filling.proofs.Steps.{refused≢accepted, accepted≢refused, same-refusal}
 use Rattle.filling.proofs.Begin.{start-refused, start-good}
 use Rattle.filling.proofs.Runs.{fill-stopped, fill-runs}
 use Rattle.nesting.specs.Rounds.{Kept, Swaps, kept, ended, swapSearch}
 use Rattle.nesting.specs.Nest.{nestVerdict, nested, nestJob, nestGiven, nestOf}
 use Rattle.plan_promises.proofs.Demand1.{nest-stops, nest-runs}
-
-refusal-is : {r k : Refusal} → Refused r ≡ Refused k → r ≡ k
-refusal-is e = cc
 
 -- ---- a start
 
@@ -53,7 +50,7 @@ start-replies bytes order l = go (startOf bytes order l) (start-is bytes order l
         × (r .verdict ≡ Accepted → (j : Job) × (readJob bytes ≡ accepted j) × (r ≡ goodStart (plannerOf j) order l))
     go r (start-no i e) =
         let d : r .verdict ≡ Refused i = ap (λ x. x .verdict) e in
-        (λ k f. e ∙ ap (λ x. noStart x l) (refusal-is (sym d ∙ f)), λ f. absurd (refused≢accepted (sym d ∙ f)))
+        (λ k f. e ∙ ap (λ x. noStart x l) (same-refusal (sym d ∙ f)), λ f. absurd (refused≢accepted (sym d ∙ f)))
     go r (start-yes j g e) =
         let d : r .verdict ≡ Accepted = ap (λ x. x .verdict) e in
         (λ k f. absurd (accepted≢refused (sym d ∙ f)), λ f. (j, g, e))
@@ -70,7 +67,7 @@ replies : (l : Lent) (P : Planned → Type 0) (r : Planned) → PlanIs l P r
 unfolding notPlanned
 replies l P r (plan-no i e) =
     let d : r .verdict ≡ Refused i = ap (λ x. x .verdict) e in
-    (λ k f. e ∙ ap (λ x. notPlanned x l) (refusal-is (sym d ∙ f)), λ f. absurd (refused≢accepted (sym d ∙ f)))
+    (λ k f. e ∙ ap (λ x. notPlanned x l) (same-refusal (sym d ∙ f)), λ f. absurd (refused≢accepted (sym d ∙ f)))
 replies l P r (plan-yes d h) = (λ k f. absurd (accepted≢refused (sym d ∙ f)), λ f. h)
 
 -- the plan of an accepted job's filling in the given order

@@ -1,1 +1,1 @@
-// What follows from the definition of the whole plan for every job: laws in proofs/ alone.
+// What follows from the definition of the whole plan for every job: words in specs/, laws in proofs/.

@@ -1,57 +1,47 @@
-// Lends the rooms of document 01 ("The printed plan") and writes a job's plan to standard output, or
-// `no` and the number of its refusal. 11 is tested first.
-use index::Entry;
+// What the program `plan` does: reads a job from standard input and writes its plan to standard output, or
+// `no` and the number of its refusal (document 01, "The printed plan").
+ghost use Prim.Native.Nat.{suc};
+ghost use mathlib.Core.Path.{_≡_};
+ghost use lib.ListN.{length};
+ghost use Rattle.panel.specs.Told.{bufferLength};
+ghost use Rattle.panel.specs.Program.{longestJob};
+
+// Every plan's text fits the buffer.
+const TEXT_BYTES: usize = 524288;
+
+// One byte more than a job may have, for 11.
+const INPUT_BYTES: usize = 65537;
+
+// The `ensures` gives the length, which lending it needs.
+pub fn buffer() -> [u8; TEXT_BYTES]
+    ensures { λ r. ⌜ bufferLength ≡ length r ⌝ }
+{
+    [0; TEXT_BYTES]
+}
+
+fn input_room() -> [u8; INPUT_BYTES]
+    ensures { λ r. ⌜ suc longestJob ≡ length r ⌝ }
+{
+    [0; INPUT_BYTES]
+}
 
 // Writes the first n bytes, if there are so many.
-fn write_from(text: &[u8], n: usize) {
+pub fn write_from(text: &[u8], n: usize) {
     if n <= text.len() {
         io::write_all(1, &text[..n]);
     }
 }
 
-// A job's plan in these rooms, with 4,096 intervals (two numbers) and 4,096 positions (five numbers).
-pub fn print_in(
-    bytes: &[u8],
-    shapes: &mut [f64],
-    sheet: &mut [f64],
-    placed: &mut [f64],
-    sheet_entries: &mut [Entry],
-    placed_entries: &mut [Entry],
-) {
-    let mut intervals = [0.0; 8192];
-    let mut positions = [0.0; 20480];
-    let mut out = [0u8; 524288];
-    let n = panel::plan_text(
-        bytes,
-        shapes,
-        sheet,
-        placed,
-        sheet_entries,
-        placed_entries,
-        &mut intervals,
-        &mut positions,
-        &mut out,
-    );
+// The program's answer to these bytes.
+pub fn print_plan(bytes: &[u8]) {
+    let mut out = buffer();
+    let n = program::program_text(bytes, &mut out);
     write_from(&out, n);
 }
 
-// 1,365 strips each for shapes, sheet and placed copies (six numbers to a strip), 16,384 entries each.
-pub fn print_plan(bytes: &[u8]) {
-    if 65536 < bytes.len() {
-        io::write_all(1, b"no 11\n");
-        return;
-    }
-    let mut shapes = [0.0; 8190];
-    let mut sheet = [0.0; 8190];
-    let mut placed = [0.0; 8190];
-    let mut sheet_entries = [0u16; 16384];
-    let mut placed_entries = [0u16; 16384];
-    print_in(
-        bytes,
-        &mut shapes,
-        &mut sheet,
-        &mut placed,
-        &mut sheet_entries,
-        &mut placed_entries,
-    );
+// The program's answer to its standard input.
+pub fn read_and_print() {
+    let mut room = input_room();
+    let n = io::read_full(0, &mut room);
+    print_plan(&room[..n]);
 }

@@ -1,1 +1,1 @@
-// What follows from the definitions of filling for every job: laws in proofs/ alone.
+// What follows from the definitions of filling for every job: words in specs/, laws in proofs/.

@@ -16,7 +16,7 @@ use Rattle.filling.specs.State.{apartRoom, insetRoom, plannerAt, orientationCou
 use Rattle.filling.specs.Consistent.{sheetIndex}
 use Rattle.filling.specs.NextCopy as Next
 use Rattle.filling.specs.NextCopy.{entered, noStep, coreStep}
-use Rattle.filling.proofs.Steps.{accepted≢refused, refused≢accepted}
+use Rattle.filling.proofs.Steps.{accepted≢refused, refused≢accepted, same-refusal}
 use Rattle.tracks.specs.Tracks.{nextColumns, lookCounts}
 use Rattle.choose.specs.declared.Grid.{Grid}
 use Rattle.choose.specs.Choosing.{gridOf, worldIn}
@@ -34,9 +34,6 @@ use Rattle.step.specs.declared.Stepped.{Stepped}
 use Rattle.step.specs.Going.{rooms, Going, takenOf, answerOf, stepOf}
 use Rattle.step.proofs.Allowed.{kind, turns, listed, known, turns-are}
 use Rattle.step.proofs.Kept.{place-kept}
-
-same-refusal : {k r : Refusal} → Verdicts.Refused k ≡ Verdicts.Refused r → k ≡ r
-same-refusal e = cc
 
 refused-by : (o : Outcome) (k : Refusal) → verdictOf o ≡ Verdicts.Refused k → o ≡ Refused k
 refused-by (At c) k e = absurd (accepted≢refused e)

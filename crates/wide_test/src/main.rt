@@ -1,19 +1,39 @@
-// Replays stored jobs in rooms for more strips than entries can number. stdin has a container of
-// records (oracle/README.md): a label, then one byte for the room that is long (0 shapes, 1 sheet,
-// 2 placed), its slots and those of each entry room in four bytes each, and the job. For each a line
-// `job` with its label and then its plan is printed. The file stdout holds the oracle's answers
-// (oracle/samples/wide.py), never those of this code.
+// Replays stored jobs by the functions that C may call, in rooms for more strips than entries can number.
+// stdin has a container of records (oracle/README.md): a label, then one byte for the room that is long
+// (0 shapes, 1 sheet, 2 placed), its slots and those of each entry room in four bytes each, and the
+// job; a byte 3 asks for a filling, and then the number of its copies, all of kind 0, stands for the
+// slots. For each a line `job` with its label is printed, then its plan, or the filling's number and
+// positions. The file stdout holds the oracle's answers (oracle/samples/wide.py), never those of this code.
 ghost use mathlib.Core.Path.{_≡_};
 ghost use Prim.Native.Nat.{_≤_};
 ghost use lib.ListN.{length};
+use filling_script::show;
 use index::Entry;
 use records::Part;
 
-// A room of entries. The `ensures` gives the length, which lending a part of it needs.
+// Rooms. The `ensures` gives the length, which lending them needs.
 fn entry_room() -> [Entry; 132000]
     ensures { λ r. ⌜ 132000 ≡ length r ⌝ }
 {
     [1; 132000]
+}
+
+fn strip_room() -> [f64; 8190]
+    ensures { λ r. ⌜ 8190 ≡ length r ⌝ }
+{
+    [1.0; 8190]
+}
+
+fn interval_room() -> [f64; 8192]
+    ensures { λ r. ⌜ 8192 ≡ length r ⌝ }
+{
+    [1.0; 8192]
+}
+
+fn position_room() -> [f64; 20480]
+    ensures { λ r. ⌜ 20480 ≡ length r ⌝ }
+{
+    [1.0; 20480]
 }
 
 // The smaller of two.
@@ -36,21 +56,62 @@ fn print_with(
 ) {
     let mut sheet_entries = entry_room();
     let mut placed_entries = entry_room();
+    let mut intervals = interval_room();
+    let mut positions = position_room();
+    let mut out = print_plan::buffer();
     let m = at_most(entries, 132000);
-    print_plan::print_in(
+    let n = plan_exports::panel_nest(
         bytes,
         shapes,
         sheet,
         placed,
         &mut sheet_entries[..m],
         &mut placed_entries[..m],
+        &mut intervals,
+        &mut positions,
+        &mut out,
     );
+    print_plan::write_from(&out, n);
 }
 
-// The same with the long room as the room `which`, lent with so many slots.
+// Prints the number of a filling of so many copies of kind 0, at most eight, and what it leaves in room for
+// eight positions, with so many entries each.
+fn print_filling(
+    bytes: &[u8],
+    copies: usize,
+    entries: usize,
+    shapes: &mut [f64],
+    sheet: &mut [f64],
+    placed: &mut [f64],
+) {
+    let order = [0usize; 8];
+    let mut sheet_entries = entry_room();
+    let mut placed_entries = entry_room();
+    let mut intervals = interval_room();
+    let mut positions = [1.0; 40];
+    let n = at_most(copies, 8);
+    let m = at_most(entries, 132000);
+    let number = plan_exports::given::panel_fill(
+        bytes,
+        &order[..n],
+        shapes,
+        sheet,
+        placed,
+        &mut sheet_entries[..m],
+        &mut placed_entries[..m],
+        &mut intervals,
+        &mut positions,
+    );
+    io::write_all(1, b"fill ");
+    io::print_decimal(1, number);
+    io::write_all(1, b"\n");
+    show::doubles(6, &positions);
+}
+
+// The same with the long room as the room `which`, lent with so many slots; or a filling.
 fn print_in(which: u8, slots: usize, entries: usize, bytes: &[u8], long: &mut [f64]) {
-    let mut a = [1.0; 8190];
-    let mut b = [1.0; 8190];
+    let mut a = strip_room();
+    let mut b = strip_room();
     let n = at_most(slots, long.len());
     if which == 0 {
         print_with(bytes, entries, &mut long[..n], &mut a, &mut b);
@@ -60,7 +121,11 @@ fn print_in(which: u8, slots: usize, entries: usize, bytes: &[u8], long: &mut [f
         print_with(bytes, entries, &mut a, &mut long[..n], &mut b);
         return;
     }
-    print_with(bytes, entries, &mut a, &mut b, &mut long[..n]);
+    if which == 2 {
+        print_with(bytes, entries, &mut a, &mut b, &mut long[..n]);
+        return;
+    }
+    print_filling(bytes, slots, entries, &mut a, &mut b, long);
 }
 
 // Prints the answer to the record that the first n bytes are.

@@ -1,4 +1,4 @@
--- `plan_exports::panel_nest` meets its contract. Assumes nothing.
+-- `plan_exports::panel_nest` is `plan_text`. Assumes nothing.
 use Rattle.plan_exports.proofs.panel_nest.Statement.{statement}
 use Rattle.plan_exports.proofs.panel_nest.Tie as tie
 
@@ -6,31 +6,49 @@ plan-text-requires : tie.Need-plan-text-requires
 plan-text-requires c κs = tt
 
 same-length : tie.Need-same-length
-same-length c = c .before .before .before .before .before .before .before .before .before .before .before .before .before .before .before .before .plan-text .kept .1 .0
+same-length c =
+    let c16 = c .before .before .before .before .before .before .before .before .before .before .before .before .before .before .before .before in
+    search (c16 .plan-text .kept .1 .0, c16 .plan-text .kept .1 .1 .0)
 
 same-length-2 : tie.Need-same-length-2
-same-length-2 c = c .before .before .before .before .before .before .before .before .before .before .before .before .before .before .before .before .plan-text .kept .1 .1 .0
+same-length-2 c =
+    let c16 = c .before .before .before .before .before .before .before .before .before .before .before .before .before .before .before .before in
+    search (c16 .plan-text .kept .1 .0, c16 .plan-text .kept .1 .1 .0)
 
 same-length-3 : tie.Need-same-length-3
-same-length-3 c = c .before .before .before .before .before .before .before .before .before .before .before .before .before .before .before .before .plan-text .kept .1 .1 .1 .0
+same-length-3 c =
+    let c16 = c .before .before .before .before .before .before .before .before .before .before .before .before .before .before .before .before in
+    c16 .plan-text .kept .1 .1 .1 .0
 
 same-length-4 : tie.Need-same-length-4
-same-length-4 c = c .before .before .before .before .before .before .before .before .before .before .before .before .before .before .before .before .plan-text .kept .1 .1 .1 .1 .0
+same-length-4 c =
+    let c16 = c .before .before .before .before .before .before .before .before .before .before .before .before .before .before .before .before in
+    search (c16 .plan-text .kept .1 .1 .1 .1 .0, c16 .plan-text .kept .1 .1 .1 .1 .1 .0)
 
 same-length-5 : tie.Need-same-length-5
-same-length-5 c = c .before .before .before .before .before .before .before .before .before .before .before .before .before .before .before .before .plan-text .kept .1 .1 .1 .1 .1 .0
+same-length-5 c =
+    let c16 = c .before .before .before .before .before .before .before .before .before .before .before .before .before .before .before .before in
+    search (c16 .plan-text .kept .1 .1 .1 .1 .0, c16 .plan-text .kept .1 .1 .1 .1 .1 .0)
 
 same-length-6 : tie.Need-same-length-6
-same-length-6 c = c .before .before .before .before .before .before .before .before .before .before .before .before .before .before .before .before .plan-text .kept .1 .1 .1 .1 .1 .1 .0
+same-length-6 c =
+    let c16 = c .before .before .before .before .before .before .before .before .before .before .before .before .before .before .before .before in
+    c16 .plan-text .kept .1 .1 .1 .1 .1 .1 .0
 
 same-length-7 : tie.Need-same-length-7
-same-length-7 c = c .before .before .before .before .before .before .before .before .before .before .before .before .before .before .before .before .plan-text .kept .1 .1 .1 .1 .1 .1 .1 .0
+same-length-7 c =
+    let c16 = c .before .before .before .before .before .before .before .before .before .before .before .before .before .before .before .before in
+    c16 .plan-text .kept .1 .1 .1 .1 .1 .1 .1 .0
 
 same-length-8 : tie.Need-same-length-8
-same-length-8 c = c .before .before .before .before .before .before .before .before .before .before .before .before .before .before .before .before .plan-text .kept .1 .1 .1 .1 .1 .1 .1 .1 .0
+same-length-8 c =
+    let c16 = c .before .before .before .before .before .before .before .before .before .before .before .before .before .before .before .before in
+    c16 .plan-text .kept .1 .1 .1 .1 .1 .1 .1 .1 .0
 
 returns : tie.Need-returns
-returns c = tt
+returns c =
+    let c16 = c .before .before .before .before .before .before .before .before .before .before .before .before .before .before .before .before in
+    c16 .plan-text .ensures
 
 pub panel-nest-spec : {M : Type 1} → statement M
 panel-nest-spec =
