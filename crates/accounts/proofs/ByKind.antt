@@ -21,8 +21,8 @@ use Rattle.filling.specs.State.{copyAt, standsAt, missesAt, standingTo, without
 use Rattle.filling.specs.Order.{countIn}
 use Rattle.filling.specs.Accounts.{Position, positionsOfKind, flatPositions}
 use Rattle.filling.proofs.CountIn.{count-same, count-other, count-append}
-use Rattle.accounts.specs.Counting.{stands, misses, sumTo, countIf, kindTo, standsIn, missesIn}
-use Rattle.accounts.specs.Laying.{setPosition, putPosition}
+use Rattle.accounts.specs.inner.Counting.{stands, misses, sumTo, countIf, kindTo, standsIn, missesIn}
+use Rattle.accounts.specs.inner.Laying.{setPosition, putPosition}
 use Rattle.accounts.proofs.Counts.{stands-none, stands-most, sum-few, sum-rise, kind-here, kind-other, kind-rise, kinds-few}
 use Rattle.accounts.proofs.Segments.{position-long, position-after, position-before, segment-next, put-none-room}
 

@@ -15,7 +15,7 @@ use Rattle.index.specs.Buckets.{upFrom}
 use Rattle.index.proofs.Flat.{getD-upFrom}
 use Rattle.filling.specs.State.{bySlot}
 use Rattle.filling.proofs.Reading.{upFrom-list}
-use Rattle.accounts.specs.Counting.{stands, misses, sumTo, countIf, kindTo, byKind, startsBy}
+use Rattle.accounts.specs.inner.Counting.{stands, misses, sumTo, countIf, kindTo, byKind, startsBy}
 
 -- ---- one copy
 

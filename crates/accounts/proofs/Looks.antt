@@ -18,8 +18,8 @@ use Rattle.filling.specs.Search.{Track}
 use Rattle.filling.specs.State.{bySlot, orientationCounts, slotRows, trackAt, tracksOf}
 use Rattle.filling.specs.Accounts.{looksBySlot, lookCountsOf}
 use Rattle.filling.proofs.Reading.{upFrom-list, upFrom-same, kinds-many}
-use Rattle.tables.specs.Tabled.{Tabled}
-use Rattle.accounts.specs.Counting.{lookIn}
+use Rattle.accounts.specs.tables.inner.Tabled.{Tabled}
+use Rattle.accounts.specs.inner.Counting.{lookIn}
 
 -- ---- one slot
 

@@ -13,10 +13,10 @@ use Rattle.filling.specs.Rooms.{laid}
 use Rattle.filling.specs.State.{bySlot, copyAt, standsAt, standingTo, withoutTo, standingOf, withoutOf}
 use Rattle.filling.specs.Accounts.{positionsOfKind, positions, flatPositions, placedOf, unplacedOf, looksBySlot, lookCountsOf, planOf}
 use Rattle.filling.proofs.Reading.{upFrom-same}
-use Rattle.tables.specs.Tabled.{Tabled}
-use Rattle.accounts.specs.Counting.{sumTo, kindTo, standsIn, missesIn, byKind, lookIn}
-use Rattle.accounts.specs.Laying.{stateOf}
-use Rattle.accounts.specs.Told.{Told, Totalled}
+use Rattle.accounts.specs.tables.inner.Tabled.{Tabled}
+use Rattle.accounts.specs.inner.Counting.{sumTo, kindTo, standsIn, missesIn, byKind, lookIn}
+use Rattle.accounts.specs.inner.Laying.{stateOf}
+use Rattle.accounts.specs.inner.Told.{PlanTold, Totalled}
 use Rattle.accounts.proofs.ByKind.{kind-count, missing-count, standing-count, without-count}
 use Rattle.accounts.proofs.Looks.{looks-same}
 
@@ -35,7 +35,7 @@ unfolding standingTo
 standing-as s t a e b d zero = refl
 standing-as s t a e b d (suc n) = ap₂ _++_ (standing-as s t a e b d n) (stands-as s t a b d n (getD (s .layout .orientation) n 0) ∙ ap (λ (l : List ℕ). standsAt t n (getD l n 0)) e)
 
-module _ (j : Job) (rows : List ℕ) (areas : List Float) (s : State) (order orientation : List ℕ) (x y : List Float) (looks : List ℕ) (kinds taken : ℕ) (h : Tabled j rows areas) (k : length (j .kinds) ≡ kinds) (t : Told s order orientation x y looks taken) where
+module _ (j : Job) (rows : List ℕ) (areas : List Float) (s : State) (order orientation : List ℕ) (x y : List Float) (looks : List ℕ) (kinds taken : ℕ) (h : Tabled j rows areas) (k : length (j .kinds) ≡ kinds) (t : PlanTold s order orientation x y looks taken) where
   pub positions-are : (room before : List Float) → room ≡ laid (flatPositions (flatMap (λ k. positionsOfKind k 0 (standingTo (stateOf order orientation x y) taken)) (upFrom kinds 0))) before → room ≡ laid (flatPositions (positions j (standingOf s))) before
   unfolding positions standingOf
   positions-are room before e =

@@ -8,8 +8,8 @@ use lib.Seq.{sets, sets-eq, length-sets, length-take-le, take-set-le, drop-set-l
 use lib.Ieee.{Float}
 use Rattle.numbers.specs.Numbers.{fromInt}
 use Rattle.filling.specs.Accounts.{Position, flatPositions}
-use Rattle.accounts.specs.Counting.{stands}
-use Rattle.accounts.specs.Laying.{setPosition, putPosition}
+use Rattle.accounts.specs.inner.Counting.{stands}
+use Rattle.accounts.specs.inner.Laying.{setPosition, putPosition}
 
 -- ---- a run of stores
 

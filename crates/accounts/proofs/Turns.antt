@@ -8,8 +8,8 @@ use lib.Ieee.{Float, nan}
 use Rattle.index.specs.Buckets.{upFrom}
 use Rattle.index.proofs.Flat.{length-upFrom}
 use Rattle.filling.proofs.Reading.{upFrom-same}
-use Rattle.accounts.specs.Counting.{stands, sumTo, kindTo, standsIn, byKind, startsBy}
-use Rattle.accounts.specs.Laying.{putPosition, stateOf}
+use Rattle.accounts.specs.inner.Counting.{stands, sumTo, kindTo, standsIn, byKind, startsBy}
+use Rattle.accounts.specs.inner.Laying.{putPosition, stateOf}
 use Rattle.accounts.proofs.Counts.{stands-most, sum-few, sum-same, kinds-few, Counted, counted-next, at-kind}
 use Rattle.accounts.proofs.ByKind.{Filled, filled-next, place-fits, startOf}
 

@@ -1,3 +1,3 @@
-pub mod Counting
-pub mod Laying
-pub mod Told
+pub mod tables
+pub mod order
+pub mod inner

@@ -1,5 +1,9 @@
 // What a filling answers (document 01, "Order and swaps" and "The printed plan"): the positions by
 // kind, then copy, and the counts.
+pub mod order;
+pub mod tables;
+pub mod verdicts;
+
 ghost use Prim.Native.Nat.{ℕ, _+_, _*_, _≤_, _<_};
 ghost use mathlib.Core.Path.{_≡_};
 ghost use mathlib.Core.List.{List, flatMap};
@@ -11,10 +15,10 @@ ghost use Rattle.filling.specs.declared.State.{State};
 ghost use Rattle.filling.specs.Rooms.{laid};
 ghost use Rattle.filling.specs.State.{bySlot, standingOf, standingTo};
 ghost use Rattle.filling.specs.Accounts.{positionsOfKind, positions, flatPositions, planOf};
-ghost use Rattle.tables.specs.Tabled.{Tabled};
-ghost use Rattle.accounts.specs.Counting.{stands, sumTo, kindTo, standsIn, missesIn, byKind, startsBy, lookIn};
-ghost use Rattle.accounts.specs.Laying.{setPosition, putPosition, stateOf};
-ghost use Rattle.accounts.specs.Told.{Told, Totalled};
+ghost use Rattle.accounts.specs.tables.inner.Tabled.{Tabled};
+ghost use Rattle.accounts.specs.inner.Counting.{stands, sumTo, kindTo, standsIn, missesIn, byKind, startsBy, lookIn};
+ghost use Rattle.accounts.specs.inner.Laying.{setPosition, putPosition, stateOf};
+ghost use Rattle.accounts.specs.inner.Told.{PlanTold, Totalled};
 use filling::Plan;
 
 // A copy by its number in a layout: 1 if it stands, 0 if it has no place.
@@ -36,7 +40,8 @@ fn count(
     placed_of: &mut [usize],
     unplaced_of: &mut [usize],
 ) -> usize
-    requires { ⌜ (n ≤ length (now order)) × (n ≤ length (now orientation)) × ((i : ℕ) → i < n → getD (now order) i 0 < 64) × (now «placed_of» ≡ replicate 64 0) × (now «unplaced_of» ≡ replicate 64 0) × (n ≤ 4096) ⌝ }
+    requires { ⌜ (n ≤ length (now order)) × (n ≤ length (now orientation)) × ((i : ℕ) → i < n → getD (now order) i 0 < 64) × (now «placed_of» ≡ replicate 64 0)
+        × (now «unplaced_of» ≡ replicate 64 0) × (n ≤ 4096) ⌝ }
     ensures { λ r. ⌜ (r ≡ sumTo (standsIn (now (orientation .entry))) n)
         × (now («placed_of» .exit) ≡ byKind (λ k. kindTo (standsIn (now (orientation .entry))) (now (order .entry)) k n))
         × (now («unplaced_of» .exit) ≡ byKind (λ k. kindTo (missesIn (now (orientation .entry))) (now (order .entry)) k n)) ⌝ }
@@ -99,9 +104,11 @@ fn put(
     x: f64,
     y: f64,
 )
-    requires { ⌜ (k < length (now starts)) × (k < length (now copies)) × (5 * (getD (now starts) k 0 + getD (now copies) k 0) + 5 * stands number ≤ length (now room)) ⌝ }
+    requires { ⌜ (k < length (now starts)) × (k < length (now copies))
+        × (5 * (getD (now starts) k 0 + getD (now copies) k 0) + 5 * stands number ≤ length (now room)) ⌝ }
     ensures { λ _. ⌜ (now (copies .exit) ≡ set (now (copies .entry)) k (getD (now (copies .entry)) k 0 + stands number))
-        × (now (room .exit) ≡ putPosition number (now (room .entry)) (getD (now (starts .entry)) k 0 + getD (now (copies .entry)) k 0) k (getD (now (copies .entry)) k 0) x y) ⌝ }
+        × (now (room .exit) ≡ putPosition number (now (room .entry)) (getD (now (starts .entry)) k 0 + getD (now (copies .entry)) k 0) k
+        (getD (now (copies .entry)) k 0) x y) ⌝ }
 {
     if number == 0 {
         return;
@@ -122,10 +129,13 @@ fn lay(
     copies: &mut [usize],
     room: &mut [f64],
 )
-    requires { ⌜ (n ≤ length (now order)) × (n ≤ length (now orientation)) × (n ≤ length (now x)) × (n ≤ length (now y)) × ((i : ℕ) → i < n → getD (now order) i 0 < 64)
+    requires { ⌜ (n ≤ length (now order)) × (n ≤ length (now orientation)) × (n ≤ length (now x)) × (n ≤ length (now y))
+        × ((i : ℕ) → i < n → getD (now order) i 0 < 64)
         × (now starts ≡ startsBy (λ k. kindTo (standsIn (now orientation)) (now order) k n)) × (now copies ≡ replicate 64 0) × (5 * n ≤ length (now room)) ⌝ }
     ensures { λ _. ⌜ ((m : ℕ) → m ≤ 64 → ((i : ℕ) → i < n → getD (now (order .entry)) i 0 < m)
-        → now (room .exit) ≡ laid (flatPositions (flatMap (λ k. positionsOfKind k 0 (standingTo (stateOf (now (order .entry)) (now (orientation .entry)) (now (x .entry)) (now (y .entry))) n)) (upFrom m 0))) (now (room .entry))) ⌝ }
+        → now (room .exit) ≡ laid (flatPositions
+        (flatMap (λ k. positionsOfKind k 0 (standingTo (stateOf (now (order .entry)) (now (orientation .entry)) (now (x .entry)) (now (y .entry))) n))
+        (upFrom m 0))) (now (room .entry))) ⌝ }
 {
     let mut i = 0;
     while i < n {
@@ -178,10 +188,11 @@ pub fn plan_of(
     improvements: usize,
     room: &mut [f64],
 ) -> Plan
-    requires { ⌜ (kinds ≤ 64) × (256 ≤ length (now rows)) × (taken ≤ length (now order)) × (taken ≤ length (now orientation)) × (taken ≤ length (now x)) × (taken ≤ length (now y)) × (1024 ≤ length (now «look_counts»))
+    requires { ⌜ (kinds ≤ 64) × (256 ≤ length (now rows)) × (taken ≤ length (now order)) × (taken ≤ length (now orientation)) × (taken ≤ length (now x))
+        × (taken ≤ length (now y)) × (1024 ≤ length (now «look_counts»))
         × ((i : ℕ) → i < taken → getD (now order) i 0 < kinds) × (taken ≤ 4096) × (5 * taken ≤ length (now room)) ⌝ }
     ensures { λ r. ⌜ ((j : Job) (areas : List Float) (s : State) → Tabled j (now (rows .entry)) areas → length (j .kinds) ≡ kinds
-        → Told s (now (order .entry)) (now (orientation .entry)) (now (x .entry)) (now (y .entry)) (now («look_counts» .entry)) taken
+        → PlanTold s (now (order .entry)) (now (orientation .entry)) (now (x .entry)) (now (y .entry)) (now («look_counts» .entry)) taken
         → Totalled j s right «unplaced_area» offcut
         → (r ≡ planOf j s improvements) × (now (room .exit) ≡ laid (flatPositions (positions j (standingOf s))) (now (room .entry)))) ⌝ }
 {

@@ -7,8 +7,8 @@ use lib.Ieee.{Float}
 use Rattle.trapezoid.specs.Strip.{capacity}
 use Rattle.strips.specs.declared.Stored.{Stored}
 use Rattle.strips.specs.declared.Stored.the-variants.{Count, NoRoom}
-use Rattle.strips.specs.Tables.{Stowed}
-use Rattle.bench_exports.specs.Answers.{told}
+use Rattle.strips.specs.inner.Tables.{Stowed}
+use Rattle.bench_exports.specs.inner.Answers.{told}
 
 pub told-count : (s : Stowed) (r : Stored) (room after : List Float) (m : ℕ) → record { answer = r; room = after } ≡ s → r ≡ Count m → (m ≡ told (s .answer) (capacity room)) × (after ≡ s .room)
 unfolding told

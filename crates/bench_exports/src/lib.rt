@@ -6,22 +6,22 @@ ghost use lib.ListN.{length};
 ghost use mathlib.Core.Path.{_≡_};
 ghost use Rattle.trapezoid.specs.Strip.{capacity};
 ghost use Rattle.strips.specs.Strips.{trapezoids};
-ghost use Rattle.strips.specs.Tables.{Loops, stored};
+ghost use Rattle.strips.specs.inner.Tables.{Loops, stripsStored};
 ghost use Rattle.job.specs.Jobs.{readJob, verdictOf};
-ghost use Rattle.bench_exports.specs.Answers.{verdictNumber, told, heightTold, lookTold};
+ghost use Rattle.bench_exports.specs.inner.Answers.{verdictNumber, told, heightTold, lookTold};
 ghost use Rattle.random.specs.SplitMix64.{nextState, mixed};
 ghost use Rattle.numbers.proofs.Doubles.{Finite};
 ghost use Rattle.index.specs.Buckets.{buckets, stripNumbers, indexOf};
-ghost use Rattle.index.specs.Listing.{intervals, Laid};
-ghost use Rattle.height.specs.Raising.{FiniteEnds};
-ghost use Rattle.height.specs.Smallest.{heightOf};
-ghost use Rattle.look.specs.Ready.{Lookable, lookOf};
-ghost use Rattle.enter.specs.EntryRoom.{enterOf};
-ghost use Rattle.enter.specs.Gaps.{rooms, entering};
-use height::Look;
+ghost use Rattle.index.specs.inner.Listing.{intervals, Laid};
+ghost use Rattle.look.specs.height.inner.Raising.{FiniteEnds};
+ghost use Rattle.look.specs.height.Smallest.{heightOf};
+ghost use Rattle.look.specs.inner.Ready.{Lookable, lookOf};
+ghost use Rattle.enter.specs.inner.EntryRoom.{enterOf};
+ghost use Rattle.enter.specs.inner.Gaps.{rooms, entering};
 use index::Entry;
 use index::Index;
 use look::Answer;
+use look::height::Look;
 
 // The next draw, and the state moved on.
 #[no_mangle]
@@ -43,8 +43,11 @@ pub extern "C" fn panel_trapezoids(
     line: &mut [f64],
     room: &mut [f64],
 ) -> usize
-    requires { ⌜ (0 < n) × (2 * n ≤ length (now points)) × Loops 0 (now ends) n × (6 * n ≤ length (now es)) × (3 * n ≤ length (now rows)) × (n + 2 ≤ length (now line)) ⌝ }
-    ensures { λ r. ⌜ (r ≡ told (stored (trapezoids (now (points .entry)) n (now (ends .entry)) sheet) (now (room .entry)) 0 .answer) (capacity (now (room .entry)))) × (now (room .exit) ≡ stored (trapezoids (now (points .entry)) n (now (ends .entry)) sheet) (now (room .entry)) 0 .room) ⌝ }
+    requires { ⌜ (0 < n) × (2 * n ≤ length (now points)) × Loops 0 (now ends) n × (6 * n ≤ length (now es)) × (3 * n ≤ length (now rows))
+        × (n + 2 ≤ length (now line)) ⌝ }
+    ensures { λ r. ⌜ (r ≡ told (stripsStored (trapezoids (now (points .entry)) n (now (ends .entry)) sheet) (now (room .entry)) 0 .answer)
+        (capacity (now (room .entry)))) × (now (room .exit) ≡ stripsStored (trapezoids (now (points .entry)) n (now (ends .entry)) sheet) (now (room .entry))
+        0 .room) ⌝ }
 {
     let stored = strips::trapezoids(points, n, ends, sheet, es, rows, line, room, 0);
     match stored {
@@ -102,7 +105,8 @@ pub extern "C" fn panel_look(
     placed_starts: &[usize],
     room: &mut [f64],
 ) -> f64
-    requires { ⌜ Lookable (record { x0 = x0; width = width }) x «y_low» «y_high» (now inset) (now apart) (now sheet) (now placed) (now «sheet_entries») (now «sheet_starts») (now «placed_entries») (now «placed_starts») ⌝ }
+    requires { ⌜ Lookable (record { x0 = x0; width = width }) x «y_low» «y_high» (now inset) (now apart) (now sheet) (now placed) (now «sheet_entries»)
+        (now «sheet_starts») (now «placed_entries») (now «placed_starts») ⌝ }
     ensures { λ r. ⌜ r ≡ lookTold (lookOf (length (now (room .entry)) / 2) x «y_low» «y_high» (now (inset .entry)) (now (apart .entry)) (now (sheet .entry))
         (now (placed .entry))) ⌝ }
 {
@@ -144,7 +148,8 @@ pub extern "C" fn panel_enter(
     starts: &mut [usize],
     gains: &mut [usize],
 ) -> bool
-    requires { ⌜ (from ≤ to) × (6 * to ≤ length (now standing)) × (length (now gains) ≡ buckets) × Laid (record { x0 = x0; width = width }) (now standing) from (now entries) (now starts) × (to ≤ stripNumbers) ⌝ }
+    requires { ⌜ (from ≤ to) × (6 * to ≤ length (now standing)) × (length (now gains) ≡ buckets) × Laid (record { x0 = x0; width = width }) (now standing) from
+        (now entries) (now starts) × (to ≤ stripNumbers) ⌝ }
     ensures { λ r. ⌜ entering r (now (entries .exit)) (now (starts .exit)) ≡ enterOf (record { x0 = x0; width = width }) (now (standing .entry)) to
         (rooms (now (entries .entry)) (now (starts .entry))) ⌝ }
 {
@@ -162,6 +167,6 @@ pub extern "C" fn panel_height(room: &mut [f64], n: usize, y_low: f64, y_high: f
     requires { ⌜ (2 * n ≤ length (now room)) × Finite «y_low» × Finite «y_high» × FiniteEnds (intervals (now room) n) ⌝ }
     ensures { λ r. ⌜ r ≡ heightTold (heightOf «y_low» «y_high» (intervals (now (room .entry)) n)) ⌝ }
 {
-    let l = height::height(room, n, y_low, y_high);
+    let l = look::height::height(room, n, y_low, y_high);
     height_or(l)
 }

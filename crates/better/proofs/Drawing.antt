@@ -8,9 +8,9 @@ use lib.Ieee.{Float}
 use Rattle.numbers.proofs.Truth.{clash}
 use Rattle.random.specs.SplitMix64.{nextState, mixed}
 use Rattle.job.specs.Jobs.{Job}
-use Rattle.tables.specs.Tabled.{Tabled}
+use Rattle.accounts.specs.tables.inner.Tabled.{Tabled}
 use Rattle.nesting.specs.Rounds.{swappable, swapped}
-use Rattle.better.specs.Turns.{Drew}
+use Rattle.better.specs.inner.Turns.{Drew}
 
 pub drew-first : (first : Bool) (random : ℕ) (rows order : List ℕ) → first ≡ true
     → Drew first random rows order (record { random = random; i = 0; k = 0; fills = true }) order

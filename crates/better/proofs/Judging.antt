@@ -13,12 +13,12 @@ use Rattle.filling.specs.declared.Verdict.the-variants.{Accepted, Refused}
 use Rattle.filling.specs.Shapes.{Planner}
 use Rattle.filling.specs.Fill.{filled, stopped}
 use Rattle.place.specs.declared.Totals.{Totals}
-use Rattle.tracks.specs.Tracks.{nextColumns, lookCounts, orientations, xs, ys, trackNumbers, spotNumbers}
+use Rattle.rooms.specs.tracks.inner.Tracks.{nextColumns, lookCounts, orientations, xs, ys, trackNumbers, spotNumbers}
 use Rattle.nesting.specs.Rounds.{Kept, Swaps, kept, ended, betterThan, judged}
-use Rattle.fill_laws.specs.Prepared.{stateBy, fillingIn}
+use Rattle.filling_laws.specs.fill_laws.inner.Prepared.{stateBy, fillingIn}
 use Rattle.better.specs.declared.Best.{Best}
-use Rattle.better.specs.Keeping.{half, keptIn}
-use Rattle.better.specs.Turns.{judgedAs}
+use Rattle.better.specs.inner.Keeping.{half, keptIn}
+use Rattle.better.specs.inner.Turns.{judgedAs}
 
 -- nesting.rs's better_than, of totals
 abbrev pub better : Totals → Totals → Bool

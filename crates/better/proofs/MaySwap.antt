@@ -10,7 +10,7 @@ use lib.Ieee.{Float}
 use borrow.Author.Tests.{eq-eqb, ne-eqb}
 use Rattle.kinds.specs.Kinds.{Kind, lower, signed}
 use Rattle.job.specs.Jobs.{Job}
-use Rattle.tables.specs.Tabled.{Tabled}
+use Rattle.accounts.specs.tables.inner.Tabled.{Tabled}
 use Rattle.nesting.specs.CopyOrder.{samePriority}
 use Rattle.nesting.specs.Rounds.{noKind, swappable}
 

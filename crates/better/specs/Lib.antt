@@ -1,2 +1,2 @@
-pub mod Keeping
-pub mod Turns
+pub mod round_laws
+pub mod inner

@@ -1,5 +1,7 @@
 // The parts of a round (document 01, "Order and swaps"): a copy is drawn, whether two kinds may be
-// swapped, the swap, and the better of two fillings is kept. Only crates of ours call its functions.
+// swapped, the swap, and the better of two fillings is kept.
+pub mod round_laws;
+
 ghost use mathlib.Core.Path.{_≡_};
 ghost use mathlib.Core.Logic.{_⊎_};
 ghost use mathlib.Core.Bool.{false, not, _&&_, _||_};
@@ -11,12 +13,12 @@ ghost use Rattle.random.specs.SplitMix64.{nextState, mixed};
 ghost use Rattle.kinds.specs.Kinds.{lower, signed};
 ghost use Rattle.job.specs.Jobs.{Job};
 ghost use Rattle.filling.specs.Shapes.{Planner};
-ghost use Rattle.tables.specs.Tabled.{Tabled};
-ghost use Rattle.tracks.specs.Tracks.{trackNumbers, spotNumbers};
+ghost use Rattle.accounts.specs.tables.inner.Tabled.{Tabled};
+ghost use Rattle.rooms.specs.tracks.inner.Tracks.{trackNumbers, spotNumbers};
 ghost use Rattle.nesting.specs.Rounds.{swappable, swapped};
-ghost use Rattle.fill_laws.specs.Prepared.{fillingIn};
-ghost use Rattle.better.specs.Keeping.{half, keptIn, swapsIn};
-ghost use Rattle.better.specs.Turns.{judgedAs, Drew};
+ghost use Rattle.filling_laws.specs.fill_laws.inner.Prepared.{fillingIn};
+ghost use Rattle.better.specs.inner.Keeping.{half, keptIn, swapsIn};
+ghost use Rattle.better.specs.inner.Turns.{judgedAs, Drew};
 use filling::Verdict;
 use place::Totals;
 
@@ -32,7 +34,8 @@ pub fn draw(random: &mut u64, n: usize) -> usize
 // Whether two kinds have one priority.
 fn same_priority(rows: &[u64], a: usize, b: usize) -> bool
     requires { ⌜ (4 * a + 4 ≤ length (now rows)) × (4 * b + 4 ≤ length (now rows)) ⌝ }
-    ensures { λ r. ⌜ r ≡ (not (lower (signed (getD (now (rows .entry)) (4 * a + 2) 0)) (signed (getD (now (rows .entry)) (4 * b + 2) 0))) && not (lower (signed (getD (now (rows .entry)) (4 * b + 2) 0)) (signed (getD (now (rows .entry)) (4 * a + 2) 0)))) ⌝ }
+    ensures { λ r. ⌜ r ≡ (not (lower (signed (getD (now (rows .entry)) (4 * a + 2) 0)) (signed (getD (now (rows .entry)) (4 * b + 2) 0)))
+        && not (lower (signed (getD (now (rows .entry)) (4 * b + 2) 0)) (signed (getD (now (rows .entry)) (4 * a + 2) 0)))) ⌝ }
 {
     if copy_order::lower_at(rows, a, b) {
         return false;
@@ -46,7 +49,8 @@ fn same_priority(rows: &[u64], a: usize, b: usize) -> bool
 // Whether copies of the kinds a and b may be swapped.
 pub fn swappable(rows: &[u64], a: usize, b: usize) -> bool
     requires { ⌜ (4 * a + 4 ≤ length (now rows)) × (4 * b + 4 ≤ length (now rows)) ⌝ }
-    ensures { λ r. ⌜ ((j : Job) (areas : List Float) → Tabled j (now (rows .entry)) areas → a < length (j .kinds) → b < length (j .kinds) → r ≡ swappable (j .kinds) a b) ⌝ }
+    ensures { λ r. ⌜ ((j : Job) (areas : List Float) → Tabled j (now (rows .entry)) areas → a < length (j .kinds) → b < length (j .kinds)
+        → r ≡ swappable (j .kinds) a b) ⌝ }
 {
     if a == b {
         return false;

@@ -18,7 +18,7 @@ use Rattle.bits.specs.declared.Measured.{Measured}
 use Rattle.bits.specs.declared.Measured.the-variants.{Value, NoValue}
 use Rattle.bits.specs.Reading.{Read, ok, bad, Reader, after, bits}
 use Rattle.bits.specs.Fields.{Field, judgeCount, inSet, judgePoints, counted, count, pointCount, Range, coordinateRange, judgeDouble, judgeNumber, measured, number, Spot, point}
-use Rattle.bits.specs.Answers.{countOf}
+use Rattle.bits.specs.inner.Answers.{countOf}
 
 -- ---- counts
 module _ (least most n : ℕ) where

@@ -38,7 +38,7 @@ use denote.Triple.Spec.{tripleOf}
 use denote.Triple.Statement.{Contract}
 use denote.Triple.Walked.{says}
 use Rattle.bits.specs.Reading.{bits}
-use Rattle.bits.specs.Answers.{taken, past}
+use Rattle.bits.specs.inner.Answers.{taken, past}
 use Rattle.bits.specs.declared.BitReader.{BitReader}
 use Rattle.bits.specs.declared.Taken.{Taken}
 use Rattle.bits.proofs.BitReader as T

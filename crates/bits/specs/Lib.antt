@@ -1,4 +1,4 @@
 pub mod Bits
 pub mod Reading
 pub mod Fields
-pub mod Answers
+pub mod inner

@@ -5,27 +5,28 @@ use mathlib.Core.List.{List}
 use lib.ListN.{length}
 use lib.Dec.{leb}
 use Rattle.bits.specs.declared.Refusal.{Refusal}
-use Rattle.bits.specs.declared.Refusal.the-variants.{Truncated, TrailingData, UnknownVersion, NonFinite, OutOfRange, CountOutOfRange, TooManyCopies, TooManyColumns}
+use Rattle.bits.specs.declared.Refusal.the-variants.{Truncated, TrailingData, UnknownVersion, NonFinite, OutOfRange, CountOutOfRange, TooManyCopies}
+use Rattle.bits.specs.declared.Refusal.the-variants.{TooManyColumns}
 use Rattle.bits.specs.Bits.{fieldAt}
 
 -- the table's numbers
-abbrev pub numberOf : Refusal → ℕ
+abbrev pub jobRefusalNumber : Refusal → ℕ
 -- "bytes end inside a field"
-numberOf Truncated = 1
+jobRefusalNumber Truncated = 1
 -- "a set filling bit, or a further byte"
-numberOf TrailingData = 2
+jobRefusalNumber TrailingData = 2
 -- "version not 1"
-numberOf UnknownVersion = 3
+jobRefusalNumber UnknownVersion = 3
 -- "resolution, coordinate or area not finite"
-numberOf NonFinite = 4
+jobRefusalNumber NonFinite = 4
 -- "coordinate beyond ±100,000 mm; area outside 0..1e12; resolution outside 0.001..10,000"
-numberOf OutOfRange = 5
+jobRefusalNumber OutOfRange = 5
 -- "a count or quantity outside its range"
-numberOf CountOutOfRange = 6
+jobRefusalNumber CountOutOfRange = 6
 -- "more than 4,096 copies in all"
-numberOf TooManyCopies = 7
+jobRefusalNumber TooManyCopies = 7
 -- "sheet width / resolution above 1,000,000"
-numberOf TooManyColumns = 8
+jobRefusalNumber TooManyColumns = 8
 
 -- "Fields are judged as read": what is read and the bit position after it, or the first refusal met
 pub data Read (A : Type 0) : Type 0 where

@@ -6,8 +6,8 @@ ghost use mathlib.Core.List.{List};
 ghost use Prim.Native.Nat.{ℕ, _+_, _*_, _/_, _%_, _^_, _≤_, _<_, min};
 ghost use lib.ListN.{length};
 ghost use Rattle.bits.specs.Bits.{fieldAt};
-ghost use Rattle.bits.specs.Reading.{numberOf, bits};
-ghost use Rattle.bits.specs.Answers.{past, pointRead, countOf, taken};
+ghost use Rattle.bits.specs.Reading.{jobRefusalNumber, bits};
+ghost use Rattle.bits.specs.inner.Answers.{past, pointRead, countOf, taken};
 ghost use Rattle.bits.specs.Fields.{judgeCount, judgePoints, counted, count, pointCount, coordinateRange, judgeNumber, measured, number, point};
 
 // Why a job is refused: document 01's numbers 1 to 8, in this order.
@@ -24,7 +24,7 @@ pub enum Refusal {
 
 // Document 01's number of a refusal.
 pub fn refusal_number(k: Refusal) -> u64
-    ensures { λ r. ⌜ r ≡ numberOf k ⌝ }
+    ensures { λ r. ⌜ r ≡ jobRefusalNumber k ⌝ }
 {
     match k {
         Refusal::Truncated => 1,

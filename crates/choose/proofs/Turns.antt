@@ -9,23 +9,23 @@ use lib.ListN.{length, getD}
 use lib.Seq.{getD-set-other}
 use lib.Ieee.{Float}
 use Rattle.index.specs.declared.Index.{Index}
-use Rattle.height.specs.declared.Look.{Look}
-use Rattle.height.specs.declared.Look.the-variants.{Free, Full}
+use Rattle.look.specs.declared.height.Look.{Look}
+use Rattle.look.specs.declared.height.Look.the-variants.{Free, Full}
 use Rattle.look.specs.declared.Answer.{Answer}
 use Rattle.look.specs.declared.Answer.the-variants.{NoRoom, Seen}
-use Rattle.look.specs.Ready.{Lookable}
+use Rattle.look.specs.inner.Ready.{Lookable}
 use Rattle.strips.specs.declared.Rect.{Rect}
-use Rattle.columns.specs.declared.Columns.{Columns}
-use Rattle.tracks.specs.Tracks.{nextColumns, lookCounts}
+use Rattle.search.specs.declared.columns.Columns.{Columns}
+use Rattle.rooms.specs.tracks.inner.Tracks.{nextColumns, lookCounts}
 use Rattle.choose.specs.declared.Grid.{Grid}
 use Rattle.choose.specs.declared.Part.{Part}
 use Rattle.choose.specs.declared.Choice.{Choice}
 use Rattle.choose.specs.declared.Winner.{Winner}
 use Rattle.choose.specs.declared.Winner.the-variants.{At, Nowhere}
 use Rattle.search.specs.declared.Found.{Found}
-use Rattle.columns.specs.Stands.{columnsOf, xOf, lastOf}
-use Rattle.search.specs.Searching.{answerAt, Looked, afterLook, afterAnswer, counted, searchFrom, tracked, remembering, searchOf}
-use Rattle.choose.specs.Choosing.{boundsAt, partAt, insetPart, apartPart, winnerOf, winsOf, firstOf, betterOf, World, worldIn, columnsAt, looksAt, Ready, Chosen, chosen, won, orientationOf, bettered, chooseFrom}
+use Rattle.search.specs.columns.inner.Stands.{columnsOf, columnX, lastOf}
+use Rattle.search.specs.inner.Searching.{answerAt, Looked, afterLook, afterAnswer, counted, searchFrom, tracked, remembering, searchOf}
+use Rattle.choose.specs.inner.Choosing.{boundsAt, partAt, insetPart, apartPart, winnerOf, winsOf, firstOf, betterOf, Surroundings, surroundingsIn, columnsAt, looksAt, Ready, Chosen, chosen, won, orientationOf, bettered, chooseFrom}
 
 pub first-true : (a b : Choice) → winsOf b a ≡ true → firstOf a b ≡ At b
 unfolding firstOf
@@ -36,10 +36,10 @@ unfolding firstOf
 first-false a b e = rw (e, firstOf)
 
 -- ---- one orientation
-module _ (ix : Index) (w : World) (se ss pe ps : List ℕ) (i : ℕ) where
+module _ (ix : Index) (w : Surroundings) (se ss pe ps : List ℕ) (i : ℕ) where
   abbrev pub Parts : Columns → Part → Type 0
   Parts k p =
-      ((c : ℕ) → c ≤ lastOf k → Lookable ix (xOf k c) (k .«y_low») (k .«y_high») (insetPart p (w .inset)) (apartPart p (w .apart)) (w .sheet) (w .placed) se ss
+      ((c : ℕ) → c ≤ lastOf k → Lookable ix (columnX k c) (k .«y_low») (k .«y_high») (insetPart p (w .inset)) (apartPart p (w .apart)) (w .sheet) (w .placed) se ss
       pe ps)
       × (k .count ≤ 4000000000)
 
@@ -54,7 +54,7 @@ module _ (ix : Index) (w : World) (se ss pe ps : List ℕ) (i : ℕ) where
       k .count ≤ 4000000000
   ready-few b k r eb ek = subst⁻¹ (λ (z : Columns). z .count ≤ 4000000000) (ek ∙ ap (λ (z : Rect). columnsOf (w .bounds) z (w .resolution)) eb) (r .few)
 
-module _ (w : World) (i o : ℕ) (counts next counts' next' : List ℕ) where
+module _ (w : Surroundings) (i o : ℕ) (counts next counts' next' : List ℕ) where
   orient-on : (b : Rect) (k : Columns) (found : Found) (v : Winner) → b ≡ boundsAt (w .inset-bounds) i → k ≡ columnsAt w i → v ≡ winnerOf k b o found
       → tracked found counts' next' ≡ searchOf (looksAt w i) (columnsAt w i) i counts next → chosen v counts' next' ≡ orientationOf w i o counts next
   unfolding orientationOf won
@@ -94,28 +94,28 @@ search-other f slot j h (suc n) c counts = go (f c) (search-other f slot j h n (
     go NoRoom e = unfold afterAnswer in once
     go (Seen l) e = unfold afterAnswer in (seen l (searchFrom f slot n (c + 1) (counted slot counts)) e)
 
-pub orient-other : (w : World) (i o j : ℕ) (counts next : List ℕ) → (j ≡ i → ⊥) → getD (orientationOf w i o counts next .counts) j 0 ≡ getD counts j 0
+pub orient-other : (w : Surroundings) (i o j : ℕ) (counts next : List ℕ) → (j ≡ i → ⊥) → getD (orientationOf w i o counts next .counts) j 0 ≡ getD counts j 0
 unfolding orientationOf won searchOf remembering
 orient-other w i o j counts next h = search-other (looksAt w i) i j h _ _ counts
 
 -- ---- the loop
-choose-more : (w : World) (i n m o : ℕ) (b : Chosen) → n ≡ suc m → chooseFrom w i n o b ≡ chooseFrom w i m (o + 1)
+choose-more : (w : Surroundings) (i n m o : ℕ) (b : Chosen) → n ≡ suc m → chooseFrom w i n o b ≡ chooseFrom w i m (o + 1)
     (bettered (b .winner) (orientationOf w (i + o) o (b .counts) (b .next)))
 unfolding chooseFrom
 choose-more w i n m o b e = rw e
 
-choose-end : (w : World) (i n o : ℕ) (b : Chosen) → n ≡ 0 → chooseFrom w i n o b ≡ b
+choose-end : (w : Surroundings) (i n o : ℕ) (b : Chosen) → n ≡ 0 → chooseFrom w i n o b ≡ b
 unfolding chooseFrom
 choose-end w i n o b e = rw e
 
-pub at-first : (w : World) (i n : ℕ) (b : Chosen) → chooseFrom w i (n - 0) 0 b ≡ chooseFrom w i n 0 b
+pub at-first : (w : Surroundings) (i n : ℕ) (b : Chosen) → chooseFrom w i (n - 0) 0 b ≡ chooseFrom w i n 0 b
 at-first w i n b = ap (λ (m : ℕ). chooseFrom w i m 0 b) (let e : n - 0 ≡ n = omega arith in e)
 
 -- a winner, with the tracks after it
 abbrev pub chosenIn : Winner → List ℕ → Chosen
 chosenIn v tracks = chosen v (lookCounts tracks) (nextColumns tracks)
 
-pub record Picking (room₀ : List Float) (w : World) (slot n : ℕ) (tracks₀ : List ℕ) (room : List Float) (tracks : List ℕ) (best : Winner) (o : ℕ) : Type 0 where
+pub record Picking (room₀ : List Float) (w : Surroundings) (slot n : ℕ) (tracks₀ : List ℕ) (room : List Float) (tracks : List ℕ) (best : Winner) (o : ℕ) : Type 0 where
   pub upto : o ≤ n
   pub wide : length room ≡ length room₀
   pub long : length tracks ≡ length tracks₀
@@ -123,8 +123,8 @@ pub record Picking (room₀ : List Float) (w : World) (slot n : ℕ) (tracks₀ 
   pub same : chooseFrom w slot (n - o) o (chosenIn best tracks) ≡ chooseFrom w slot n 0 (chosenIn Nowhere tracks₀)
 
 module _ (grid : Grid) (inset-bounds : List Float) (parts : List ℕ) (shapes sheet placed room₀ : List Float) (slot n : ℕ) (tracks₀ : List ℕ) where
-  abbrev pub world-of : World
-  world-of = worldIn (length room₀ / 2) grid inset-bounds parts shapes sheet placed
+  abbrev pub world-of : Surroundings
+  world-of = surroundingsIn (length room₀ / 2) grid inset-bounds parts shapes sheet placed
 
   abbrev pub Picks : List Float → List ℕ → Winner → ℕ → Type 0
   Picks room tracks best o = Picking room₀ world-of slot n tracks₀ room tracks best o
@@ -145,10 +145,10 @@ module _ (grid : Grid) (inset-bounds : List Float) (parts : List ℕ) (shapes sh
     pub at-last : n ≤ o → chosenIn best tracks ≡ chooseFrom world-of slot n 0 (chosenIn Nowhere tracks₀)
     at-last h = sym (choose-end world-of slot (n - o) o (chosenIn best tracks) (omega arith)) ∙ g .same
 
-    module _ (h : o < n) (e : chosenIn later tracks' ≡ orientationOf (worldIn (length room / 2) grid inset-bounds parts shapes sheet placed) (slot + o) o counts
+    module _ (h : o < n) (e : chosenIn later tracks' ≡ orientationOf (surroundingsIn (length room / 2) grid inset-bounds parts shapes sheet placed) (slot + o) o counts
         next) (b : best' ≡ betterOf best later) where
       here : chosenIn later tracks' ≡ orientationOf world-of (slot + o) o counts next
-      here = e ∙ ap (λ (m : ℕ). orientationOf (worldIn (m / 2) grid inset-bounds parts shapes sheet placed) (slot + o) o counts next) (g .wide)
+      here = e ∙ ap (λ (m : ℕ). orientationOf (surroundingsIn (m / 2) grid inset-bounds parts shapes sheet placed) (slot + o) o counts next) (g .wide)
 
       step : chosen best' counts' next' ≡ bettered best (orientationOf world-of (slot + o) o counts next)
       unfolding bettered

@@ -3,16 +3,17 @@
 ghost use mathlib.Core.Path.{_≡_};
 ghost use Prim.Native.Nat.{ℕ, _+_, _*_, _/_, _≤_, _<_, _^_};
 ghost use lib.ListN.{length, getD, take, drop};
-ghost use Rattle.look.specs.Ready.{Lookable};
-ghost use Rattle.tracks.specs.Tracks.{nextColumns, lookCounts, slotNumbers};
-ghost use Rattle.columns.specs.Stands.{xOf, lastOf};
-ghost use Rattle.search.specs.Searching.{answerAt, tracked, searchOf};
-ghost use Rattle.choose.specs.Choosing.{boundsAt, partAt, winnerOf, winsOf, firstOf, againstOf, betterOf, insetPart, apartPart, gridOf, worldIn, Ready, chosen, orientationOf, chooseFrom};
-use columns::Columns;
+ghost use Rattle.look.specs.inner.Ready.{Lookable};
+ghost use Rattle.rooms.specs.tracks.inner.Tracks.{nextColumns, lookCounts, slotNumbers};
+ghost use Rattle.search.specs.columns.inner.Stands.{columnX, lastOf};
+ghost use Rattle.search.specs.inner.Searching.{answerAt, tracked, searchOf};
+ghost use Rattle.choose.specs.inner.Choosing.{boundsAt, partAt, winnerOf, winsOf, firstOf, againstOf, betterOf, insetPart, apartPart, gridOf};
+ghost use Rattle.choose.specs.inner.Choosing.{surroundingsIn, Ready, chosen, orientationOf, chooseFrom};
 use filling::Tables;
 use index::Entry;
 use index::Index;
 use search::Found;
+use search::columns::Columns;
 use strips::Rect;
 
 // Where the strips of a slot lie: 16 * kind + orientation is its slot.
@@ -41,7 +42,7 @@ pub struct Grid {
     pub apart_strips: usize,
 }
 
-// The grid of a state's tables. Only crates of ours call it.
+// The grid of a state's tables.
 pub fn grid_of(tables: Tables) -> Grid
     ensures { λ r. ⌜ r ≡ gridOf tables ⌝ }
 {
@@ -62,7 +63,7 @@ pub enum Winner {
     Overflow,
 }
 
-// The inset bounds of a slot. Only crates of ours call it.
+// The inset bounds of a slot.
 pub fn bounds_at(inset_bounds: &[f64], slot: usize) -> Rect
     requires { ⌜ 4 * slot + 4 ≤ length (now «inset_bounds») ⌝ }
     ensures { λ r. ⌜ r ≡ boundsAt (now («inset_bounds» .entry)) slot ⌝ }
@@ -76,7 +77,7 @@ pub fn bounds_at(inset_bounds: &[f64], slot: usize) -> Rect
     }
 }
 
-// The part of a slot. Only crates of ours call it.
+// The part of a slot.
 pub fn part_at(parts: &[usize], slot: usize) -> Part
     requires { ⌜ 4 * slot + 4 ≤ length (now parts) ⌝ }
     ensures { λ r. ⌜ r ≡ partAt (now (parts .entry)) slot ⌝ }
@@ -170,7 +171,8 @@ fn search_part(
     room: &mut [f64],
     tracks: &mut [usize],
 ) -> Found
-    requires { ⌜ ((c : ℕ) → c ≤ lastOf k → Lookable (g .index) (xOf k c) (k .«y_low») (k .«y_high») (insetPart p (drop (6 * g .«apart_strips») (now shapes)))
+    requires { ⌜ ((c : ℕ) → c ≤ lastOf k → Lookable (g .index) (columnX k c) (k .«y_low») (k .«y_high»)
+        (insetPart p (drop (6 * g .«apart_strips») (now shapes)))
         (apartPart p (take (6 * g .«apart_strips») (now shapes))) (now sheet) (now placed)
         (now «sheet_entries») (now «sheet_starts») (now «placed_entries») (now «placed_starts»))
         × (k .count ≤ 4000000000) × (slot < 1024) × (slotNumbers ≤ length (now tracks)) × (getD (lookCounts (now tracks)) slot 0 + 4000000002 < 2 ^ 64)
@@ -229,12 +231,12 @@ fn orientation(
     room: &mut [f64],
     tracks: &mut [usize],
 ) -> Winner
-    requires { ⌜ Ready (g .index) (worldIn (length (now room) / 2) g (now «inset_bounds») (now parts) (now shapes) (now sheet) (now placed))
+    requires { ⌜ Ready (g .index) (surroundingsIn (length (now room) / 2) g (now «inset_bounds») (now parts) (now shapes) (now sheet) (now placed))
         (now «sheet_entries») (now «sheet_starts») (now «placed_entries») (now «placed_starts») slot
         × (slot < 1024) × (slotNumbers ≤ length (now tracks)) × (getD (lookCounts (now tracks)) slot 0 + 4000000002 < 2 ^ 64)
         × (6 * g .«apart_strips» ≤ length (now shapes)) ⌝ }
     ensures { λ r. ⌜ chosen r (lookCounts (now (tracks .exit))) (nextColumns (now (tracks .exit)))
-        ≡ orientationOf (worldIn (length (now (room .entry)) / 2) g (now («inset_bounds» .entry)) (now (parts .entry))
+        ≡ orientationOf (surroundingsIn (length (now (room .entry)) / 2) g (now («inset_bounds» .entry)) (now (parts .entry))
         (now (shapes .entry)) (now (sheet .entry))
         (now (placed .entry))) slot o (lookCounts (now (tracks .entry))) (nextColumns (now (tracks .entry))) ⌝ }
 {
@@ -277,12 +279,14 @@ pub fn choose(
     room: &mut [f64],
     tracks: &mut [usize],
 ) -> Winner
-    requires { ⌜ ((o : ℕ) → o < n → Ready (g .index) (worldIn (length (now room) / 2) g (now «inset_bounds») (now parts) (now shapes) (now sheet) (now placed))
+    requires { ⌜ ((o : ℕ) → o < n → Ready (g .index) (surroundingsIn (length (now room) / 2) g (now «inset_bounds») (now parts) (now shapes) (now sheet)
+        (now placed))
         (now «sheet_entries») (now «sheet_starts») (now «placed_entries») (now «placed_starts») (slot + o))
         × (slot + n ≤ 1024) × (slotNumbers ≤ length (now tracks)) × ((o : ℕ) → o < n → getD (lookCounts (now tracks)) (slot + o) 0 + 4000000002 < 2 ^ 64)
         × (6 * g .«apart_strips» ≤ length (now shapes)) ⌝ }
     ensures { λ r. ⌜ chosen r (lookCounts (now (tracks .exit))) (nextColumns (now (tracks .exit)))
-        ≡ chooseFrom (worldIn (length (now (room .entry)) / 2) g (now («inset_bounds» .entry)) (now (parts .entry)) (now (shapes .entry)) (now (sheet .entry))
+        ≡ chooseFrom (surroundingsIn (length (now (room .entry)) / 2) g (now («inset_bounds» .entry)) (now (parts .entry)) (now (shapes .entry))
+        (now (sheet .entry))
         (now (placed .entry))) slot n 0 (chosen Winner.Nowhere (lookCounts (now (tracks .entry))) (nextColumns (now (tracks .entry)))) ⌝ }
 {
     let mut best = Winner::Nowhere;

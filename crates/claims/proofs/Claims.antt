@@ -44,15 +44,15 @@ use Rattle.nesting.specs.RefusalLines.{nestLines}
 use Rattle.nesting.specs.Cases.{starred}
 use Rattle.nesting.proofs.Cases as ProvedCases
 use Rattle.copy_order.proofs.Rearranged.{accepted-rearranged}
-use Rattle.promises.specs.Ample.{Ample, AmpleIntervals, AmpleStart, AmpleCalls}
-use Rattle.promises.specs.Doubles.{isNumber, stateDoubles, roomDoubles, lentDoubles, planDoubles}
-use Rattle.promises.proofs.Suffice as ProvedSuffice
-use Rattle.promises.proofs.Left as ProvedLeft
-use Rattle.promises.proofs.Doubles.{state-doubles, room-doubles, lent-doubles, plan-doubles}
-use Rattle.plan_promises.specs.RefusalNumbers.{oneOf}
-use Rattle.plan_promises.proofs.Demand1 as Proved1
-use Rattle.plan_promises.proofs.Refused as ProvedPlan
-use Rattle.plan_promises.proofs.Replies as ProvedReplies
+use Rattle.filling.specs.promises.Ample.{Ample, AmpleIntervals, AmpleStart, AmpleCalls}
+use Rattle.filling.specs.promises.Doubles.{isNumber, stateDoubles, roomDoubles, lentDoubles, planDoubles}
+use Rattle.filling.proofs.promises.Suffice as ProvedSuffice
+use Rattle.filling.proofs.promises.Left as ProvedLeft
+use Rattle.filling.proofs.promises.Doubles.{state-doubles, room-doubles, lent-doubles, plan-doubles}
+use Rattle.claims.specs.plan_promises.RefusalNumbers.{oneOf}
+use Rattle.claims.proofs.plan_promises.Demand1 as Proved1
+use Rattle.claims.proofs.plan_promises.Refused as ProvedPlan
+use Rattle.claims.proofs.plan_promises.Replies as ProvedReplies
 use Rattle.claims.specs.JobNumbers.{jobWithin}
 use Rattle.claims.proofs.Within.{job-within}
 use Rattle.claims.proofs.ExactLines as ProvedLines

@@ -15,15 +15,15 @@ use Rattle.numbers.proofs.Literals.{milli}
 use Rattle.numbers.proofs.Doubles.{k, o, u, Small, finite}
 use Rattle.bits.specs.Fields.{coordinateRange, areaRange, resolutionRange}
 use Rattle.bits.proofs.Accepted.{UpFrom}
-use Rattle.sets.specs.Sets.{Set}
-use Rattle.sets.proofs.Accepted.{Coordinates, Good}
+use Rattle.kinds.specs.sets.Sets.{Set}
+use Rattle.kinds.proofs.sets.Accepted.{Coordinates, Good}
 use Rattle.kinds.specs.Kinds.{Orientation, Kind}
 use Rattle.kinds.proofs.Accepted.{Every, GoodSets, GoodKind}
 use Rattle.job.specs.Jobs.{Job, accepted, readJob}
 use Rattle.job.proofs.Accepted.{job-good}
 use Rattle.filling.specs.Consistent.{every, resolutionFits}
 use Rattle.filling.proofs.WithinBoundsNumbers.{le-of-keys, resolution-fits}
-use Rattle.promises.proofs.Doubles.{number-is}
+use Rattle.filling.proofs.promises.Doubles.{number-is}
 use Rattle.claims.specs.JobNumbers.{doubleWithin, countWithin, setWithin, orientationWithin, kindWithin, jobWithin}
 
 -- ---- doubles

@@ -5,11 +5,11 @@ use lib.ListN.{length}
 use lib.Dec.{leb}
 use lib.Ieee.{Float, le}
 use Rattle.bits.specs.Fields.{Range, coordinateRange, areaRange, resolutionRange}
-use Rattle.sets.specs.Sets.{Set}
+use Rattle.kinds.specs.sets.Sets.{Set}
 use Rattle.kinds.specs.Kinds.{Orientation, Kind}
 use Rattle.job.specs.Jobs.{Job}
 use Rattle.filling.specs.Consistent.{every}
-use Rattle.promises.specs.Doubles.{isNumber}
+use Rattle.filling.specs.promises.Doubles.{isNumber}
 
 -- finite, not minus zero, and within its range, limits included
 unfoldable pub doubleWithin : Range → Float → Bool

@@ -1,1 +1,2 @@
+pub mod plan_promises
 pub mod JobNumbers

@@ -8,19 +8,19 @@ use lib.ListN.{length, take, drop}
 use lib.Dec.{leb}
 use lib.Ieee.{Float}
 use borrow.Author.Tests.{lt-leb, le-leb}
-use Rattle.tracks.proofs.Parts.{rest-is}
+use Rattle.rooms.proofs.tracks.Parts.{rest-is}
 use Rattle.trapezoid.specs.Strip.{capacity}
 use Rattle.strips.specs.declared.Rect.{Rect}
 use Rattle.index.specs.declared.Index.{Index}
 use Rattle.index.specs.Buckets.{indexOf, entriesOf, standingCapacity}
-use Rattle.index.specs.Listing.{Laid}
-use Rattle.entries.specs.declared.Walked.{Walked}
-use Rattle.entries.specs.declared.Walked.the-variants.{At, Wrong}
-use Rattle.entries.specs.Walk.{follows, Known}
+use Rattle.index.specs.inner.Listing.{Laid}
+use Rattle.index.specs.declared.entries.Walked.{Walked}
+use Rattle.index.specs.declared.entries.Walked.the-variants.{At, Wrong}
+use Rattle.index.specs.entries.inner.Walk.{follows, Known}
 use Rattle.filling.specs.Consistent.{stripsFit, boundsFit, resolutionFits, layoutFits, entriesLie, entriesFor, sheetIndex}
 use Rattle.filling.proofs.EntryWalk.{ends, walk-decides}
-use Rattle.slot_tests.specs.Slots.{Slots, slots, slotsTest}
-use Rattle.consistent.specs.Tests.{stateTest, countsTest, standingTest, roomsTest}
+use Rattle.consistent.specs.slot_tests.inner.Slots.{Slots, slots, slotsTest}
+use Rattle.consistent.specs.inner.Tests.{stateTest, countsTest, standingTest, roomsTest}
 
 -- ---- strip counts
 

@@ -18,10 +18,10 @@ use Rattle.filling.specs.Search.{rangesOf, reversedFor}
 use Rattle.filling.specs.State.{Part, slotRows, rememberedOf, trackAt, apartRoom, insetRoom, shapeAt}
 use Rattle.filling.specs.State as States
 use Rattle.filling.specs.Consistent.{every, shapeFits, partFits, columnFits, trackFits, tracksFit, trackTableFits}
-use Rattle.columns.specs.Stands.{columnsOf, lastOf}
-use Rattle.columns.proofs.Same.{reversed-same, last-same}
-use Rattle.choose.specs.Choosing.{boundsAt, partAt}
-use Rattle.slot_tests.specs.Slots.{Slots, slots, partTest, lastFor, trackTest, shapeTest, slotTest, kindTest, slotsTest}
+use Rattle.search.specs.columns.inner.Stands.{columnsOf, lastOf}
+use Rattle.search.proofs.columns.Same.{reversed-same, last-same}
+use Rattle.choose.specs.inner.Choosing.{boundsAt, partAt}
+use Rattle.consistent.specs.slot_tests.inner.Slots.{Slots, slots, partTest, lastFor, trackTest, shapeTest, slotTest, kindTest, slotsTest}
 
 -- ---- one slot
 

@@ -17,9 +17,9 @@ use Rattle.filling.specs.Rooms.{Rooms}
 use Rattle.filling.specs.Order.{rearranged}
 use Rattle.filling.specs.State.{orientationCounts, plannerAt, orderOf, tracksOf}
 use Rattle.filling.specs.Consistent.{every, stripsFit, boundsFit, takenFits, stripCountsFit, partsFit, trackTableFits, resolutionFits, shapeFits, plannerFits, layoutFits, entriesLie, entriesFor, entriesFit, placedStrips, consistent}
-use Rattle.tables.specs.Tabled.{Tabled}
-use Rattle.slot_tests.specs.Slots.{Slots, slotsTest}
-use Rattle.consistent.specs.Tests.{stateOf, roomsOf, slotsOf, stateTest, countsTest, standingTest, roomsTest}
+use Rattle.accounts.specs.tables.inner.Tabled.{Tabled}
+use Rattle.consistent.specs.slot_tests.inner.Slots.{Slots, slotsTest}
+use Rattle.consistent.specs.inner.Tests.{stateOf, roomsOf, slotsOf, stateTest, countsTest, standingTest, roomsTest}
 use Rattle.consistent.proofs.SameSlots.{slots-same}
 
 -- ---- the same tests in another order

@@ -1,1 +1,3 @@
-pub mod Tests
+pub mod strip_tests
+pub mod slot_tests
+pub mod inner

@@ -1,5 +1,8 @@
 // Whether a single step's state and rooms agree (document 01, refusal 31): the definition's tests,
-// one function each, those first on which the safety of others rests. Only crates of ours call it.
+// one function each, those first on which the safety of others rests.
+pub mod slot_tests;
+pub mod strip_tests;
+
 ghost use mathlib.Core.Path.{_≡_};
 ghost use mathlib.Core.Bool.{true};
 ghost use mathlib.Core.List.{List};
@@ -9,17 +12,17 @@ ghost use lib.Dec.{leb};
 ghost use lib.Ieee.{Float};
 ghost use Rattle.trapezoid.specs.Strip.{capacity};
 ghost use Rattle.index.specs.Buckets.{buckets, entriesOf};
-ghost use Rattle.index.specs.Listing.{Laid};
-ghost use Rattle.columns.proofs.Sizes.{BoundedRect, Resolving};
+ghost use Rattle.index.specs.inner.Listing.{Laid};
+ghost use Rattle.search.proofs.columns.Sizes.{BoundedRect, Resolving};
 ghost use Rattle.job.specs.Jobs.{Job};
 ghost use Rattle.filling.specs.Order.{rearranged};
 ghost use Rattle.filling.specs.Consistent.{entriesLie, sheetIndex, consistent};
-ghost use Rattle.tables.specs.Tabled.{Tabled};
-ghost use Rattle.slot_tests.specs.Slots.{Given, slotsTest};
-ghost use Rattle.consistent.specs.Tests.{stateOf, roomsOf, slotsOf, stateTest, countsTest, standingTest, roomsTest};
-use entries::Walked;
+ghost use Rattle.accounts.specs.tables.inner.Tabled.{Tabled};
+ghost use Rattle.consistent.specs.slot_tests.inner.Slots.{Given, slotsTest};
+ghost use Rattle.consistent.specs.inner.Tests.{stateOf, roomsOf, slotsOf, stateTest, countsTest, standingTest, roomsTest};
 use index::Entry;
 use index::Index;
+use index::entries::Walked;
 use strips::Rect;
 
 // The copies taken: at most the job's.
@@ -38,7 +41,9 @@ fn strip_counts_fit(
     shapes: &[f64],
     placed: &[f64],
 ) -> bool
-    ensures { λ r. ⌜ (r ≡ countsTest «sheet_strips» «apart_strips» «placed_strips» (now (sheet .entry)) (now (shapes .entry)) (now (placed .entry))) × (r ≡ true → (6 * «sheet_strips» ≤ length (now (sheet .entry))) × (6 * «apart_strips» ≤ length (now (shapes .entry))) × (6 * «placed_strips» ≤ length (now (placed .entry)))) ⌝ }
+    ensures { λ r. ⌜ (r ≡ countsTest «sheet_strips» «apart_strips» «placed_strips» (now (sheet .entry)) (now (shapes .entry)) (now (placed .entry)))
+        × (r ≡ true → (6 * «sheet_strips» ≤ length (now (sheet .entry))) × (6 * «apart_strips» ≤ length (now (shapes .entry)))
+        × (6 * «placed_strips» ≤ length (now (placed .entry)))) ⌝ }
 {
     if sheet_strips > index::standing_capacity(sheet) {
         return false;
@@ -62,7 +67,9 @@ fn state_fits(
     copies: usize,
 ) -> bool
     requires { ⌜ (kinds ≤ 64) × (256 ≤ length (now rows)) × (copies ≤ length (now order)) ⌝ }
-    ensures { λ r. ⌜ ((j : Job) (areas : List Float) → Tabled j (now (rows .entry)) areas → length (j .kinds) ≡ kinds → j .copies ≡ copies → r ≡ stateTest taken copies resolution bounds right «unplaced_area» (rearranged j (take copies (now (order .entry))))) × (r ≡ true → (taken ≤ copies) × BoundedRect bounds × Resolving resolution) ⌝ }
+    ensures { λ r. ⌜ ((j : Job) (areas : List Float) → Tabled j (now (rows .entry)) areas → length (j .kinds) ≡ kinds → j .copies ≡ copies
+        → r ≡ stateTest taken copies resolution bounds right «unplaced_area» (rearranged j (take copies (now (order .entry)))))
+        × (r ≡ true → (taken ≤ copies) × BoundedRect bounds × Resolving resolution) ⌝ }
 {
     if !taken_fits(taken, copies) {
         return false;
@@ -76,15 +83,16 @@ fn state_fits(
     if !strip_tests::layout_fits(right, unplaced_area) {
         return false;
     }
-    order::rearranged(&order[..copies], rows, kinds, copies)
+    accounts::order::rearranged(&order[..copies], rows, kinds, copies)
 }
 
 // The room begins with the entries of the strips; if so, starts has where each bucket's begin.
 fn entries_lie(ix: Index, part: &[f64], entries: &[Entry], starts: &mut [usize]) -> bool
     requires { ⌜ length (now starts) ≡ buckets + 1 ⌝ }
-    ensures { λ r. ⌜ (r ≡ entriesLie (entriesOf ix (now (part .entry)) (capacity (now (part .entry)))) (now (entries .entry))) × (r ≡ true → Laid ix (now (part .entry)) (capacity (now (part .entry))) (now (entries .entry)) (now (starts .exit))) ⌝ }
+    ensures { λ r. ⌜ (r ≡ entriesLie (entriesOf ix (now (part .entry)) (capacity (now (part .entry)))) (now (entries .entry)))
+        × (r ≡ true → Laid ix (now (part .entry)) (capacity (now (part .entry))) (now (entries .entry)) (now (starts .exit))) ⌝ }
 {
-    match entries::walk_all(ix, part, trapezoid::capacity(part), entries, starts) {
+    match index::entries::walk_all(ix, part, trapezoid::capacity(part), entries, starts) {
         Walked::At(_) => true,
         Walked::Wrong => false,
     }
@@ -101,7 +109,9 @@ fn standing_fit(
     placed_starts: &mut [usize],
 ) -> bool
     requires { ⌜ (length (now «sheet_starts») ≡ buckets + 1) × (length (now «placed_starts») ≡ buckets + 1) ⌝ }
-    ensures { λ r. ⌜ (r ≡ standingTest bounds (now (sheet .entry)) (now (placed .entry)) (now («sheet_entries» .entry)) (now («placed_entries» .entry))) × (r ≡ true → Laid (sheetIndex bounds) (now (sheet .entry)) (capacity (now (sheet .entry))) (now («sheet_entries» .entry)) (now («sheet_starts» .exit)) × Laid (sheetIndex bounds) (now (placed .entry)) (capacity (now (placed .entry))) (now («placed_entries» .entry)) (now («placed_starts» .exit))) ⌝ }
+    ensures { λ r. ⌜ (r ≡ standingTest bounds (now (sheet .entry)) (now (placed .entry)) (now («sheet_entries» .entry)) (now («placed_entries» .entry)))
+        × (r ≡ true → Laid (sheetIndex bounds) (now (sheet .entry)) (capacity (now (sheet .entry))) (now («sheet_entries» .entry)) (now («sheet_starts» .exit))
+        × Laid (sheetIndex bounds) (now (placed .entry)) (capacity (now (placed .entry))) (now («placed_entries» .entry)) (now («placed_starts» .exit))) ⌝ }
 {
     if !strip_tests::strips_fit(sheet) {
         return false;
@@ -130,8 +140,10 @@ fn shapes_fit<'a>(
     kinds: usize,
     shapes: &'a [f64],
 ) -> bool
-    requires { ⌜ Given (slotsOf bounds resolution taken (now «inset_bounds») (now parts) (now shapes) «apart_strips» (now «next_column») (now «look_counts»)) × (6 * «apart_strips» ≤ length (now shapes)) × (kinds ≤ 64) × (256 ≤ length (now rows)) × ((k : ℕ) → k < kinds → getD (now rows) (4 * k + 3) 0 ≤ 16) ⌝ }
-    ensures { λ r. ⌜ r ≡ slotsTest (slotsOf bounds resolution taken (now («inset_bounds» .entry)) (now (parts .entry)) (now (shapes .entry)) «apart_strips» (now («next_column» .entry)) (now («look_counts» .entry))) (now (rows .entry)) kinds ⌝ }
+    requires { ⌜ Given (slotsOf bounds resolution taken (now «inset_bounds») (now parts) (now shapes) «apart_strips» (now «next_column») (now «look_counts»))
+        × (6 * «apart_strips» ≤ length (now shapes)) × (kinds ≤ 64) × (256 ≤ length (now rows)) × ((k : ℕ) → k < kinds → getD (now rows) (4 * k + 3) 0 ≤ 16) ⌝ }
+    ensures { λ r. ⌜ r ≡ slotsTest (slotsOf bounds resolution taken (now («inset_bounds» .entry)) (now (parts .entry)) (now (shapes .entry)) «apart_strips»
+        (now («next_column» .entry)) (now («look_counts» .entry))) (now (rows .entry)) kinds ⌝ }
 {
     let end = 6 * apart_strips;
     slot_tests::slots_fit(
@@ -171,9 +183,16 @@ fn rooms_fit(
     sheet_starts: &mut [usize],
     placed_starts: &mut [usize],
 ) -> bool
-    requires { ⌜ Given (slotsOf bounds resolution taken (now «inset_bounds») (now parts) (now shapes) «apart_strips» (now «next_column») (now «look_counts»)) × (kinds ≤ 64) × (256 ≤ length (now rows)) × ((k : ℕ) → k < kinds → getD (now rows) (4 * k + 3) 0 ≤ 16) × (length (now «sheet_starts») ≡ buckets + 1) × (length (now «placed_starts») ≡ buckets + 1) ⌝ }
-    ensures { λ r. ⌜ (r ≡ roomsTest (slotsOf bounds resolution taken (now («inset_bounds» .entry)) (now (parts .entry)) (now (shapes .entry)) «apart_strips» (now («next_column» .entry)) (now («look_counts» .entry))) (now (rows .entry)) kinds (countsTest «sheet_strips» «apart_strips» «placed_strips» (now (sheet .entry)) (now (shapes .entry)) (now (placed .entry))) (standingTest bounds (take (6 * «sheet_strips») (now (sheet .entry))) (take (6 * «placed_strips») (now (placed .entry))) (now («sheet_entries» .entry)) (now («placed_entries» .entry))))
-        × (r ≡ true → Laid (sheetIndex bounds) (take (6 * «sheet_strips») (now (sheet .entry))) (capacity (take (6 * «sheet_strips») (now (sheet .entry)))) (now («sheet_entries» .entry)) (now («sheet_starts» .exit)) × Laid (sheetIndex bounds) (take (6 * «placed_strips») (now (placed .entry))) (capacity (take (6 * «placed_strips») (now (placed .entry)))) (now («placed_entries» .entry)) (now («placed_starts» .exit))) ⌝ }
+    requires { ⌜ Given (slotsOf bounds resolution taken (now «inset_bounds») (now parts) (now shapes) «apart_strips» (now «next_column») (now «look_counts»))
+        × (kinds ≤ 64) × (256 ≤ length (now rows)) × ((k : ℕ) → k < kinds → getD (now rows) (4 * k + 3) 0 ≤ 16) × (length (now «sheet_starts») ≡ buckets + 1)
+        × (length (now «placed_starts») ≡ buckets + 1) ⌝ }
+    ensures { λ r. ⌜ (r ≡ roomsTest (slotsOf bounds resolution taken (now («inset_bounds» .entry)) (now (parts .entry)) (now (shapes .entry)) «apart_strips»
+        (now («next_column» .entry)) (now («look_counts» .entry))) (now (rows .entry)) kinds (countsTest «sheet_strips» «apart_strips» «placed_strips»
+        (now (sheet .entry)) (now (shapes .entry)) (now (placed .entry))) (standingTest bounds (take (6 * «sheet_strips») (now (sheet .entry)))
+        (take (6 * «placed_strips») (now (placed .entry))) (now («sheet_entries» .entry)) (now («placed_entries» .entry))))
+        × (r ≡ true → Laid (sheetIndex bounds) (take (6 * «sheet_strips») (now (sheet .entry))) (capacity (take (6 * «sheet_strips») (now (sheet .entry))))
+        (now («sheet_entries» .entry)) (now («sheet_starts» .exit)) × Laid (sheetIndex bounds) (take (6 * «placed_strips») (now (placed .entry)))
+        (capacity (take (6 * «placed_strips») (now (placed .entry)))) (now («placed_entries» .entry)) (now («placed_starts» .exit))) ⌝ }
 {
     if !strip_counts_fit(
         sheet_strips,
@@ -241,10 +260,17 @@ pub fn consistent(
     sheet_starts: &mut [usize],
     placed_starts: &mut [usize],
 ) -> bool
-    requires { ⌜ (kinds ≤ 64) × (256 ≤ length (now rows)) × ((k : ℕ) → k < kinds → getD (now rows) (4 * k + 3) 0 ≤ 16) × (copies ≤ 4096) × (4096 ≤ length (now order)) × (4096 ≤ length (now «inset_bounds»)) × (4096 ≤ length (now parts)) × (1024 ≤ length (now «next_column»)) × (1024 ≤ length (now «look_counts»)) × (length (now «sheet_starts») ≡ buckets + 1) × (length (now «placed_starts») ≡ buckets + 1) ⌝ }
-    ensures { λ r. ⌜ ((j : Job) (areas : List Float) (orientation : List ℕ) (x y : List Float) → Tabled j (now (rows .entry)) areas → length (j .kinds) ≡ kinds → j .copies ≡ copies
-        → r ≡ consistent j (stateOf taken «placed_strips» right «unplaced_area» resolution bounds «sheet_strips» «apart_strips» (now («inset_bounds» .entry)) (now (parts .entry)) (now (order .entry)) (now («next_column» .entry)) (now («look_counts» .entry)) orientation x y) (roomsOf (now (shapes .entry)) (now (sheet .entry)) (now (placed .entry)) (now («sheet_entries» .entry)) (now («placed_entries» .entry))))
-        × (r ≡ true → Laid (sheetIndex bounds) (take (6 * «sheet_strips») (now (sheet .entry))) (capacity (take (6 * «sheet_strips») (now (sheet .entry)))) (now («sheet_entries» .entry)) (now («sheet_starts» .exit)) × Laid (sheetIndex bounds) (take (6 * «placed_strips») (now (placed .entry))) (capacity (take (6 * «placed_strips») (now (placed .entry)))) (now («placed_entries» .entry)) (now («placed_starts» .exit))) ⌝ }
+    requires { ⌜ (kinds ≤ 64) × (256 ≤ length (now rows)) × ((k : ℕ) → k < kinds → getD (now rows) (4 * k + 3) 0 ≤ 16) × (copies ≤ 4096)
+        × (4096 ≤ length (now order)) × (4096 ≤ length (now «inset_bounds»)) × (4096 ≤ length (now parts)) × (1024 ≤ length (now «next_column»))
+        × (1024 ≤ length (now «look_counts»)) × (length (now «sheet_starts») ≡ buckets + 1) × (length (now «placed_starts») ≡ buckets + 1) ⌝ }
+    ensures { λ r. ⌜ ((j : Job) (areas : List Float) (orientation : List ℕ) (x y : List Float) → Tabled j (now (rows .entry)) areas → length (j .kinds) ≡ kinds
+        → j .copies ≡ copies
+        → r ≡ consistent j (stateOf taken «placed_strips» right «unplaced_area» resolution bounds «sheet_strips» «apart_strips» (now («inset_bounds» .entry))
+        (now (parts .entry)) (now (order .entry)) (now («next_column» .entry)) (now («look_counts» .entry)) orientation x y)
+        (roomsOf (now (shapes .entry)) (now (sheet .entry)) (now (placed .entry)) (now («sheet_entries» .entry)) (now («placed_entries» .entry))))
+        × (r ≡ true → Laid (sheetIndex bounds) (take (6 * «sheet_strips») (now (sheet .entry))) (capacity (take (6 * «sheet_strips») (now (sheet .entry))))
+        (now («sheet_entries» .entry)) (now («sheet_starts» .exit)) × Laid (sheetIndex bounds) (take (6 * «placed_strips») (now (placed .entry)))
+        (capacity (take (6 * «placed_strips») (now (placed .entry)))) (now («placed_entries» .entry)) (now («placed_starts» .exit))) ⌝ }
 {
     if state_fits(
         taken,

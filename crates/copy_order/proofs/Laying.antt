@@ -7,9 +7,9 @@ use mathlib.Core.List.{List, [], _∷_, _++_, flatMap, append-assoc, append-nil}
 use lib.ListN.{length, getD, set, drop, replicate, length-append, length-drop, length-replicate, replicate-append-replicate}
 use lib.Seq.{drop-cons, set-append-seam, append-snoc}
 use Rattle.filling.specs.Rooms.{laid}
-use Rattle.slab.specs.Tables.{down}
+use Rattle.slab.specs.inner.Tables.{down}
 use Rattle.slab.proofs.Sorting.{down-suc}
-use Rattle.copy_order.specs.KindTables.{copiesAt}
+use Rattle.copy_order.specs.inner.KindTables.{copiesAt}
 
 length-laid : (xs room : List ℕ) → length (laid xs room) ≡ length xs + (length room - length xs)
 unfolding laid

@@ -10,7 +10,7 @@ use lib.Seq.{getD-set-same, getD-set-other}
 use borrow.Author.Tests.{eqb-true, eqb-false}
 use lib.Dec.{eqb}
 use Rattle.slab.specs.Slab.{up, insert, sort}
-use Rattle.slab.specs.Tables.{down}
+use Rattle.slab.specs.inner.Tables.{down}
 use Rattle.slab.proofs.Sorting.{over, insert-step, insert-last, up-cons}
 
 -- the number at place i of a line

@@ -11,7 +11,7 @@ use lib.Ieee.{Float, nan, lt, eq}
 use borrow.Author.Tests.{le-ltb, eq-eqb, ne-eqb}
 use Rattle.kinds.specs.Kinds.{lower, signed}
 use Rattle.nesting.specs.CopyOrder.{Numbered, samePriority, largerFirst, higherFirst, ahead}
-use Rattle.copy_order.specs.KindTables.{numberedAt}
+use Rattle.copy_order.specs.inner.KindTables.{numberedAt}
 
 -- a number past 32 bits stands for −1, as 4,294,967,295 does
 pub past-bits : (p : ℕ) → 4294967296 ≤ p → signed 4294967295 ≡ signed p

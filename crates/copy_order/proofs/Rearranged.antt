@@ -16,8 +16,8 @@ use Rattle.filling.specs.Order.{countIn, inFull, rearranged}
 use Rattle.filling.proofs.CountIn.{count-none, count-append}
 use Rattle.nesting.specs.CopyOrder.{Numbered, numbered, ahead, copyOrder}
 use Rattle.nesting.specs.Rounds.{noKind, swapped}
-use Rattle.tables.specs.Tabled.{Tabled}
-use Rattle.copy_order.specs.KindTables.{copiesIn}
+use Rattle.accounts.specs.tables.inner.Tabled.{Tabled}
+use Rattle.copy_order.specs.inner.KindTables.{copiesIn}
 use Rattle.copy_order.proofs.Sorted.{sort-measure, flatMap-map}
 use Rattle.copy_order.proofs.Tabling.{copiesOfKind, bare, all-copies, tabled-kinds}
 

@@ -9,15 +9,15 @@ use lib.IntN.{ℤ}
 use lib.Dec.{eqb}
 use lib.Ieee.{Float, nan}
 use Rattle.slab.specs.Slab.{up, sort}
-use Rattle.slab.specs.Tables.{down}
+use Rattle.slab.specs.inner.Tables.{down}
 use Rattle.slab.proofs.Sorting.{up-snoc}
 use Rattle.kinds.specs.Kinds.{Kind, signed}
 use Rattle.job.specs.Jobs.{Job}
 use Rattle.filling.proofs.Steps.{flatMap-snoc}
-use Rattle.tables.specs.Tabled.{Tabled}
+use Rattle.accounts.specs.tables.inner.Tabled.{Tabled}
 use Rattle.nesting.specs.CopyOrder.{Numbered, numbered, samePriority, largerFirst, higherFirst, ahead, copyOrder}
 use Rattle.nesting.specs.Rounds.{noKind}
-use Rattle.copy_order.specs.KindTables.{numberedAt, copiesAt, copiesIn}
+use Rattle.copy_order.specs.inner.KindTables.{numberedAt, copiesAt, copiesIn}
 use Rattle.copy_order.proofs.Lines.{at}
 use Rattle.copy_order.proofs.Sorted.{sort-measure, sort-map, flatMap-map}
 

@@ -1,1 +1,1 @@
-pub mod KindTables
+pub mod inner

@@ -9,13 +9,13 @@ ghost use lib.ListN.{length, getD, replicate};
 ghost use lib.Dec.{ltb, eqb};
 ghost use lib.Ieee.{nan, lt, eq};
 ghost use Rattle.slab.specs.Slab.{up, insert, sort};
-ghost use Rattle.slab.specs.Tables.{down};
+ghost use Rattle.slab.specs.inner.Tables.{down};
 ghost use Rattle.kinds.specs.Kinds.{lower, signed};
 ghost use Rattle.job.specs.Jobs.{Job};
 ghost use Rattle.filling.specs.Rooms.{laid};
-ghost use Rattle.tables.specs.Tabled.{Tabled};
+ghost use Rattle.accounts.specs.tables.inner.Tabled.{Tabled};
 ghost use Rattle.nesting.specs.CopyOrder.{higherFirst, ahead, copyOrder};
-ghost use Rattle.copy_order.specs.KindTables.{numberedAt, copiesAt, copiesIn};
+ghost use Rattle.copy_order.specs.inner.KindTables.{numberedAt, copiesAt, copiesIn};
 
 // Kind k's priority as 32 bits. A number past them would stand for −1, as `signed` has it.
 fn priority_at(rows: &[u64], k: usize) -> u64
@@ -40,7 +40,8 @@ pub fn lower_at(rows: &[u64], a: usize, b: usize) -> bool
 // Larger area first, smaller kind number.
 fn larger_first(areas: &[f64], a: usize, b: usize) -> bool
     requires { ⌜ (a < length (now areas)) × (b < length (now areas)) ⌝ }
-    ensures { λ r. ⌜ r ≡ (lt (getD (now (areas .entry)) b nan) (getD (now (areas .entry)) a nan) || eq (getD (now (areas .entry)) b nan) (getD (now (areas .entry)) a nan) && ltb a b) ⌝ }
+    ensures { λ r. ⌜ r ≡ (lt (getD (now (areas .entry)) b nan) (getD (now (areas .entry)) a nan) || eq (getD (now (areas .entry)) b nan)
+        (getD (now (areas .entry)) a nan) && ltb a b) ⌝ }
 {
     let x = areas[a];
     let y = areas[b];
@@ -89,7 +90,9 @@ fn ahead(rows: &[u64], areas: &[f64], a: usize, b: usize) -> bool
 // Kind k goes to its place among the n kinds of the line, whose first stands last.
 fn insert_kind(rows: &[u64], areas: &[f64], line: &mut [usize], n: usize, k: usize)
     requires { ⌜ (k < 64) × (n < length (now line)) × (256 ≤ length (now rows)) × (64 ≤ length (now areas)) × ((i : ℕ) → i < n → getD (now line) i 0 < 64) ⌝ }
-    ensures { λ _. ⌜ (down (λ (i : ℕ). numberedAt (now (rows .entry)) (now (areas .entry)) (getD (now (line .exit)) i 0)) (n + 1) ≡ insert ahead (numberedAt (now (rows .entry)) (now (areas .entry)) k) (down (λ (i : ℕ). numberedAt (now (rows .entry)) (now (areas .entry)) (getD (now (line .entry)) i 0)) n))
+    ensures { λ _. ⌜ (down (λ (i : ℕ). numberedAt (now (rows .entry)) (now (areas .entry)) (getD (now (line .exit)) i 0)) (n + 1) ≡ insert ahead
+        (numberedAt (now (rows .entry)) (now (areas .entry)) k)
+        (down (λ (i : ℕ). numberedAt (now (rows .entry)) (now (areas .entry)) (getD (now (line .entry)) i 0)) n))
         × ((i : ℕ) → i < n + 1 → getD (now (line .exit)) i 0 < 64) ⌝ }
 {
     let mut i = n;
@@ -108,7 +111,8 @@ fn insert_kind(rows: &[u64], areas: &[f64], line: &mut [usize], n: usize, k: usi
 // The kinds, sorted; the first stands last.
 fn sort_kinds(rows: &[u64], areas: &[f64], kinds: usize, line: &mut [usize])
     requires { ⌜ (kinds ≤ 64) × (64 ≤ length (now line)) × (256 ≤ length (now rows)) × (64 ≤ length (now areas)) ⌝ }
-    ensures { λ _. ⌜ (down (λ (i : ℕ). numberedAt (now (rows .entry)) (now (areas .entry)) (getD (now (line .exit)) i 0)) kinds ≡ sort ahead (up (numberedAt (now (rows .entry)) (now (areas .entry))) 0 kinds))
+    ensures { λ _. ⌜ (down (λ (i : ℕ). numberedAt (now (rows .entry)) (now (areas .entry)) (getD (now (line .exit)) i 0)) kinds
+        ≡ sort ahead (up (numberedAt (now (rows .entry)) (now (areas .entry))) 0 kinds))
         × ((i : ℕ) → i < kinds → getD (now (line .exit)) i 0 < 64) ⌝ }
 {
     let mut k = kinds;
@@ -132,8 +136,10 @@ fn put_copies(order: &mut [usize], at: usize, n: usize, k: usize)
 
 // The copies of the sorted kinds; how many.
 fn put_kinds(rows: &[u64], kinds: usize, line: &[usize], order: &mut [usize]) -> usize
-    requires { ⌜ (kinds ≤ length (now line)) × (256 ≤ length (now rows)) × ((i : ℕ) → i < kinds → getD (now line) i 0 < 64) × (length (flatMap (copiesAt (now rows)) (down (λ (i : ℕ). getD (now line) i 0) kinds)) ≤ length (now order)) ⌝ }
-    ensures { λ r. ⌜ (r ≡ length (flatMap (copiesAt (now (rows .entry))) (down (λ (i : ℕ). getD (now (line .entry)) i 0) kinds))) × (now (order .exit) ≡ laid (flatMap (copiesAt (now (rows .entry))) (down (λ (i : ℕ). getD (now (line .entry)) i 0) kinds)) (now (order .entry))) ⌝ }
+    requires { ⌜ (kinds ≤ length (now line)) × (256 ≤ length (now rows)) × ((i : ℕ) → i < kinds → getD (now line) i 0 < 64)
+        × (length (flatMap (copiesAt (now rows)) (down (λ (i : ℕ). getD (now line) i 0) kinds)) ≤ length (now order)) ⌝ }
+    ensures { λ r. ⌜ (r ≡ length (flatMap (copiesAt (now (rows .entry))) (down (λ (i : ℕ). getD (now (line .entry)) i 0) kinds)))
+        × (now (order .exit) ≡ laid (flatMap (copiesAt (now (rows .entry))) (down (λ (i : ℕ). getD (now (line .entry)) i 0) kinds)) (now (order .entry))) ⌝ }
 {
     let mut i = kinds;
     let mut at = 0;
@@ -150,7 +156,8 @@ fn put_kinds(rows: &[u64], kinds: usize, line: &[usize], order: &mut [usize]) ->
 // The kinds of the job's copies, in their order; how many copies.
 pub fn copy_order(rows: &[u64], areas: &[f64], kinds: usize, order: &mut [usize]) -> usize
     requires { ⌜ (kinds ≤ 64) × (256 ≤ length (now rows)) × (64 ≤ length (now areas)) × (copiesIn (now rows) kinds ≤ length (now order)) ⌝ }
-    ensures { λ r. ⌜ ((j : Job) → Tabled j (now (rows .entry)) (now (areas .entry)) → length (j .kinds) ≡ kinds → (r ≡ length (copyOrder j)) × (now (order .exit) ≡ laid (copyOrder j) (now (order .entry)))) ⌝ }
+    ensures { λ r. ⌜ ((j : Job) → Tabled j (now (rows .entry)) (now (areas .entry)) → length (j .kinds) ≡ kinds → (r ≡ length (copyOrder j))
+        × (now (order .exit) ≡ laid (copyOrder j) (now (order .entry)))) ⌝ }
 {
     let mut line = [0usize; 64];
     sort_kinds(rows, areas, kinds, &mut line);

@@ -15,26 +15,26 @@ use Rattle.numbers.proofs.Truth.{either, below-or-not}
 use Rattle.trapezoid.specs.Strip.{stripAt}
 use Rattle.index.specs.declared.Index.{Index}
 use Rattle.index.specs.Buckets.{buckets, bucketIn}
-use Rattle.index.specs.Listing.{Laid, covers, entered}
-use Rattle.enter.specs.EntryRoom.{startOf, Rooms, enterOf}
-use Rattle.enter.specs.Gaps.{rooms, entering, Counted, Blocks, filled}
-use Rattle.gaps.specs.OpenGaps.{before, Opened}
+use Rattle.index.specs.inner.Listing.{Laid, covers, enteredFrom}
+use Rattle.enter.specs.inner.EntryRoom.{startOf, Rooms, enterOf}
+use Rattle.enter.specs.inner.Gaps.{rooms, entering, Counted, Blocks, filled}
+use Rattle.gaps.specs.inner.OpenGaps.{before, Opened}
 use Rattle.enter.proofs.Starts.{start-first, start-next, start-rise, entered-yes, entered-no, entered-more, covers-parts, covers-yes, start-gain, start-last, laid-starts, laid-holds, laid-entries, laid-table, enter-fits, enter-over}
 
 -- ---- open gaps are blocks of the old entries, where the new lists begin
-pub opened-blocks : (ix : Index) (standing : List Float) (m c : ℕ) (g e₀ st e s : List ℕ) → Laid ix standing m e₀ st → Counted ix standing c m g → Opened buckets st g e₀ 0 e s → Blocks (startOf ix standing (m + c)) (entered ix standing m) e s
+pub opened-blocks : (ix : Index) (standing : List Float) (m c : ℕ) (g e₀ st e s : List ℕ) → Laid ix standing m e₀ st → Counted ix standing c m g → Opened buckets st g e₀ 0 e s → Blocks (startOf ix standing (m + c)) (enteredFrom ix standing m) e s
 opened-blocks ix standing m c g e₀ st e s L C O = record { table = O .table ∙ L .table; first = O .old 0 (omega arith) ∙ L .first; ends = ends; holds = holds }
   where
     begins : (b : ℕ) → b ≤ buckets → startOf ix standing (m + c) b ≡ getD st b 0 + before g b
     begins b h = start-gain ix standing m c g C b h ∙ ap (λ (k : ℕ). k + before g b) (sym (laid-starts ix standing m e₀ st L b h))
 
-    next : (b : ℕ) → b < buckets → getD st (b + 1) 0 ≡ getD st b 0 + length (entered ix standing m b)
+    next : (b : ℕ) → b < buckets → getD st (b + 1) 0 ≡ getD st b 0 + length (enteredFrom ix standing m b)
     next b h = let a = laid-starts ix standing m e₀ st L b (omega arith) in let d = laid-starts ix standing m e₀ st L (b + 1) (omega arith) in let f = start-next ix standing m b in omega arith
 
-    ends : (b : ℕ) → b < buckets → getD s (b + 1) 0 ≡ startOf ix standing (m + c) b + length (entered ix standing m b)
+    ends : (b : ℕ) → b < buckets → getD s (b + 1) 0 ≡ startOf ix standing (m + c) b + length (enteredFrom ix standing m b)
     ends b h = let a = O .new b (omega arith) h in let d = begins b (omega arith) in let f = next b h in omega arith
 
-    holds : (b : ℕ) → b < buckets → (j : ℕ) → j < length (entered ix standing m b) → getD e (startOf ix standing (m + c) b + j) 0 ≡ getD (entered ix standing m b) j 0
+    holds : (b : ℕ) → b < buckets → (j : ℕ) → j < length (enteredFrom ix standing m b) → getD e (startOf ix standing (m + c) b + j) 0 ≡ getD (enteredFrom ix standing m b) j 0
     holds b h j l =
         let d = begins b (omega arith) in
         let f = next b h in
@@ -130,13 +130,13 @@ module _ (ix : Index) (standing : List Float) (i n : ℕ) (less : i < n) where
 
   -- the buckets before b have the strip's number already
   mix : ℕ → ℕ → List ℕ
-  mix b c = elim (ltb c b) [ true ↦ entered ix standing (i + 1) c | false ↦ entered ix standing i c ]
+  mix b c = elim (ltb c b) [ true ↦ enteredFrom ix standing (i + 1) c | false ↦ enteredFrom ix standing i c ]
 
-  mix-before : (b c : ℕ) → c < b → mix b c ≡ entered ix standing (i + 1) c
+  mix-before : (b c : ℕ) → c < b → mix b c ≡ enteredFrom ix standing (i + 1) c
   unfolding mix
   mix-before b c h = rw (lt-ltb c b h, mix)
 
-  mix-after : (b c : ℕ) → b ≤ c → mix b c ≡ entered ix standing i c
+  mix-after : (b c : ℕ) → b ≤ c → mix b c ≡ enteredFrom ix standing i c
   unfolding mix
   mix-after b c h = rw (le-ltb c b h, mix)
 
@@ -148,10 +148,10 @@ module _ (ix : Index) (standing : List Float) (i n : ℕ) (less : i < n) where
       go (inr h) = let a = start-next ix standing n c in let d = entered-more ix standing i n c (omega arith) in let f = ap length (mix-after b c h) in omega arith
 
   -- bucket b has room for one more
-  pub room-for : (b : ℕ) → lo ≤ b → b ≤ hi → at b + length (entered ix standing i b) < at (b + 1)
+  pub room-for : (b : ℕ) → lo ≤ b → b ≤ hi → at b + length (enteredFrom ix standing i b) < at (b + 1)
   room-for b a d =
       let u = entered-yes ix standing i b (covers-yes ix standing i b a d) in
-      let v : length (entered ix standing (i + 1) b) ≡ length (entered ix standing i b) + 1 = ap length u ∙ length-append (entered ix standing i b) (i ∷ []) in
+      let v : length (enteredFrom ix standing (i + 1) b) ≡ length (enteredFrom ix standing i b) + 1 = ap length u ∙ length-append (enteredFrom ix standing i b) (i ∷ []) in
       let w = entered-more ix standing (i + 1) n b (omega arith) in
       let z = start-next ix standing n b in
       omega arith
@@ -197,43 +197,43 @@ module _ (ix : Index) (standing : List Float) (i n : ℕ) (less : i < n) where
           → Blocks at (mix (b + suc c)) (filled i (suc c) b r .entries) (filled i (suc c) b r .starts) × (length (filled i (suc c) b r .entries) ≡ length (r .entries)) × ((j : ℕ) → at buckets ≤ j → getD (filled i (suc c) b r .entries) j 0 ≡ getD (r .entries) j 0)
       go t = let e : suc b + c ≡ b + suc c = omega arith in (rw (← e) (t .0), t .1 ∙ length-set (r .entries) (getD (r .starts) (b + 1) 0) i, λ j z. t .2 j z ∙ outside j z)
 
-  -- a bucket that the strip is not entered in stays
-  pub stays : (c : ℕ) → (lo ≤ c → c ≤ hi → ⊥) → entered ix standing (i + 1) c ≡ entered ix standing i c
+  -- a bucket that the strip is not enteredFrom in stays
+  pub stays : (c : ℕ) → (lo ≤ c → c ≤ hi → ⊥) → enteredFrom ix standing (i + 1) c ≡ enteredFrom ix standing i c
   stays c q = entered-no ix standing i c (go (either (covers ix (stripAt standing i) c)))
     where
       go : (covers ix (stripAt standing i) c ≡ true) ⊎ (covers ix (stripAt standing i) c ≡ false) → covers ix (stripAt standing i) c ≡ false
       go (inl e) = let t = covers-parts ix standing i c e in absurd (q (t .0) (t .1))
       go (inr e) = e
 
-  pub filled-strip : (r : Rooms) → hi < buckets → at buckets ≤ length (r .entries) → Blocks at (entered ix standing i) (r .entries) (r .starts)
-      → Blocks at (entered ix standing (i + 1)) (filled i (hi + 1 - lo) lo r .entries) (filled i (hi + 1 - lo) lo r .starts) × (length (filled i (hi + 1 - lo) lo r .entries) ≡ length (r .entries)) × ((j : ℕ) → at buckets ≤ j → getD (filled i (hi + 1 - lo) lo r .entries) j 0 ≡ getD (r .entries) j 0)
+  pub filled-strip : (r : Rooms) → hi < buckets → at buckets ≤ length (r .entries) → Blocks at (enteredFrom ix standing i) (r .entries) (r .starts)
+      → Blocks at (enteredFrom ix standing (i + 1)) (filled i (hi + 1 - lo) lo r .entries) (filled i (hi + 1 - lo) lo r .starts) × (length (filled i (hi + 1 - lo) lo r .entries) ≡ length (r .entries)) × ((j : ℕ) → at buckets ≤ j → getD (filled i (hi + 1 - lo) lo r .entries) j 0 ≡ getD (r .entries) j 0)
   filled-strip r h w B = go (below-or-not hi lo)
     where
-      first : (c : ℕ) → c < buckets → entered ix standing i c ≡ mix lo c
+      first : (c : ℕ) → c < buckets → enteredFrom ix standing i c ≡ mix lo c
       first c a = at-c (below-or-not c lo)
         where
-          at-c : (c < lo) ⊎ (lo ≤ c) → entered ix standing i c ≡ mix lo c
+          at-c : (c < lo) ⊎ (lo ≤ c) → enteredFrom ix standing i c ≡ mix lo c
           at-c (inl z) = sym (mix-before lo c z ∙ stays c (λ p q. early p))
             where
               early : lo ≤ c → ⊥
               early p = omega arith
           at-c (inr z) = sym (mix-after lo c z)
 
-      last : lo ≤ hi → (c : ℕ) → c < buckets → mix (lo + (hi + 1 - lo)) c ≡ entered ix standing (i + 1) c
+      last : lo ≤ hi → (c : ℕ) → c < buckets → mix (lo + (hi + 1 - lo)) c ≡ enteredFrom ix standing (i + 1) c
       last l c a = at-c (below-or-not c (lo + (hi + 1 - lo)))
         where
-          at-c : (c < lo + (hi + 1 - lo)) ⊎ (lo + (hi + 1 - lo) ≤ c) → mix (lo + (hi + 1 - lo)) c ≡ entered ix standing (i + 1) c
+          at-c : (c < lo + (hi + 1 - lo)) ⊎ (lo + (hi + 1 - lo) ≤ c) → mix (lo + (hi + 1 - lo)) c ≡ enteredFrom ix standing (i + 1) c
           at-c (inl z) = mix-before (lo + (hi + 1 - lo)) c z
           at-c (inr z) = mix-after (lo + (hi + 1 - lo)) c z ∙ sym (stays c (λ p q. late q))
             where
               late : c ≤ hi → ⊥
               late q = omega arith
 
-      go : (hi < lo) ⊎ (lo ≤ hi) → Blocks at (entered ix standing (i + 1)) (filled i (hi + 1 - lo) lo r .entries) (filled i (hi + 1 - lo) lo r .starts) × (length (filled i (hi + 1 - lo) lo r .entries) ≡ length (r .entries)) × ((j : ℕ) → at buckets ≤ j → getD (filled i (hi + 1 - lo) lo r .entries) j 0 ≡ getD (r .entries) j 0)
+      go : (hi < lo) ⊎ (lo ≤ hi) → Blocks at (enteredFrom ix standing (i + 1)) (filled i (hi + 1 - lo) lo r .entries) (filled i (hi + 1 - lo) lo r .starts) × (length (filled i (hi + 1 - lo) lo r .entries) ≡ length (r .entries)) × ((j : ℕ) → at buckets ≤ j → getD (filled i (hi + 1 - lo) lo r .entries) j 0 ≡ getD (r .entries) j 0)
       go (inr l) =
-          let t = filled-mix (hi + 1 - lo) lo r (native.Mathlib.Nat.le-refl lo) (omega arith) h w (blocks-same at (entered ix standing i) (mix lo) (r .entries) (r .starts) first B) in
-          (blocks-same at (mix (lo + (hi + 1 - lo))) (entered ix standing (i + 1)) (filled i (hi + 1 - lo) lo r .entries) (filled i (hi + 1 - lo) lo r .starts) (last l) (t .0), t .1, t .2)
-      go (inl l) = rw (none) (blocks-same at (entered ix standing i) (entered ix standing (i + 1)) (r .entries) (r .starts) (λ c a. sym (stays c (λ p q. never p q))) B, refl, λ j z. refl)
+          let t = filled-mix (hi + 1 - lo) lo r (native.Mathlib.Nat.le-refl lo) (omega arith) h w (blocks-same at (enteredFrom ix standing i) (mix lo) (r .entries) (r .starts) first B) in
+          (blocks-same at (mix (lo + (hi + 1 - lo))) (enteredFrom ix standing (i + 1)) (filled i (hi + 1 - lo) lo r .entries) (filled i (hi + 1 - lo) lo r .starts) (last l) (t .0), t .1, t .2)
+      go (inl l) = rw (none) (blocks-same at (enteredFrom ix standing i) (enteredFrom ix standing (i + 1)) (r .entries) (r .starts) (λ c a. sym (stays c (λ p q. never p q))) B, refl, λ j z. refl)
         where
           z : hi + 1 - lo ≡ 0
           z = omega arith
@@ -245,7 +245,7 @@ module _ (ix : Index) (standing : List Float) (i n : ℕ) (less : i < n) where
           never p q = omega arith
 
 -- ---- full blocks are laid
-pub blocks-laid : (ix : Index) (standing : List Float) (n : ℕ) (e s : List ℕ) → 6 * n ≤ length standing → startOf ix standing n buckets ≤ length e → Blocks (startOf ix standing n) (entered ix standing n) e s → Laid ix standing n e s
+pub blocks-laid : (ix : Index) (standing : List Float) (n : ℕ) (e s : List ℕ) → 6 * n ≤ length standing → startOf ix standing n buckets ≤ length e → Blocks (startOf ix standing n) (enteredFrom ix standing n) e s → Laid ix standing n e s
 blocks-laid ix standing n e s m w B = record { table = B .table; first = B .first; rise = rise; within = within; block = block; room = m }
   where
     is : (b : ℕ) → b ≤ buckets → getD s b 0 ≡ startOf ix standing n b
@@ -260,13 +260,13 @@ blocks-laid ix standing n e s m w B = record { table = B .table; first = B .firs
     within : (b : ℕ) → b < buckets + 1 → getD s b 0 ≤ length e
     within b h = let x = is b (omega arith) in let z = start-rise ix standing n b buckets (omega arith) in omega arith
 
-    block : (b : ℕ) → b < buckets → slice (getD s b 0) (getD s (b + 1) 0) e ≡ entered ix standing n b
-    block b h = ext-getD 0 (slice (getD s b 0) (getD s (b + 1) 0) e) (entered ix standing n b) size (λ j l. each j (rw size at l))
+    block : (b : ℕ) → b < buckets → slice (getD s b 0) (getD s (b + 1) 0) e ≡ enteredFrom ix standing n b
+    block b h = ext-getD 0 (slice (getD s b 0) (getD s (b + 1) 0) e) (enteredFrom ix standing n b) size (λ j l. each j (rw size at l))
       where
-        size : length (slice (getD s b 0) (getD s (b + 1) 0) e) ≡ length (entered ix standing n b)
+        size : length (slice (getD s b 0) (getD s (b + 1) 0) e) ≡ length (enteredFrom ix standing n b)
         size = length-slice (getD s b 0) (getD s (b + 1) 0) e (within (b + 1) (omega arith)) ∙ (let x = is b (omega arith) in let y = B .ends b h in omega arith)
 
-        each : (j : ℕ) → j < length (entered ix standing n b) → getD (slice (getD s b 0) (getD s (b + 1) 0) e) j 0 ≡ getD (entered ix standing n b) j 0
+        each : (j : ℕ) → j < length (enteredFrom ix standing n b) → getD (slice (getD s b 0) (getD s (b + 1) 0) e) j 0 ≡ getD (enteredFrom ix standing n b) j 0
         each j l = getD-drop (getD s b 0) (lib.ListN.take (getD s (b + 1) 0) e) j 0 ∙ (getD-take (getD s (b + 1) 0) e (getD s b 0 + j) 0 (let x = is b (omega arith) in let y = B .ends b h in omega arith) ∙ (ap (λ (k : ℕ). getD e (k + j) 0) (is b (omega arith)) ∙ B .holds b h j l))
 
 -- ---- the loop over the buckets of a strip
@@ -283,7 +283,7 @@ filled-end i hi b e s h = let q : hi + 1 - b ≡ 0 = omega arith in ap (λ (k : 
 
 -- ---- one turn of the loop over the strips
 module _ (ix : Index) (standing : List Float) (i n lo hi : ℕ) (less : i < n) (A : lo ≡ bucketIn ix (stripAt standing i .x0)) (B : hi ≡ bucketIn ix (stripAt standing i .x1)) where
-  pub strip-room : (e s : List ℕ) → startOf ix standing n buckets ≤ length e → Blocks (startOf ix standing n) (entered ix standing i) e s → (b : ℕ) → lo ≤ b → b ≤ hi → getD s (b + 1) 0 < length e
+  pub strip-room : (e s : List ℕ) → startOf ix standing n buckets ≤ length e → Blocks (startOf ix standing n) (enteredFrom ix standing i) e s → (b : ℕ) → lo ≤ b → b ≤ hi → getD s (b + 1) 0 < length e
   strip-room e s w K b h l =
       let t = Rattle.index.proofs.Steps.bucket-top ix (stripAt standing i .x1) in
       let u = room-for ix standing i n less b (omega arith) (omega arith) in
@@ -291,13 +291,13 @@ module _ (ix : Index) (standing : List Float) (i n lo hi : ℕ) (less : i < n) (
       let z = start-rise ix standing n (b + 1) buckets (omega arith) in
       omega arith
 
-  pub fill-turn : (e s e' s' : List ℕ) → startOf ix standing n buckets ≤ length e → Blocks (startOf ix standing n) (entered ix standing i) e s → rooms e' s' ≡ filled i (hi + 1 - lo) lo (rooms e s)
-      → Blocks (startOf ix standing n) (entered ix standing (i + 1)) e' s' × (length e' ≡ length e) × ((j : ℕ) → startOf ix standing n buckets ≤ j → getD e' j 0 ≡ getD e j 0)
+  pub fill-turn : (e s e' s' : List ℕ) → startOf ix standing n buckets ≤ length e → Blocks (startOf ix standing n) (enteredFrom ix standing i) e s → rooms e' s' ≡ filled i (hi + 1 - lo) lo (rooms e s)
+      → Blocks (startOf ix standing n) (enteredFrom ix standing (i + 1)) e' s' × (length e' ≡ length e) × ((j : ℕ) → startOf ix standing n buckets ≤ j → getD e' j 0 ≡ getD e j 0)
   fill-turn e s e' s' w K q =
       let t = Rattle.index.proofs.Steps.bucket-top ix (stripAt standing i .x1) in
       let f = filled-strip ix standing i n less (rooms e s) (omega arith) w K in
       let p : rooms e' s' ≡ filled i (bucketIn ix (stripAt standing i .x1) + 1 - bucketIn ix (stripAt standing i .x0)) (bucketIn ix (stripAt standing i .x0)) (rooms e s) = q ∙ (ap (λ (k : ℕ). filled i (hi + 1 - k) k (rooms e s)) A ∙ ap (λ (k : ℕ). filled i (k + 1 - bucketIn ix (stripAt standing i .x0)) (bucketIn ix (stripAt standing i .x0)) (rooms e s)) B) in
-      subst (λ (r : Rooms). Blocks (startOf ix standing n) (entered ix standing (i + 1)) (r .entries) (r .starts) × (length (r .entries) ≡ length e) × ((j : ℕ) → startOf ix standing n buckets ≤ j → getD (r .entries) j 0 ≡ getD e j 0)) (sym p) f
+      subst (λ (r : Rooms). Blocks (startOf ix standing n) (enteredFrom ix standing (i + 1)) (r .entries) (r .starts) × (length (r .entries) ≡ length e) × ((j : ℕ) → startOf ix standing n buckets ≤ j → getD (r .entries) j 0 ≡ getD e j 0)) (sym p) f
 
 -- ---- a whole copy
 module _ (ix : Index) (standing : List Float) (m n : ℕ) (h : m ≤ n) (e₀ st g : List ℕ) (L : Laid ix standing m e₀ st) (C : Counted ix standing (n - m) m g) where
@@ -310,15 +310,15 @@ module _ (ix : Index) (standing : List Float) (m n : ℕ) (h : m ≤ n) (e₀ st
       let b = laid-starts ix standing m e₀ st L buckets (omega arith) in
       subst (λ (k : ℕ). startOf ix standing k buckets ≡ getD st buckets 0 + before g buckets) whole (omega arith)
 
-  pub copy-blocks : (e s : List ℕ) → Opened buckets st g e₀ 0 e s → Blocks (startOf ix standing n) (entered ix standing m) e s
-  copy-blocks e s O = subst (λ (k : ℕ). Blocks (startOf ix standing k) (entered ix standing m) e s) whole (opened-blocks ix standing m (n - m) g e₀ st e s L C O)
+  pub copy-blocks : (e s : List ℕ) → Opened buckets st g e₀ 0 e s → Blocks (startOf ix standing n) (enteredFrom ix standing m) e s
+  copy-blocks e s O = subst (λ (k : ℕ). Blocks (startOf ix standing k) (enteredFrom ix standing m) e s) whole (opened-blocks ix standing m (n - m) g e₀ st e s L C O)
 
   pub copy-laid : (e s e' s' : List ℕ) → 6 * n ≤ length standing → getD st buckets 0 + before g buckets ≤ length e₀ → Opened buckets st g e₀ 0 e s → length e' ≡ length e
-      → Blocks (startOf ix standing n) (entered ix standing n) e' s' → Laid ix standing n e' s'
+      → Blocks (startOf ix standing n) (enteredFrom ix standing n) e' s' → Laid ix standing n e' s'
   copy-laid e s e' s' w f O q B = blocks-laid ix standing n e' s' w (let a = all-entries in let b = O .size in omega arith) B
 
   pub copy-entered : (e s e' s' : List ℕ) → 6 * n ≤ length standing → getD st buckets 0 + before g buckets ≤ length e₀ → Opened buckets st g e₀ 0 e s → length e' ≡ length e
-      → Blocks (startOf ix standing n) (entered ix standing n) e' s' → ((j : ℕ) → startOf ix standing n buckets ≤ j → getD e' j 0 ≡ getD e j 0) → entering true e' s' ≡ enterOf ix standing n (rooms e₀ st)
+      → Blocks (startOf ix standing n) (enteredFrom ix standing n) e' s' → ((j : ℕ) → startOf ix standing n buckets ≤ j → getD e' j 0 ≡ getD e j 0) → entering true e' s' ≡ enterOf ix standing n (rooms e₀ st)
   copy-entered e s e' s' w f O q B r =
       let K = copy-laid e s e' s' w f O q B in
       let E = laid-entries ix standing n e' s' K e₀ (q ∙ O .size) (λ j a. r j a ∙ O .rest j (let z = all-entries in omega arith)) in

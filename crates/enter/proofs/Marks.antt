@@ -13,13 +13,13 @@ use Rattle.index.specs.declared.Index.{Index}
 use Rattle.index.specs.Buckets.{buckets, upFrom, bucketIn}
 use Rattle.index.proofs.Steps.{bucket-top}
 use Rattle.index.proofs.Flat.{getD-upFrom}
-use Rattle.enter.specs.EntryRoom.{startOf}
-use Rattle.marks.specs.NewEntries.{one, newIn, Within}
-use Rattle.marks.proofs.NewIn.{one-inside, one-outside, new-none, new-next}
-use Rattle.marks.proofs.Spans.{within-early, within-late}
-use Rattle.marks.proofs.Marking.{Marking}
-use Rattle.enter.specs.Gaps.{Counted}
-use Rattle.gaps.specs.OpenGaps.{before, Marked}
+use Rattle.enter.specs.inner.EntryRoom.{startOf}
+use Rattle.enter.specs.span_marks.inner.NewEntries.{one, newIn, Within}
+use Rattle.enter.proofs.span_marks.NewIn.{one-inside, one-outside, new-none, new-next}
+use Rattle.enter.proofs.span_marks.Spans.{within-early, within-late}
+use Rattle.enter.proofs.span_marks.Marking.{Marking}
+use Rattle.enter.specs.inner.Gaps.{Counted}
+use Rattle.gaps.specs.inner.OpenGaps.{before, Marked}
 use Rattle.gaps.proofs.Before.{before-first, before-next}
 use Rattle.enter.proofs.Starts.{start-gain, start-more}
 

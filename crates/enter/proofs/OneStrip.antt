@@ -1,4 +1,4 @@
--- One strip entered: a number at the end of each of its buckets, and all after that moved up. Assumes nothing.
+-- One strip enteredFrom: a number at the end of each of its buckets, and all after that moved up. Assumes nothing.
 use Prim.Native.Nat.{ℕ, _+_, _-_, _*_, _<_, _≤_, min}
 use native.Mathlib.Omega.{arith}
 use mathlib.Core.Path.{_≡_, refl, sym, ap, _∙_, subst}
@@ -12,17 +12,17 @@ use Rattle.numbers.proofs.Truth.{below-or-not}
 use Rattle.trapezoid.specs.Strip.{stripAt}
 use Rattle.index.specs.declared.Index.{Index}
 use Rattle.index.specs.Buckets.{buckets, bucketIn}
-use Rattle.index.specs.Listing.{Laid, entered}
+use Rattle.index.specs.inner.Listing.{Laid, enteredFrom}
 use Rattle.index.proofs.Steps.{bucket-top}
-use Rattle.enter.specs.EntryRoom.{startOf, enterOf}
-use Rattle.moves.specs.Moves.{Moved, Shifted}
-use Rattle.enter.specs.Gaps.{rooms, entering, Blocks}
-use Rattle.gaps.specs.OpenGaps.{Inserted, Stepped}
+use Rattle.enter.specs.inner.EntryRoom.{startOf, enterOf}
+use Rattle.moves.specs.inner.Moves.{Moved, Shifted}
+use Rattle.enter.specs.inner.Gaps.{rooms, entering, Blocks}
+use Rattle.gaps.specs.inner.OpenGaps.{Inserted, Stepped}
 use Rattle.enter.proofs.Starts.{start-next, start-last, entered-yes, covers-yes, laid-starts, laid-holds, laid-entries, laid-table, enter-fits}
 use Rattle.enter.proofs.GapFilling.{stays, blocks-laid}
 use Rattle.enter.proofs.Marks.{strip-starts}
 
--- ---- the strip is entered
+-- ---- the strip is enteredFrom
 module _ (ix : Index) (standing : List Float) (m lo hi width : ℕ) (e₀ st e₁ e s₁ s : List ℕ) (x : lo ≡ bucketIn ix (stripAt standing m .x0)) (y : hi ≡ bucketIn ix (stripAt standing m .x1)) (w : width ≡ hi + 1 - lo)
     (L : Laid ix standing m e₀ st) (M : Moved (getD st (lo + width) 0) (getD st buckets 0) width e₀ e₁) (I : Inserted lo width m st e₁ 0 e) (P : Stepped lo st width s₁) (S : Shifted (lo + width + 1) width s₁ (length s₁) s) where
   -- it ends in the last bucket at most
@@ -49,25 +49,25 @@ module _ (ix : Index) (standing : List Float) (m lo hi width : ℕ) (e₀ st e�
           let q : min (b - lo) width ≡ b - lo = omega arith in
           S .early b (omega arith) ∙ (P .done b l ∙ ap (λ (k : ℕ). getD st b 0 + k) (sym q))
 
-  next : (b : ℕ) → b < buckets → getD st (b + 1) 0 ≡ getD st b 0 + length (entered ix standing m b)
+  next : (b : ℕ) → b < buckets → getD st (b + 1) 0 ≡ getD st b 0 + length (enteredFrom ix standing m b)
   next b h = let a = laid-starts ix standing m e₀ st L b (omega arith) in let d = laid-starts ix standing m e₀ st L (b + 1) (omega arith) in let f = start-next ix standing m b in omega arith
 
   up : (b c : ℕ) → b ≤ c → c ≤ buckets → getD st b 0 ≤ getD st c 0
   up b c h l = L .rise b c h (omega arith)
 
-  holds : (b : ℕ) → b < buckets → (j : ℕ) → j < length (entered ix standing (m + 1) b) → getD e (startOf ix standing (m + 1) b + j) 0 ≡ getD (entered ix standing (m + 1) b) j 0
+  holds : (b : ℕ) → b < buckets → (j : ℕ) → j < length (enteredFrom ix standing (m + 1) b) → getD e (startOf ix standing (m + 1) b + j) 0 ≡ getD (enteredFrom ix standing (m + 1) b) j 0
   holds b h j l = go (below-or-not b lo) (below-or-not b (lo + width))
     where
-      same : (lo ≤ b → b ≤ hi → ⊥) → entered ix standing (m + 1) b ≡ entered ix standing m b
+      same : (lo ≤ b → b ≤ hi → ⊥) → enteredFrom ix standing (m + 1) b ≡ enteredFrom ix standing m b
       same q = stays ix standing m (m + 1) (omega arith) b (λ p r. q (omega arith) (omega arith))
 
-      old : entered ix standing (m + 1) b ≡ entered ix standing m b → (getD e (startOf ix standing (m + 1) b + j) 0 ≡ getD e₀ (getD st b 0 + j) 0) → getD e (startOf ix standing (m + 1) b + j) 0 ≡ getD (entered ix standing (m + 1) b) j 0
+      old : enteredFrom ix standing (m + 1) b ≡ enteredFrom ix standing m b → (getD e (startOf ix standing (m + 1) b + j) 0 ≡ getD e₀ (getD st b 0 + j) 0) → getD e (startOf ix standing (m + 1) b + j) 0 ≡ getD (enteredFrom ix standing (m + 1) b) j 0
       old q r = r ∙ (laid-holds ix standing m e₀ st L b h j (subst (λ (k : List ℕ). j < length k) q l) ∙ ap (λ (k : List ℕ). getD k j 0) (sym q))
 
-      long : entered ix standing (m + 1) b ≡ entered ix standing m b → getD st b 0 + j < getD st (b + 1) 0
-      long q = let z : j < length (entered ix standing m b) = subst (λ (k : List ℕ). j < length k) q l in let n = next b h in omega arith
+      long : enteredFrom ix standing (m + 1) b ≡ enteredFrom ix standing m b → getD st b 0 + j < getD st (b + 1) 0
+      long q = let z : j < length (enteredFrom ix standing m b) = subst (λ (k : List ℕ). j < length k) q l in let n = next b h in omega arith
 
-      early : b < lo → getD e (startOf ix standing (m + 1) b + j) 0 ≡ getD (entered ix standing (m + 1) b) j 0
+      early : b < lo → getD e (startOf ix standing (m + 1) b + j) 0 ≡ getD (enteredFrom ix standing (m + 1) b) j 0
       early a = old q
           (let p : startOf ix standing (m + 1) b + j ≡ getD st b 0 + j = (let z = at b (omega arith) in let y : min (b - lo) width ≡ 0 = omega arith in omega arith) in
           let g = long q in
@@ -79,10 +79,10 @@ module _ (ix : Index) (standing : List Float) (m lo hi width : ℕ) (e₀ st e�
           no : lo ≤ b → ⊥
           no p = omega arith
 
-          q : entered ix standing (m + 1) b ≡ entered ix standing m b
+          q : enteredFrom ix standing (m + 1) b ≡ enteredFrom ix standing m b
           q = same (λ p r. no p)
 
-      late : lo + width ≤ b → lo ≤ b → getD e (startOf ix standing (m + 1) b + j) 0 ≡ getD (entered ix standing (m + 1) b) j 0
+      late : lo + width ≤ b → lo ≤ b → getD e (startOf ix standing (m + 1) b + j) 0 ≡ getD (enteredFrom ix standing (m + 1) b) j 0
       late a f = old q
           (let p : startOf ix standing (m + 1) b + j ≡ getD st b 0 + j + width = (let z = at b (omega arith) in let y : min (b - lo) width ≡ width = omega arith in omega arith) in
           let g = long q in
@@ -93,13 +93,13 @@ module _ (ix : Index) (standing : List Float) (m lo hi width : ℕ) (e₀ st e�
           no : b ≤ hi → ⊥
           no p = omega arith
 
-          q : entered ix standing (m + 1) b ≡ entered ix standing m b
+          q : enteredFrom ix standing (m + 1) b ≡ enteredFrom ix standing m b
           q = same (λ p r. no r)
 
-      inside : lo ≤ b → b < lo + width → getD e (startOf ix standing (m + 1) b + j) 0 ≡ getD (entered ix standing (m + 1) b) j 0
-      inside a f = fits (below-or-not j (length (entered ix standing m b)))
+      inside : lo ≤ b → b < lo + width → getD e (startOf ix standing (m + 1) b + j) 0 ≡ getD (enteredFrom ix standing (m + 1) b) j 0
+      inside a f = fits (below-or-not j (length (enteredFrom ix standing m b)))
         where
-          more : entered ix standing (m + 1) b ≡ entered ix standing m b ++ (m ∷ [])
+          more : enteredFrom ix standing (m + 1) b ≡ enteredFrom ix standing m b ++ (m ∷ [])
           more = entered-yes ix standing m b (covers-yes ix standing m b (omega arith) (omega arith))
 
           place : startOf ix standing (m + 1) b ≡ getD st b 0 + (b - lo)
@@ -108,7 +108,7 @@ module _ (ix : Index) (standing : List Float) (m lo hi width : ℕ) (e₀ st e�
           d : lo + (b - lo) ≡ b
           d = omega arith
 
-          fits : (j < length (entered ix standing m b)) ⊎ (length (entered ix standing m b) ≤ j) → getD e (startOf ix standing (m + 1) b + j) 0 ≡ getD (entered ix standing (m + 1) b) j 0
+          fits : (j < length (enteredFrom ix standing m b)) ⊎ (length (enteredFrom ix standing m b) ≤ j) → getD e (startOf ix standing (m + 1) b + j) 0 ≡ getD (enteredFrom ix standing (m + 1) b) j 0
           fits (inl g) =
               let p : startOf ix standing (m + 1) b + j ≡ getD st b 0 + j + (b - lo) = (let z = place in omega arith) in
               let n = next b h in
@@ -116,22 +116,22 @@ module _ (ix : Index) (standing : List Float) (m lo hi width : ℕ) (e₀ st e�
               ap (λ (k : ℕ). getD e k 0) p
               ∙ (I .moved (b - lo) (omega arith) (omega arith) (getD st b 0 + j) (subst (λ (k : ℕ). getD st k 0 ≤ getD st b 0 + j) (sym d) (omega arith)) (subst (λ (k : ℕ). getD st b 0 + j < getD st (k + 1) 0) (sym d) (omega arith))
               ∙ (M .front (getD st b 0 + j) (omega arith)
-              ∙ (laid-holds ix standing m e₀ st L b h j g ∙ sym (ap (λ (k : List ℕ). getD k j 0) more ∙ List·getD-append (entered ix standing m b) (m ∷ []) 0 j g))))
+              ∙ (laid-holds ix standing m e₀ st L b h j g ∙ sym (ap (λ (k : List ℕ). getD k j 0) more ∙ List·getD-append (enteredFrom ix standing m b) (m ∷ []) 0 j g))))
           fits (inr g) =
-              let z : length (entered ix standing (m + 1) b) ≡ length (entered ix standing m b) + 1 = ap length more ∙ length-append (entered ix standing m b) (m ∷ []) in
-              let i : length (entered ix standing m b) ≡ j = omega arith in
+              let z : length (enteredFrom ix standing (m + 1) b) ≡ length (enteredFrom ix standing m b) + 1 = ap length more ∙ length-append (enteredFrom ix standing m b) (m ∷ []) in
+              let i : length (enteredFrom ix standing m b) ≡ j = omega arith in
               let n = next b h in
               let p : startOf ix standing (m + 1) b + j ≡ getD st (b + 1) 0 + (b - lo) = (let z = place in omega arith) in
               ap (λ (k : ℕ). getD e k 0) p
               ∙ (subst (λ (k : ℕ). getD e (getD st (k + 1) 0 + (b - lo)) 0 ≡ m) d (I .put (b - lo) (omega arith) (omega arith))
-              ∙ sym (ap (λ (k : List ℕ). getD k j 0) more ∙ subst (λ (k : ℕ). getD (entered ix standing m b ++ (m ∷ [])) k 0 ≡ m) i (getD-at (entered ix standing m b) m [] 0 (length (entered ix standing m b)) refl)))
+              ∙ sym (ap (λ (k : List ℕ). getD k j 0) more ∙ subst (λ (k : ℕ). getD (enteredFrom ix standing m b ++ (m ∷ [])) k 0 ≡ m) i (getD-at (enteredFrom ix standing m b) m [] 0 (length (enteredFrom ix standing m b)) refl)))
 
-      go : (b < lo) ⊎ (lo ≤ b) → (b < lo + width) ⊎ (lo + width ≤ b) → getD e (startOf ix standing (m + 1) b + j) 0 ≡ getD (entered ix standing (m + 1) b) j 0
+      go : (b < lo) ⊎ (lo ≤ b) → (b < lo + width) ⊎ (lo + width ≤ b) → getD e (startOf ix standing (m + 1) b + j) 0 ≡ getD (enteredFrom ix standing (m + 1) b) j 0
       go (inl a) t = early a
       go (inr a) (inl t) = inside a t
       go (inr a) (inr t) = late t a
 
-  one-blocks : Blocks (startOf ix standing (m + 1)) (entered ix standing (m + 1)) e s
+  one-blocks : Blocks (startOf ix standing (m + 1)) (enteredFrom ix standing (m + 1)) e s
   one-blocks = record { table = S .size ∙ (P .size ∙ L .table); first = starts-at 0 (omega arith) ∙ (at 0 (omega arith) ∙ (let f = L .first in let q : getD st 0 0 + min (0 - lo) width ≡ 0 = omega arith in q)); ends = λ b h. starts-at (b + 1) (omega arith) ∙ start-next ix standing (m + 1) b; holds = holds }
 
   last : startOf ix standing (m + 1) buckets ≡ getD st buckets 0 + width

@@ -14,14 +14,14 @@ use Rattle.trapezoid.specs.Strip.{stripAt}
 use Rattle.index.specs.declared.Index.{Index}
 use Rattle.index.proofs.EntryLists.{entries-by-bucket}
 use Rattle.index.specs.Buckets.{buckets, upFrom, keep, bucketIn, entriesOf}
-use Rattle.index.specs.Listing.{Laid, covers, entered}
+use Rattle.index.specs.inner.Listing.{Laid, covers, enteredFrom}
 use Rattle.index.proofs.Steps.{keep-yes, keep-no, keep-none}
 use Rattle.index.proofs.Flat.{keep-append, flat-snoc, length-upFrom, getD-upFrom}
-use Rattle.enter.specs.EntryRoom.{entriesIn, startOf, startsOf, Rooms, enterOf}
-use Rattle.marks.specs.NewEntries.{newIn}
-use Rattle.marks.proofs.NewIn.{upFrom-append, cleared-to}
-use Rattle.enter.specs.Gaps.{Counted}
-use Rattle.gaps.specs.OpenGaps.{before}
+use Rattle.enter.specs.inner.EntryRoom.{entriesIn, startOf, startsOf, Rooms, enterOf}
+use Rattle.enter.specs.span_marks.inner.NewEntries.{newIn}
+use Rattle.enter.proofs.span_marks.NewIn.{upFrom-append, cleared-to}
+use Rattle.enter.specs.inner.Gaps.{Counted}
+use Rattle.gaps.specs.inner.OpenGaps.{before}
 use Rattle.gaps.proofs.Before.{before-next, before-first}
 
 -- ---- lists of numbers
@@ -58,8 +58,8 @@ module _ (ix : Index) (standing : List Float) where
   abbrev test : ℕ → ℕ → Bool
   test b j = covers ix (stripAt standing j) b
 
-  pub entered-split : (m c b : ℕ) → entered ix standing (m + c) b ≡ entered ix standing m b ++ newIn ix standing c m b
-  unfolding entered newIn
+  pub entered-split : (m c b : ℕ) → enteredFrom ix standing (m + c) b ≡ enteredFrom ix standing m b ++ newIn ix standing c m b
+  unfolding enteredFrom newIn
   entered-split m c b =
       let z : 0 + m ≡ m = omega arith in
       ap (keep (test b)) (upFrom-append m c 0) ∙ (keep-append (test b) (upFrom m 0) (upFrom c (0 + m)) ∙ rw z)
@@ -68,16 +68,16 @@ module _ (ix : Index) (standing : List Float) where
   unfolding newIn upFrom
   new-one i b = refl
 
-  pub entered-yes : (i b : ℕ) → test b i ≡ true → entered ix standing (i + 1) b ≡ entered ix standing i b ++ (i ∷ [])
-  entered-yes i b e = entered-split i 1 b ∙ ap (λ (l : List ℕ). entered ix standing i b ++ l) (new-one i b ∙ (keep-yes (test b) i [] e ∙ ap (λ (l : List ℕ). i ∷ l) (keep-none (test b))))
+  pub entered-yes : (i b : ℕ) → test b i ≡ true → enteredFrom ix standing (i + 1) b ≡ enteredFrom ix standing i b ++ (i ∷ [])
+  entered-yes i b e = entered-split i 1 b ∙ ap (λ (l : List ℕ). enteredFrom ix standing i b ++ l) (new-one i b ∙ (keep-yes (test b) i [] e ∙ ap (λ (l : List ℕ). i ∷ l) (keep-none (test b))))
 
-  pub entered-no : (i b : ℕ) → test b i ≡ false → entered ix standing (i + 1) b ≡ entered ix standing i b
-  entered-no i b e = entered-split i 1 b ∙ (ap (λ (l : List ℕ). entered ix standing i b ++ l) (new-one i b ∙ (keep-no (test b) i [] e ∙ keep-none (test b))) ∙ append-nil (entered ix standing i b))
+  pub entered-no : (i b : ℕ) → test b i ≡ false → enteredFrom ix standing (i + 1) b ≡ enteredFrom ix standing i b
+  entered-no i b e = entered-split i 1 b ∙ (ap (λ (l : List ℕ). enteredFrom ix standing i b ++ l) (new-one i b ∙ (keep-no (test b) i [] e ∙ keep-none (test b))) ∙ append-nil (enteredFrom ix standing i b))
 
-  pub entered-more : (m n b : ℕ) → m ≤ n → length (entered ix standing m b) ≤ length (entered ix standing n b)
+  pub entered-more : (m n b : ℕ) → m ≤ n → length (enteredFrom ix standing m b) ≤ length (enteredFrom ix standing n b)
   entered-more m n b h =
       let e : m + (n - m) ≡ n = omega arith in
-      let s : length (entered ix standing n b) ≡ length (entered ix standing m b) + length (newIn ix standing (n - m) m b) = ap (λ (k : ℕ). length (entered ix standing k b)) (sym e) ∙ (ap length (entered-split m (n - m) b) ∙ length-append (entered ix standing m b) (newIn ix standing (n - m) m b)) in
+      let s : length (enteredFrom ix standing n b) ≡ length (enteredFrom ix standing m b) + length (newIn ix standing (n - m) m b) = ap (λ (k : ℕ). length (enteredFrom ix standing k b)) (sym e) ∙ (ap length (entered-split m (n - m) b) ∙ length-append (enteredFrom ix standing m b) (newIn ix standing (n - m) m b)) in
       omega arith
 
   -- ---- starts
@@ -85,9 +85,9 @@ module _ (ix : Index) (standing : List Float) where
   unfolding startOf upFrom flatMap
   start-first n = refl
 
-  pub start-next : (n b : ℕ) → startOf ix standing n (b + 1) ≡ startOf ix standing n b + length (entered ix standing n b)
+  pub start-next : (n b : ℕ) → startOf ix standing n (b + 1) ≡ startOf ix standing n b + length (enteredFrom ix standing n b)
   unfolding startOf
-  start-next n b = ap length (one-more (entered ix standing n) b) ∙ length-append (flatMap (entered ix standing n) (upFrom b 0)) (entered ix standing n b)
+  start-next n b = ap length (one-more (enteredFrom ix standing n) b) ∙ length-append (flatMap (enteredFrom ix standing n) (upFrom b 0)) (enteredFrom ix standing n b)
 
   pub start-last : (n : ℕ) → startOf ix standing n buckets ≡ length (entriesOf ix standing n)
   unfolding startOf
@@ -117,11 +117,11 @@ module _ (ix : Index) (standing : List Float) where
 
   -- ---- what is laid
   module _ (n : ℕ) (e st : List ℕ) (L : Laid ix standing n e st) where
-    laid-next : (b : ℕ) → b < buckets → getD st (b + 1) 0 ≡ getD st b 0 + length (entered ix standing n b)
+    laid-next : (b : ℕ) → b < buckets → getD st (b + 1) 0 ≡ getD st b 0 + length (enteredFrom ix standing n b)
     laid-next b h =
         let w = L .within (b + 1) (omega arith) in
         let r = L .rise b (b + 1) (omega arith) (omega arith) in
-        let s : getD st (b + 1) 0 - getD st b 0 ≡ length (entered ix standing n b) = sym (length-slice (getD st b 0) (getD st (b + 1) 0) e w) ∙ ap length (L .block b h) in
+        let s : getD st (b + 1) 0 - getD st b 0 ≡ length (enteredFrom ix standing n b) = sym (length-slice (getD st b 0) (getD st (b + 1) 0) e w) ∙ ap length (L .block b h) in
         omega arith
 
     pub laid-starts : (b : ℕ) → b ≤ buckets → getD st b 0 ≡ startOf ix standing n b
@@ -133,11 +133,11 @@ module _ (ix : Index) (standing : List Float) where
         let t = laid-next b (omega arith) in
         subst (λ (k : ℕ). getD st k 0 ≡ startOf ix standing n k) q (omega arith)
 
-    pub laid-holds : (b : ℕ) → b < buckets → (j : ℕ) → j < length (entered ix standing n b) → getD e (getD st b 0 + j) 0 ≡ getD (entered ix standing n b) j 0
+    pub laid-holds : (b : ℕ) → b < buckets → (j : ℕ) → j < length (enteredFrom ix standing n b) → getD e (getD st b 0 + j) 0 ≡ getD (enteredFrom ix standing n b) j 0
     laid-holds b h j l = sym (getD-slice (getD st b 0) (getD st (b + 1) 0) e j (let t = laid-next b h in omega arith)) ∙ ap (λ (k : List ℕ). getD k j 0) (L .block b h)
 
     -- the whole list
-    prefix : (b : ℕ) → b ≤ buckets → take (getD st b 0) e ≡ flatMap (entered ix standing n) (upFrom b 0)
+    prefix : (b : ℕ) → b ≤ buckets → take (getD st b 0) e ≡ flatMap (enteredFrom ix standing n) (upFrom b 0)
     unfolding flatMap upFrom
     prefix zero h = rw (L .first)
     prefix (suc b) h =
@@ -145,8 +145,8 @@ module _ (ix : Index) (standing : List Float) where
         ap (λ (k : ℕ). take (getD st k 0) e) (sym (add-one b))
         ∙ (sym (lib.ListN.take-append-drop (getD st b 0) (take (getD st (b + 1) 0) e))
         ∙ (ap (λ (l : List ℕ). l ++ slice (getD st b 0) (getD st (b + 1) 0) e) (take-take (getD st b 0) (getD st (b + 1) 0) e r ∙ prefix b (omega arith))
-        ∙ (ap (λ (l : List ℕ). flatMap (entered ix standing n) (upFrom b 0) ++ l) (L .block b (omega arith))
-        ∙ (sym (one-more (entered ix standing n) b) ∙ ap (λ (k : ℕ). flatMap (entered ix standing n) (upFrom k 0)) (add-one b)))))
+        ∙ (ap (λ (l : List ℕ). flatMap (enteredFrom ix standing n) (upFrom b 0) ++ l) (L .block b (omega arith))
+        ∙ (sym (one-more (enteredFrom ix standing n) b) ∙ ap (λ (k : ℕ). flatMap (enteredFrom ix standing n) (upFrom k 0)) (add-one b)))))
 
     pub laid-entries : (e₀ : List ℕ) → length e ≡ length e₀ → ((j : ℕ) → startOf ix standing n buckets ≤ j → getD e j 0 ≡ getD e₀ j 0) → e ≡ entriesIn ix standing n e₀
     unfolding entriesIn
@@ -154,7 +154,7 @@ module _ (ix : Index) (standing : List Float) where
         let t : getD st buckets 0 ≡ length (entriesOf ix standing n) = laid-starts buckets (omega arith) ∙ start-last n in
         sym (lib.ListN.take-append-drop (getD st buckets 0) e)
         ∙ (ap (λ (l : List ℕ). l ++ drop (getD st buckets 0) e) (prefix buckets (omega arith))
-        ∙ ap (λ (l : List ℕ). flatMap (entered ix standing n) (upFrom buckets 0) ++ l) (ap (λ (k : ℕ). drop k e) t ∙ ext-getD 0 (drop (length (entriesOf ix standing n)) e) (drop (length (entriesOf ix standing n)) e₀) (simp length-drop (rw s)) (λ i h. getD-drop (length (entriesOf ix standing n)) e i 0 ∙ (r (length (entriesOf ix standing n) + i) (let q = start-last n in omega arith) ∙ sym (getD-drop (length (entriesOf ix standing n)) e₀ i 0)))))
+        ∙ ap (λ (l : List ℕ). flatMap (enteredFrom ix standing n) (upFrom buckets 0) ++ l) (ap (λ (k : ℕ). drop k e) t ∙ ext-getD 0 (drop (length (entriesOf ix standing n)) e) (drop (length (entriesOf ix standing n)) e₀) (simp length-drop (rw s)) (λ i h. getD-drop (length (entriesOf ix standing n)) e i 0 ∙ (r (length (entriesOf ix standing n) + i) (let q = start-last n in omega arith) ∙ sym (getD-drop (length (entriesOf ix standing n)) e₀ i 0)))))
         ∙ ap (λ (l : List ℕ). l ++ drop (length (entriesOf ix standing n)) e₀) (sym (entries-by-bucket ix standing n))
 
     pub laid-table : st ≡ startsOf ix standing n
@@ -187,7 +187,7 @@ start-gain ix standing m c g C (suc b) h =
     let s = start-next ix standing (m + c) b in
     let t = start-next ix standing m b in
     let u = before-next g b in
-    let v : length (entered ix standing (m + c) b) ≡ length (entered ix standing m b) + getD g b 0 = ap length (entered-split ix standing m c b) ∙ (length-append (entered ix standing m b) (newIn ix standing c m b) ∙ ap (λ (k : ℕ). length (entered ix standing m b) + k) (sym (C .counts b (omega arith)))) in
+    let v : length (enteredFrom ix standing (m + c) b) ≡ length (enteredFrom ix standing m b) + getD g b 0 = ap length (entered-split ix standing m c b) ∙ (length-append (enteredFrom ix standing m b) (newIn ix standing c m b) ∙ ap (λ (k : ℕ). length (enteredFrom ix standing m b) + k) (sym (C .counts b (omega arith)))) in
     subst (λ (k : ℕ). startOf ix standing (m + c) k ≡ startOf ix standing m k + before g k) q (omega arith)
 
 -- ---- a table set to zeros

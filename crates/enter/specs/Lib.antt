@@ -1,2 +1,2 @@
-pub mod EntryRoom
-pub mod Gaps
+pub mod span_marks
+pub mod inner

@@ -1,13 +1,15 @@
 // Entering a copy's strips into the buckets' entries: in place, in one pass from the back.
+pub mod span_marks;
+
 ghost use mathlib.Core.Path.{_≡_};
 ghost use mathlib.Core.Bool.{true, false};
 ghost use Prim.Native.Nat.{ℕ, _+_, _-_, _*_, _≤_, _<_, max, min};
 ghost use lib.ListN.{length, getD};
 ghost use Rattle.index.specs.Buckets.{buckets, stripNumbers};
-ghost use Rattle.index.specs.Listing.{Laid, entered};
-ghost use Rattle.enter.specs.EntryRoom.{startOf, enterOf};
-ghost use Rattle.marks.specs.NewEntries.{Within, Kept};
-ghost use Rattle.enter.specs.Gaps.{Blocks, filled, rooms, entering};
+ghost use Rattle.index.specs.inner.Listing.{Laid, enteredFrom};
+ghost use Rattle.enter.specs.inner.EntryRoom.{startOf, enterOf};
+ghost use Rattle.enter.specs.span_marks.inner.NewEntries.{Within, Kept};
+ghost use Rattle.enter.specs.inner.Gaps.{Blocks, filled, rooms, entering};
 use index::Entry;
 use index::Index;
 
@@ -53,15 +55,18 @@ fn measure(
     lasts: &mut [u16],
 ) -> Window
     requires { ⌜ (from ≤ to) × (6 * to ≤ length (now standing)) × (length (now firsts) ≡ 64) × (length (now lasts) ≡ 64) ⌝ }
-    ensures { λ r. ⌜ (r .fits ≡ true → (startOf ix (now (standing .entry)) to buckets ≡ startOf ix (now (standing .entry)) from buckets + r .more) × (r .more ≤ left) × (r .end ≤ buckets) × Within ix (now (standing .entry)) from to (r .first) (r .end) × Kept ix (now (standing .entry)) from (to - from) (now (firsts .exit)) (now (lasts .exit))) × (r .fits ≡ false → startOf ix (now (standing .entry)) from buckets + left < startOf ix (now (standing .entry)) to buckets) ⌝ }
+    ensures { λ r. ⌜ (r .fits ≡ true → (startOf ix (now (standing .entry)) to buckets ≡ startOf ix (now (standing .entry)) from buckets + r .more)
+        × (r .more ≤ left) × (r .end ≤ buckets) × Within ix (now (standing .entry)) from to (r .first) (r .end)
+        × Kept ix (now (standing .entry)) from (to - from) (now (firsts .exit)) (now (lasts .exit)))
+        × (r .fits ≡ false → startOf ix (now (standing .entry)) from buckets + left < startOf ix (now (standing .entry)) to buckets) ⌝ }
 {
     let mut more: usize = 0;
     let mut first: usize = Index::BUCKETS;
     let mut end: usize = 0;
     let mut i = from;
     while i < to {
-        let s = marks::span_of(ix, standing, i);
-        let width = marks::width_of(s.lo, s.hi);
+        let s = span_marks::span_of(ix, standing, i);
+        let width = span_marks::width_of(s.lo, s.hi);
         if left - more < width {
             return Window {
                 fits: false,
@@ -73,7 +78,7 @@ fn measure(
         more += width;
         first = sooner(first, s.lo);
         end = later(end, s.hi + 1);
-        marks::keep(firsts, lasts, i - from, s.lo, s.hi);
+        span_marks::keep(firsts, lasts, i - from, s.lo, s.hi);
         i += 1;
     }
     Window {
@@ -86,7 +91,8 @@ fn measure(
 
 // Puts a strip's number at the end of each of the buckets lo to hi.
 fn fill_strip(entries: &mut [Entry], starts: &mut [usize], number: usize, lo: usize, hi: usize)
-    requires { ⌜ (length (now starts) ≡ buckets + 1) × (hi < buckets) × ((b : ℕ) → lo ≤ b → b ≤ hi → getD (now starts) (b + 1) 0 < length (now entries)) × (number < stripNumbers) ⌝ }
+    requires { ⌜ (length (now starts) ≡ buckets + 1) × (hi < buckets) × ((b : ℕ) → lo ≤ b → b ≤ hi → getD (now starts) (b + 1) 0 < length (now entries))
+        × (number < stripNumbers) ⌝ }
     ensures { λ _. ⌜ rooms (now (entries .exit)) (now (starts .exit)) ≡ filled number (hi + 1 - lo) lo (rooms (now (entries .entry)) (now (starts .entry))) ⌝ }
 {
     let mut b = lo;
@@ -109,12 +115,15 @@ fn fill(
     entries: &mut [Entry],
     starts: &mut [usize],
 )
-    requires { ⌜ (from ≤ to) × (6 * to ≤ length (now standing)) × (length (now firsts) ≡ 64) × (length (now lasts) ≡ 64) × Kept ix (now standing) from (to - from) (now firsts) (now lasts) × (startOf ix (now standing) to buckets ≤ length (now entries)) × Blocks (startOf ix (now standing) to) (entered ix (now standing) from) (now entries) (now starts) × (to ≤ stripNumbers) ⌝ }
-    ensures { λ _. ⌜ Blocks (startOf ix (now (standing .entry)) to) (entered ix (now (standing .entry)) to) (now (entries .exit)) (now (starts .exit)) × ((j : ℕ) → startOf ix (now (standing .entry)) to buckets ≤ j → getD (now (entries .exit)) j 0 ≡ getD (now (entries .entry)) j 0) ⌝ }
+    requires { ⌜ (from ≤ to) × (6 * to ≤ length (now standing)) × (length (now firsts) ≡ 64) × (length (now lasts) ≡ 64)
+        × Kept ix (now standing) from (to - from) (now firsts) (now lasts) × (startOf ix (now standing) to buckets ≤ length (now entries))
+        × Blocks (startOf ix (now standing) to) (enteredFrom ix (now standing) from) (now entries) (now starts) × (to ≤ stripNumbers) ⌝ }
+    ensures { λ _. ⌜ Blocks (startOf ix (now (standing .entry)) to) (enteredFrom ix (now (standing .entry)) to) (now (entries .exit)) (now (starts .exit))
+        × ((j : ℕ) → startOf ix (now (standing .entry)) to buckets ≤ j → getD (now (entries .exit)) j 0 ≡ getD (now (entries .entry)) j 0) ⌝ }
 {
     let mut i = from;
     while i < to {
-        let s = marks::kept_span(ix, standing, from, i, firsts, lasts);
+        let s = span_marks::kept_span(ix, standing, from, i, firsts, lasts);
         fill_strip(entries, starts, i, s.lo, s.hi);
         i += 1;
     }
@@ -130,15 +139,17 @@ fn enter_many(
     starts: &mut [usize],
     gains: &mut [usize],
 ) -> bool
-    requires { ⌜ (from ≤ to) × (6 * to ≤ length (now standing)) × (length (now gains) ≡ buckets) × Laid ix (now standing) from (now entries) (now starts) × (to ≤ stripNumbers) ⌝ }
-    ensures { λ r. ⌜ (entering r (now (entries .exit)) (now (starts .exit)) ≡ enterOf ix (now (standing .entry)) to (rooms (now (entries .entry)) (now (starts .entry)))) × (r ≡ true → Laid ix (now (standing .entry)) to (now (entries .exit)) (now (starts .exit))) ⌝ }
+    requires { ⌜ (from ≤ to) × (6 * to ≤ length (now standing)) × (length (now gains) ≡ buckets) × Laid ix (now standing) from (now entries) (now starts)
+        × (to ≤ stripNumbers) ⌝ }
+    ensures { λ r. ⌜ (entering r (now (entries .exit)) (now (starts .exit)) ≡ enterOf ix (now (standing .entry)) to
+        (rooms (now (entries .entry)) (now (starts .entry)))) × (r ≡ true → Laid ix (now (standing .entry)) to (now (entries .exit)) (now (starts .exit))) ⌝ }
 {
     let mut firsts = [0u16; 64];
     let mut lasts = [0u16; 64];
     let left = entries.len() - starts[Index::BUCKETS];
     let w = measure(ix, standing, from, to, left, &mut firsts, &mut lasts);
     if w.fits {
-        marks::mark_all(
+        span_marks::mark_all(
             ix,
             standing,
             from,
@@ -165,11 +176,13 @@ fn enter_one(
     starts: &mut [usize],
 ) -> bool
     requires { ⌜ (6 * from + 6 ≤ length (now standing)) × Laid ix (now standing) from (now entries) (now starts) × (from < stripNumbers) ⌝ }
-    ensures { λ r. ⌜ (entering r (now (entries .exit)) (now (starts .exit)) ≡ enterOf ix (now (standing .entry)) (from + 1) (rooms (now (entries .entry)) (now (starts .entry)))) × (r ≡ true → Laid ix (now (standing .entry)) (from + 1) (now (entries .exit)) (now (starts .exit))) ⌝ }
+    ensures { λ r. ⌜ (entering r (now (entries .exit)) (now (starts .exit)) ≡ enterOf ix (now (standing .entry)) (from + 1)
+        (rooms (now (entries .entry)) (now (starts .entry))))
+        × (r ≡ true → Laid ix (now (standing .entry)) (from + 1) (now (entries .exit)) (now (starts .exit))) ⌝ }
 {
-    let s = marks::span_of(ix, standing, from);
+    let s = span_marks::span_of(ix, standing, from);
     let lo = s.lo;
-    let width = marks::width_of(lo, s.hi);
+    let width = span_marks::width_of(lo, s.hi);
     let all = starts[Index::BUCKETS];
     if entries.len() - all < width {
         return false;
@@ -184,7 +197,7 @@ fn enter_one(
 }
 
 // Enters a copy's strips, from `from` to below `to`, if the room holds their entries too; else
-// changes neither entries nor starts. `gains` is a table of work. Only crates of ours call it.
+// changes neither entries nor starts. `gains` is a table of work.
 pub fn enter_copy(
     ix: Index,
     standing: &[f64],
@@ -194,8 +207,10 @@ pub fn enter_copy(
     starts: &mut [usize],
     gains: &mut [usize],
 ) -> bool
-    requires { ⌜ (from ≤ to) × (6 * to ≤ length (now standing)) × (length (now gains) ≡ buckets) × Laid ix (now standing) from (now entries) (now starts) × (to ≤ stripNumbers) ⌝ }
-    ensures { λ r. ⌜ (entering r (now (entries .exit)) (now (starts .exit)) ≡ enterOf ix (now (standing .entry)) to (rooms (now (entries .entry)) (now (starts .entry)))) × (r ≡ true → Laid ix (now (standing .entry)) to (now (entries .exit)) (now (starts .exit))) ⌝ }
+    requires { ⌜ (from ≤ to) × (6 * to ≤ length (now standing)) × (length (now gains) ≡ buckets) × Laid ix (now standing) from (now entries) (now starts)
+        × (to ≤ stripNumbers) ⌝ }
+    ensures { λ r. ⌜ (entering r (now (entries .exit)) (now (starts .exit)) ≡ enterOf ix (now (standing .entry)) to
+        (rooms (now (entries .entry)) (now (starts .entry)))) × (r ≡ true → Laid ix (now (standing .entry)) to (now (entries .exit)) (now (starts .exit))) ⌝ }
 {
     if to - from == 1 {
         return enter_one(ix, standing, from, entries, starts);

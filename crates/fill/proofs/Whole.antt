@@ -7,8 +7,8 @@ use Rattle.filling.specs.declared.Refusal.the-variants as Why
 use Rattle.filling.specs.Rooms.{Lent}
 use Rattle.filling.specs.Start.{startVerdict}
 use Rattle.filling.specs.Fill.{Filling, filled, stopped, plannedBy, fillOrder, fillGiven, fillOf}
-use Rattle.readied.proofs.Left.{WorkZero, refused-zero, planned-zero, when-zero}
-use Rattle.fill_job.proofs.Judging.{fill-when}
+use Rattle.report.proofs.readied.Left.{WorkZero, refused-zero, planned-zero, when-zero}
+use Rattle.plan_job.proofs.fill_job.Judging.{fill-when}
 
 by-filling : (j : Job) (l : Lent) (f : Filling) → WorkZero l (plannedBy j l f)
 unfolding plannedBy

@@ -4,9 +4,9 @@
 ghost use mathlib.Core.Path.{_≡_};
 ghost use Rattle.filling.specs.Rooms.{Lent, lentOf};
 ghost use Rattle.filling.specs.Fill.{fillOf};
-ghost use Rattle.report.specs.Replies.{reply, replyOf};
+ghost use Rattle.report.specs.inner.Replies.{reply, replyOf};
 ghost use Rattle.report.specs.Lent.{answered};
-ghost use Rattle.readied.specs.Zeroed.{Zeroed};
+ghost use Rattle.report.specs.readied.inner.Zeroed.{Zeroed};
 use filling::Refusal;
 use index::Entry;
 use job::JobRead;
@@ -25,7 +25,9 @@ fn fill_bytes(
     positions: &mut [f64],
 ) -> NestResult
     requires { ⌜ ((l : Lent) × Zeroed l (now shapes) (now sheet) (now placed) (now «sheet_entries») (now «placed_entries») (now intervals) (now positions)) ⌝ }
-    ensures { λ r. ⌜ ((l : Lent) → Zeroed l (now (shapes .entry)) (now (sheet .entry)) (now (placed .entry)) (now («sheet_entries» .entry)) (now («placed_entries» .entry)) (now (intervals .entry)) (now (positions .entry)) → reply r (now (positions .exit)) ≡ replyOf (fillOf (now (bytes .entry)) (now (order .entry)) l)) ⌝ }
+    ensures { λ r. ⌜ ((l : Lent) → Zeroed l (now (shapes .entry)) (now (sheet .entry)) (now (placed .entry)) (now («sheet_entries» .entry))
+        (now («placed_entries» .entry)) (now (intervals .entry)) (now (positions .entry))
+        → reply r (now (positions .exit)) ≡ replyOf (fillOf (now (bytes .entry)) (now (order .entry)) l)) ⌝ }
 {
     let j = job::read(bytes);
     let rows = j.rows;
@@ -35,7 +37,7 @@ fn fill_bytes(
     match answer {
         JobRead::Good(h, at, copies) => {
             let n = copies as usize;
-            fill_job::fill_job(
+            plan_job::fill_job::fill_job(
                 bytes,
                 at,
                 h,
@@ -69,7 +71,10 @@ pub fn fill(
     intervals: &mut [f64],
     positions: &mut [f64],
 ) -> NestResult
-    ensures { λ r. ⌜ answered r (lentOf (now (shapes .exit)) (now (sheet .exit)) (now (placed .exit)) (now («sheet_entries» .exit)) (now («placed_entries» .exit)) (now (intervals .exit)) (now (positions .exit))) ≡ fillOf (now (bytes .entry)) (now (order .entry)) (lentOf (now (shapes .entry)) (now (sheet .entry)) (now (placed .entry)) (now («sheet_entries» .entry)) (now («placed_entries» .entry)) (now (intervals .entry)) (now (positions .entry))) ⌝ }
+    ensures { λ r. ⌜ answered r (lentOf (now (shapes .exit)) (now (sheet .exit)) (now (placed .exit)) (now («sheet_entries» .exit))
+        (now («placed_entries» .exit)) (now (intervals .exit)) (now (positions .exit))) ≡ fillOf (now (bytes .entry)) (now (order .entry))
+        (lentOf (now (shapes .entry)) (now (sheet .entry)) (now (placed .entry)) (now («sheet_entries» .entry)) (now («placed_entries» .entry))
+        (now (intervals .entry)) (now (positions .entry))) ⌝ }
 {
     rooms::zero(positions);
     report::clear(

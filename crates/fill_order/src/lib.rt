@@ -5,13 +5,13 @@ ghost use mathlib.Core.Path.{_≡_};
 ghost use Prim.Native.Nat.{_*_, _≤_, _<_};
 ghost use lib.ListN.{length, replicate};
 ghost use Rattle.index.specs.Buckets.{buckets};
-ghost use Rattle.tracks.specs.Tracks.{nextColumns, lookCounts, trackNumbers, spotNumbers};
+ghost use Rattle.rooms.specs.tracks.inner.Tracks.{nextColumns, lookCounts, trackNumbers, spotNumbers};
 ghost use Rattle.job.specs.Jobs.{Job};
 ghost use Rattle.filling.specs.Shapes.{plannerOf};
 ghost use Rattle.filling.specs.Rooms.{Lent};
 ghost use Rattle.filling.specs.Order.{rearranged};
 ghost use Rattle.filling.specs.Fill.{fillOrder};
-ghost use Rattle.fill_laws.specs.Prepared.{givenIn, Prepared, nextAfter, fillingIn};
+ghost use Rattle.filling_laws.specs.fill_laws.inner.Prepared.{givenIn, Prepared, nextAfter, fillingIn};
 use choose::Grid;
 use filling::Verdict;
 use index::Entry;
@@ -23,7 +23,7 @@ pub struct Filled {
     pub totals: Totals,
 }
 
-// The copy or turn that comes after number i of n: none after a refusal. Only crates of ours call it.
+// The copy or turn that comes after number i of n: none after a refusal.
 pub fn next_after(v: Verdict, i: usize, n: usize) -> usize
     requires { ⌜ i < n ⌝ }
     ensures { λ r. ⌜ r ≡ nextAfter v i n ⌝ }
@@ -76,7 +76,7 @@ fn fill_copies(
     let mut i = 0;
     while i < n {
         let copy = place::copy_at(order, rows, areas, i);
-        let step = next::place_next(
+        let step = place::next::place_next(
             g,
             copy,
             i,
@@ -150,7 +150,7 @@ pub fn fill_order(
         → fillingIn (r .verdict) (plannerOf j) (now (order .entry)) (now (tracks .exit)) (r .totals) (now (spots .exit))
         ≡ fillOrder j l (now (order .entry))) ⌝ }
 {
-    tracks::reset(tracks);
+    rooms::tracks::reset(tracks);
     let mut starts = no_starts();
     let mut gains = no_gains();
     fill_copies(

@@ -9,8 +9,8 @@ use native.Mathlib.Omega.{arith}
 use lib.ListN.{length, getD, set, replicate}
 use lib.Ieee.{Float}
 use Rattle.numbers.proofs.Truth.{either, below-or-not}
-use Rattle.height.specs.declared.Look.{Look}
-use Rattle.height.specs.declared.Look.the-variants.{Free, Full}
+use Rattle.look.specs.declared.height.Look.{Look}
+use Rattle.look.specs.declared.height.Look.the-variants.{Free, Full}
 use Rattle.job.specs.Jobs.{Job, Answer, accepted, refused, readJob}
 use Rattle.index.proofs.Flat.{length-upFrom}
 use Rattle.filling.specs.declared.State.{State}

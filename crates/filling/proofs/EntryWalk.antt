@@ -1,4 +1,4 @@
--- The walk along the entries (crate entries) ends exactly where the room begins with them: what 31 asks of the entries. Assumes nothing.
+-- The walk along the entries (`index::entries`) ends exactly where the room begins with them: what 31 asks of the entries. Assumes nothing.
 use Prim.Native.Nat.{ℕ, zero, suc, _+_, _≤_, _<_}
 use native.Mathlib.Nat.{eq-or-lt-of-le}
 use native.Mathlib.Numerals.{add-one}
@@ -11,10 +11,10 @@ use lib.ListN.{length, getD, take, drop, length-drop}
 use lib.Seq.{drop-cons}
 use lib.Dec.{T, eqb, eqb→eq, eqb-refl}
 use Rattle.numbers.proofs.Truth.{either, is-true, clash}
-use Rattle.entries.specs.declared.Walked.{Walked}
-use Rattle.entries.specs.declared.Walked.the-variants.{At, Wrong}
-use Rattle.entries.specs.Walk.{follows}
-use Rattle.entries.proofs.Following.{follows-on, follows-short, follows-other, follows-none}
+use Rattle.index.specs.declared.entries.Walked.{Walked}
+use Rattle.index.specs.declared.entries.Walked.the-variants.{At, Wrong}
+use Rattle.index.specs.entries.inner.Walk.{follows}
+use Rattle.index.proofs.entries.Following.{follows-on, follows-short, follows-other, follows-none}
 use Rattle.filling.specs.Consistent.{sameNumbers, entriesLie}
 
 abbrev pub ends : Walked → Bool

@@ -22,10 +22,10 @@ use Rattle.index.specs.declared.Meeting.the-variants.{Apart, Forbidden}
 use Rattle.index.specs.Buckets.{upFrom, keep}
 use Rattle.index.specs.Intervals.{intervalOf, meetingOf, intervalIn, forbiddenOf, countsOf, countedOf}
 use Rattle.index.proofs.Flat.{upFrom-mem, flatMap-mem}
-use Rattle.height.specs.declared.Look.{Look}
-use Rattle.height.specs.declared.Look.the-variants.{Free, Full}
-use Rattle.height.specs.Smallest.{heightOf}
-use Rattle.height.proofs.SmallestHeight.{keep-mem}
+use Rattle.look.specs.declared.height.Look.{Look}
+use Rattle.look.specs.declared.height.Look.the-variants.{Free, Full}
+use Rattle.look.specs.height.Smallest.{heightOf}
+use Rattle.look.proofs.height.SmallestHeight.{keep-mem}
 use Rattle.look.specs.Looking.{countedIn}
 use Rattle.filling.specs.Columns.{Ranges, ranges, columnAt}
 use Rattle.filling.specs.Shapes.{Planner, Shape}

@@ -13,10 +13,10 @@ use Rattle.numbers.proofs.Doubles.{k}
 use Rattle.index.specs.declared.Interval.{Interval}
 use Rattle.index.specs.Buckets.{keep}
 use Rattle.index.specs.Intervals.{countsOf}
-use Rattle.height.specs.declared.Look.{Look}
-use Rattle.height.specs.declared.Look.the-variants.{Free, Full}
-use Rattle.height.proofs.SmallestHeight.{Real, le-is-true, is-le, outside-of, of-outside, keep-mem, mem-keep, lowest-full, RealEnd, candidate-real, nearest}
-use Rattle.height.specs.Smallest.{outside, candidates, lowest, heightOf}
+use Rattle.look.specs.declared.height.Look.{Look}
+use Rattle.look.specs.declared.height.Look.the-variants.{Free, Full}
+use Rattle.look.proofs.height.SmallestHeight.{Real, le-is-true, is-le, outside-of, of-outside, keep-mem, mem-keep, lowest-full, RealEnd, candidate-real, nearest}
+use Rattle.look.specs.height.Smallest.{outside, candidates, lowest, heightOf}
 use Rattle.filling.proofs.Lists.{Within}
 
 -- ---- doubles that are no NaN, by their keys

@@ -5,7 +5,7 @@ use mathlib.Core.Bool.{Bool}
 use mathlib.Core.List.{List, [], _∷_, _++_, flatMap, List·Memᴰ, Memᴰ·append-left, Memᴰ·append-right, List·Memᴰ·append-cases, List·Memᴰ·cases-cons, List·Memᴰ·not-nil}
 use Rattle.index.specs.Buckets.{keep}
 use Rattle.index.proofs.Flat.{flatMap-mem}
-use Rattle.height.proofs.SmallestHeight.{keep-mem, mem-keep}
+use Rattle.look.proofs.height.SmallestHeight.{keep-mem, mem-keep}
 
 abbrev pub Within {ℓ} : {A : Type ℓ} → List A → List A → Type ℓ
 Within {A = A} xs ys = (a : A) → List·Memᴰ a xs → List·Memᴰ a ys

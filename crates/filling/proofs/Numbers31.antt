@@ -13,7 +13,7 @@ use Rattle.numbers.proofs.Truth.{either, both-first, both-second}
 use Rattle.numbers.specs.Numbers.{_⊕_, larger, fromInt, posZero}
 use Rattle.trapezoid.specs.Strip.{stripAt, capacity}
 use Rattle.index.specs.Buckets.{upFrom}
-use Rattle.height.specs.declared.Look.the-variants.{Free}
+use Rattle.look.specs.declared.height.Look.the-variants.{Free}
 use Rattle.job.specs.Jobs.{Job}
 use Rattle.filling.specs.declared.State.{State}
 use Rattle.filling.specs.declared.Layout.{Layout}

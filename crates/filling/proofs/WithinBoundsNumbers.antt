@@ -22,7 +22,7 @@ use Rattle.numbers.proofs.Doubles as Doubles
 use Rattle.numbers.proofs.Doubles.{k, o, u, Finite, Number, Upto, Small, add-mono}
 use Rattle.trapezoid.proofs.Sizes.{small-more}
 use Rattle.bits.proofs.Accepted.{UpFrom, resolution-least}
-use Rattle.index.specs.Listing.{Bounded}
+use Rattle.index.specs.inner.Listing.{Bounded}
 use Rattle.filling.specs.Consistent.{bounded, resolutionFits}
 
 -- a test of two numbers from their keys

@@ -26,8 +26,8 @@ use Rattle.index.specs.declared.Interval.{Interval}
 use Rattle.index.specs.declared.Meeting.the-variants.{Apart, Forbidden}
 use Rattle.index.specs.Buckets.{upFrom, keep}
 use Rattle.index.specs.Intervals.{intervalOf, meetingOf, intervalIn, forbiddenOf, countsOf, countedOf}
-use Rattle.height.specs.declared.Look.the-variants.{Free}
-use Rattle.height.specs.Smallest.{outside, candidates, least, lowest, heightOf}
+use Rattle.look.specs.declared.height.Look.the-variants.{Free}
+use Rattle.look.specs.height.Smallest.{outside, candidates, least, lowest, heightOf}
 use Rattle.look.specs.Looking.{countedIn}
 use Rattle.bits.proofs.Accepted.{UpFrom}
 use Rattle.filling.specs.Columns.{Ranges, ranges, reversed, columns, regularColumn, columnAt}

@@ -18,12 +18,12 @@ use Rattle.slab.proofs.Merging.{All}
 use Rattle.strips.specs.declared.Rect.{Rect}
 use Rattle.strips.specs.Strips.{bounds, trapezoids}
 use Rattle.strips.proofs.Sizes.{Framed, bounds-framed, trapezoids-good}
-use Rattle.strips.specs.Tables.{Loops}
+use Rattle.strips.specs.inner.Tables.{Loops}
 use Rattle.index.specs.Buckets.{upFrom}
-use Rattle.height.proofs.SmallestHeight.{real-of, is-not-lt}
-use Rattle.sets.specs.Sets.{Set}
-use Rattle.sets.proofs.Accepted as Sets
-use Rattle.sets.proofs.Accepted.{Ends, ends-most, coordinate-at}
+use Rattle.look.proofs.height.SmallestHeight.{real-of, is-not-lt}
+use Rattle.kinds.specs.sets.Sets.{Set}
+use Rattle.kinds.proofs.sets.Accepted as Sets
+use Rattle.kinds.proofs.sets.Accepted.{Ends, ends-most, coordinate-at}
 use Rattle.kinds.specs.Kinds.{Orientation}
 use Rattle.kinds.proofs.Accepted.{GoodSets}
 use Rattle.filling.specs.Shapes.{Shape, setBounds, setStrips, shapeFor, noBounds, noShape, movedStrips}

@@ -1,3 +1,4 @@
+pub mod promises
 pub mod Refusals
 pub mod Columns
 pub mod Shapes

@@ -130,7 +130,12 @@ placeFound p standing ss ts fs k s w intervals =
     elim (copyVerdict p w intervals k standing ss ts fs) [
       | Accepted ↦
           let cs = choices p 0 ss fs in
-          record { verdict = Accepted; state = stateAfter p k (searchedAll p ss ts fs) s standing cs; rooms = roomsAfter p k w standing cs; intervals = zeros posZero intervals }
+          record {
+            verdict = Accepted;
+            state = stateAfter p k (searchedAll p ss ts fs) s standing cs;
+            rooms = roomsAfter p k w standing cs;
+            intervals = zeros posZero intervals;
+          }
       | Refused r ↦ noStep r s w intervals
     ]
 

@@ -3,14 +3,15 @@ use Prim.Native.Nat.{ℕ}
 use mathlib.Core.Bool.{Bool, true, false}
 use Rattle.bits.specs.Reading as Reading
 use Rattle.filling.specs.declared.Refusal.{Refusal}
-use Rattle.filling.specs.declared.Refusal.the-variants.{Job, MissingShape, WrongOrder, StripRoom, EntryRoom, IntervalRoom, OrderUsedUp, PositionRoom, Inconsistent}
+use Rattle.filling.specs.declared.Refusal.the-variants.{Job, MissingShape, WrongOrder, StripRoom, EntryRoom, IntervalRoom, OrderUsedUp, PositionRoom}
+use Rattle.filling.specs.declared.Refusal.the-variants.{Inconsistent}
 use Rattle.filling.specs.declared.Verdict.{Verdict}
 use Rattle.filling.specs.declared.Verdict.the-variants.{Accepted, Refused}
 
 -- the tables' numbers
 unfoldable pub numberOf : Refusal → ℕ
 -- 1 to 8
-numberOf (Job k) = Reading.numberOf k
+numberOf (Job k) = Reading.jobRefusalNumber k
 -- "a kind or orientation asked for that the job lacks"
 numberOf MissingShape = 9
 -- "a given order is not a rearrangement of the job's copies"

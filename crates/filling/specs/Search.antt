@@ -6,9 +6,9 @@ use lib.ListN.{length}
 use lib.Ieee.{Float}
 use Rattle.index.specs.declared.Interval.{Interval}
 use Rattle.index.specs.Buckets.{upFrom}
-use Rattle.height.specs.declared.Look.{Look}
-use Rattle.height.specs.declared.Look.the-variants.{Free, Full}
-use Rattle.height.specs.Smallest.{heightOf}
+use Rattle.look.specs.declared.height.Look.{Look}
+use Rattle.look.specs.declared.height.Look.the-variants.{Free, Full}
+use Rattle.look.specs.height.Smallest.{heightOf}
 use Rattle.look.specs.Looking.{countedIn}
 use Rattle.filling.specs.Columns.{Ranges, ranges, reversed, lastColumn, columnAt}
 use Rattle.filling.specs.Shapes.{Shape, Planner}

@@ -10,7 +10,7 @@ use Rattle.trapezoid.specs.Strip.{stripAt, flat, capacity, movedBy}
 use Rattle.index.specs.Buckets.{upFrom}
 use Rattle.strips.specs.declared.Rect.{Rect}
 use Rattle.strips.specs.Strips as Strips
-use Rattle.sets.specs.Sets.{Set}
+use Rattle.kinds.specs.sets.Sets.{Set}
 use Rattle.kinds.specs.Kinds.{Orientation, Kind}
 use Rattle.job.specs.Jobs.{Job}
 

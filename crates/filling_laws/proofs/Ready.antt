@@ -18,10 +18,10 @@ use Rattle.trapezoid.specs.Strip.{stripAt, capacity}
 use Rattle.index.specs.Buckets.{standingCapacity}
 use Rattle.index.proofs.Standing.{standing-within}
 use Rattle.strips.specs.declared.Rect.{Rect}
-use Rattle.index.specs.Listing.{Laid, Bounded, Fair}
+use Rattle.index.specs.inner.Listing.{Laid, Bounded, Fair}
 use Rattle.index.specs.declared.Index.{Index}
 use Rattle.index.proofs.NewIndex.{new-fair, laid-after}
-use Rattle.look.specs.Ready.{BoundedStrip, BoundedStrips}
+use Rattle.look.specs.inner.Ready.{BoundedStrip, BoundedStrips}
 use Rattle.bits.proofs.Accepted.{UpFrom}
 use Rattle.job.specs.Jobs.{Job}
 use Rattle.filling.specs.declared.State.{State}
@@ -34,13 +34,13 @@ use Rattle.filling.specs.Order.{rearranged}
 use Rattle.filling.specs.State as States
 use Rattle.filling.specs.State.{orientationCounts, apartRoom, insetRoom, shapeAt, plannerAt, orderOf, trackAt, tracksOf}
 use Rattle.filling.specs.Consistent.{every, stripsFit, boundsFit, takenFits, stripCountsFit, partsFit, columnFits, trackFits, trackTableFits, resolutionFits, shapeFits, plannerFits, layoutFits, entriesFit, sheetIndex, placedStrips, consistent}
-use Rattle.columns.specs.Stands.{columnsOf, xOf, lastOf}
-use Rattle.columns.proofs.Same as Same
-use Rattle.columns.proofs.Steps.{last-bound}
-use Rattle.columns.proofs.Sizes.{BoundedRect, y-low-bounded, y-high-bounded, few-columns}
-use Rattle.choose.specs.Choosing.{partAt, boundsAt, insetPart, apartPart, World, world, columnsAt}
+use Rattle.search.specs.columns.inner.Stands.{columnsOf, columnX, lastOf}
+use Rattle.search.proofs.columns.Same as Same
+use Rattle.search.proofs.columns.Steps.{last-bound}
+use Rattle.search.proofs.columns.Sizes.{BoundedRect, y-low-bounded, y-high-bounded, few-columns}
+use Rattle.choose.specs.inner.Choosing.{partAt, boundsAt, insetPart, apartPart, Surroundings, surroundings, columnsAt}
 use Rattle.store.proofs.Strips.{prefix-strip}
-use Rattle.place.specs.Standing.{Standing, Fixed}
+use Rattle.place.specs.inner.Standing.{Standing, Fixed}
 use Rattle.filling_laws.proofs.ReadyNumbers.{RectFits, bounds-are, resolution-is, resolving}
 use Rattle.filling_laws.proofs.ReadyColumns.{column-bounded}
 use Rattle.filling_laws.proofs.ReadyStrips.{AllFit, take-fit, drop-fit, part-fit, strips-are, slots-every, slots-track}
@@ -220,7 +220,7 @@ module _ (j : Job) (s : State) (w : Rooms) (e : consistent j s w ≡ true) (D : 
     -- whatever stands and however large the interval room is
     pub ready-fixed : (room : ℕ) (placed : List Float) (sheet-starts : List ℕ) → length (s .tables .«inset_bounds») ≡ 4096 → length (s .tables .parts) ≡ 4096 → i < 1024
         → Laid (sheetIndex bounds) sheet (capacity sheet) (w .sheet-entries) sheet-starts
-        → Fixed (sheetIndex bounds) (world room bounds (s .tables .resolution) (s .tables .«inset_bounds») (s .tables .parts) (apartRoom (s .tables) (w .shapes)) (insetRoom (s .tables) (w .shapes)) sheet placed) (w .sheet-entries) sheet-starts i
+        → Fixed (sheetIndex bounds) (surroundings room bounds (s .tables .resolution) (s .tables .«inset_bounds») (s .tables .parts) (apartRoom (s .tables) (w .shapes)) (insetRoom (s .tables) (w .shapes)) sheet placed) (w .sheet-entries) sheet-starts i
     ready-fixed room placed sheet-starts a b c L =
         let B = shape-bounds in
         let r = s .tables .resolution in

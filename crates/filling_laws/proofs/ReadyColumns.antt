@@ -24,11 +24,11 @@ use Rattle.numbers.proofs.Doubles as Doubles
 use Rattle.numbers.proofs.Doubles.{k, o, u, Finite, Number, Upto, add-mono, sub-mono, div-mono, sub-nonneg, add-upto, sub-upto}
 use Rattle.bits.proofs.Accepted.{UpFrom}
 use Rattle.strips.specs.declared.Rect.{Rect}
-use Rattle.index.specs.Listing.{Bounded}
+use Rattle.index.specs.inner.Listing.{Bounded}
 use Rattle.filling.proofs.WithinBoundsNumbers.{quotient-from}
-use Rattle.columns.specs.Stands.{columnsOf, regularOf, xOf}
-use Rattle.columns.proofs.Steps.{x-regular, x-extra}
-use Rattle.columns.proofs.Sizes.{BoundedRect, Resolving, x-low-bounded, x-high-bounded}
+use Rattle.search.specs.columns.inner.Stands.{columnsOf, regularOf, columnX}
+use Rattle.search.proofs.columns.Steps.{x-regular, x-extra}
+use Rattle.search.proofs.columns.Sizes.{BoundedRect, Resolving, x-low-bounded, x-high-bounded}
 use Rattle.filling_laws.proofs.ReadyNumbers.{resolving}
 
 -- ---- a sum or a difference of at most so many whole units
@@ -321,7 +321,7 @@ module _ (s b : Rect) (r : Float) (S : BoundedRect s) (B : BoundedRect b) (R : U
   regular-at c h = regular-bounded R (x-low-bounded s b r S B) (x-high-bounded s b r S B) c h
 
   -- every column, the extra one too
-  pub column-bounded : (c : ℕ) → Bounded 3000000 (xOf (columnsOf s b r) c)
+  pub column-bounded : (c : ℕ) → Bounded 3000000 (columnX (columnsOf s b r) c)
   column-bounded c = elim (either (leb c (columnsOf s b r .count))) [
     | inl e ↦ subst (Bounded 3000000) (sym (x-regular (columnsOf s b r) c e)) (plus-bounded (regular-at c (leb-true _ _ e)))
     | inr e ↦ subst (Bounded 3000000) (sym (x-extra (columnsOf s b r) c e)) (plus-bounded (bounded-more (x-high-bounded s b r S B)))

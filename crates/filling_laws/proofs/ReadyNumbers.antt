@@ -19,10 +19,10 @@ use Rattle.numbers.proofs.Doubles.{k, o, u, Finite, Number}
 use Rattle.bits.specs.Fields.{resolutionRange}
 use Rattle.bits.proofs.Accepted.{UpFrom, resolution-in, resolution-least, resolution-most}
 use Rattle.strips.specs.declared.Rect.{Rect}
-use Rattle.index.specs.Listing.{Bounded}
+use Rattle.index.specs.inner.Listing.{Bounded}
 use Rattle.filling.specs.Consistent.{bounded, boundsFit, resolutionFits}
 use Rattle.filling.proofs.WithinBoundsNumbers.{tested-bounded}
-use Rattle.columns.proofs.Sizes.{BoundedRect, Resolving}
+use Rattle.search.proofs.columns.Sizes.{BoundedRect, Resolving}
 
 -- ---- "not finite or beyond ±1,000,000"
 

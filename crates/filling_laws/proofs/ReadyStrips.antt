@@ -13,7 +13,7 @@ use Rattle.numbers.proofs.Truth.{both-first, both-second}
 use Rattle.trapezoid.specs.declared.Trapezoid.{Trapezoid}
 use Rattle.trapezoid.specs.Strip.{stripAt, capacity, partOf}
 use Rattle.index.specs.Buckets.{upFrom}
-use Rattle.look.specs.Ready.{BoundedStrip, BoundedStrips}
+use Rattle.look.specs.inner.Ready.{BoundedStrip, BoundedStrips}
 use Rattle.filling.specs.Shapes.{Shape, Planner}
 use Rattle.filling.specs.Search.{Track, lastOf}
 use Rattle.filling.specs.State.{slotRows}

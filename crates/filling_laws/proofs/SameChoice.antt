@@ -22,16 +22,16 @@ use Rattle.filling.specs.Choice as Definition
 use Rattle.filling.specs.Choice.{choiceOf, choices, best}
 use Rattle.filling.specs.State.{rememberedNumber, trackAt}
 use Rattle.filling.specs.NextCopy.{anyAbove, intervalCounts}
-use Rattle.columns.specs.declared.Columns.{Columns}
-use Rattle.columns.specs.Stands.{columnsOf, xOf}
-use Rattle.columns.proofs.Same as Same
+use Rattle.search.specs.declared.columns.Columns.{Columns}
+use Rattle.search.specs.columns.inner.Stands.{columnsOf, columnX}
+use Rattle.search.proofs.columns.Same as Same
 use Rattle.search.specs.declared.Found.{Found}
 use Rattle.search.specs.declared.Found.the-variants as Founds
-use Rattle.search.specs.Searching.{Tracked, tracked, searchOf}
+use Rattle.search.specs.inner.Searching.{Tracked, tracked, searchOf}
 use Rattle.choose.specs.declared.Choice.{Choice}
 use Rattle.choose.specs.declared.Winner.{Winner}
 use Rattle.choose.specs.declared.Winner.the-variants.{At, Nowhere, Overflow}
-use Rattle.choose.specs.Choosing.{boundsAt, partAt, insetPart, apartPart, winnerOf, winsOf, againstOf, betterOf, World, world, columnsAt, looksAt, Chosen, chosen, won, orientationOf, bettered, chooseFrom}
+use Rattle.choose.specs.inner.Choosing.{boundsAt, partAt, insetPart, apartPart, winnerOf, winsOf, againstOf, betterOf, Surroundings, surroundings, columnsAt, looksAt, Chosen, chosen, won, orientationOf, bettered, chooseFrom}
 use Rattle.choose.proofs.Turns.{first-true, first-false}
 use Rattle.filling_laws.proofs.SameSearch.{foundOf, countFor, foundFor, looksFor, TrackedFor, same-over, same-fine}
 
@@ -122,8 +122,8 @@ module _ (capacity : ℕ) (xs ys : List ℕ) where
 
 -- ---- the orientations in turn
 module _ (p : Planner) (standing : List Float) (capacity : ℕ) (inset-bounds : List Float) (parts : List ℕ) (apart inset : List Float) (slot : ℕ) where
-  abbrev pub worldOf : World
-  worldOf = world capacity (p .bounds) (p .resolution) inset-bounds parts apart inset (p .sheet) standing
+  abbrev pub worldOf : Surroundings
+  worldOf = surroundings capacity (p .bounds) (p .resolution) inset-bounds parts apart inset (p .sheet) standing
 
   -- the shape in slot i, as the rooms and tables hold it
   abbrev pub shapeIn : ℕ → Shape

@@ -16,7 +16,7 @@ use Rattle.numbers.proofs.Truth.{either}
 use Rattle.trapezoid.specs.Strip.{capacity}
 use Rattle.index.specs.declared.Index.{Index}
 use Rattle.index.specs.Buckets.{upFrom, entriesOf, standingCapacity}
-use Rattle.enter.specs.EntryRoom.{startsOf}
+use Rattle.enter.specs.inner.EntryRoom.{startsOf}
 use Rattle.filling.specs.declared.State.{State}
 use Rattle.filling.specs.declared.Refusal.{Refusal}
 use Rattle.filling.specs.declared.Refusal.the-variants as Why
@@ -36,16 +36,16 @@ use Rattle.filling.proofs.Steps.{refuse-yes, refuse-no}
 use Rattle.choose.specs.declared.Choice.{Choice}
 use Rattle.choose.specs.declared.Winner.{Winner}
 use Rattle.choose.specs.declared.Winner.the-variants as Winners
-use Rattle.choose.specs.Choosing.{partAt, apartPart, Chosen, chosen, chooseFrom}
+use Rattle.choose.specs.inner.Choosing.{partAt, apartPart, Chosen, chosen, chooseFrom}
 use Rattle.store.specs.declared.Stored.{Stored}
 use Rattle.store.specs.declared.Stored.the-variants as Answers
-use Rattle.store.specs.Storing.{Left, left, together, storeOf}
+use Rattle.store.specs.inner.Storing.{Left, left, together, storeOf}
 use Rattle.store.proofs.Strips.{strips-count}
 use Rattle.place.specs.declared.Totals.{Totals}
 use Rattle.place.specs.declared.Outcome.{Outcome}
 use Rattle.place.specs.declared.Outcome.the-variants.{At, Nowhere, Refused}
 use Rattle.place.specs.declared.Step.{Step}
-use Rattle.place.specs.Placing.{totalsOf, step, afterOf, withoutOf, PutLeft, put, putLeft, putOf, settleOf, Among, Placed, placeWith, placeOf, numberOf, xOf, yOf}
+use Rattle.place.specs.inner.Placing.{totalsOf, step, afterOf, withoutOf, PutLeft, put, putLeft, putOf, settleOf, Among, Placed, placeWith, placeOf, orientationNumber, outcomeX, yOf}
 use Rattle.place.proofs.Putting.{chosen-among}
 use Rattle.filling_laws.proofs.SameChoice.{choiceIn, bestOf, worldOf, shapeIn, shapesFrom, tracksFrom, foundsFrom, trackedFrom, aboveFrom, choose-over, choose-fine}
 
@@ -62,7 +62,7 @@ takenWith s w intervals r =
         «next_column» = r .next;
         «look_counts» = r .counts;
         «placed_strips» = r .left .reply .totals .«placed_strips»;
-        layout = entered (s .layout) (s .taken) (numberOf (r .left .reply .outcome)) (xOf (r .left .reply .outcome)) (yOf (r .left .reply .outcome)) (r .left .reply .totals .«unplaced_area») (r .left .reply .totals .right);
+        layout = entered (s .layout) (s .taken) (orientationNumber (r .left .reply .outcome)) (outcomeX (r .left .reply .outcome)) (yOf (r .left .reply .outcome)) (r .left .reply .totals .«unplaced_area») (r .left .reply .totals .right);
       };
       rooms = record { shapes = w .shapes; sheet = w .sheet; placed = r .left .placed; sheet-entries = w .sheet-entries; placed-entries = r .left .entries };
       intervals = zeros posZero intervals;

@@ -16,7 +16,7 @@ use Rattle.filling.specs.State as States
 use Rattle.filling.specs.State.{slotRows, orientationCounts, apartRoom, insetRoom, shapeAt, plannerAt, orderOf, trackAt, tracksOf}
 use Rattle.filling.specs.Consistent.{placedStrips}
 use Rattle.filling.specs.NextCopy.{placeCopy, placeNext, coreStep}
-use Rattle.choose.specs.Choosing.{partAt, boundsAt}
+use Rattle.choose.specs.inner.Choosing.{partAt, boundsAt}
 use Rattle.filling_laws.proofs.SameCopy.{stepFrom, standing, ss, ts, codeOf, same-step}
 
 -- row i of a table by kind and orientation

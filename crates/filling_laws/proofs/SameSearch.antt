@@ -15,11 +15,11 @@ use lib.Ieee.{Float}
 use Rattle.numbers.proofs.Truth.{either}
 use Rattle.index.specs.declared.Interval.{Interval}
 use Rattle.index.specs.Buckets.{upFrom}
-use Rattle.height.specs.declared.Look.{Look}
-use Rattle.height.specs.declared.Look.the-variants.{Free, Full}
+use Rattle.look.specs.declared.height.Look.{Look}
+use Rattle.look.specs.declared.height.Look.the-variants.{Free, Full}
 use Rattle.look.specs.declared.Answer.{Answer}
 use Rattle.look.specs.declared.Answer.the-variants.{NoRoom, Seen}
-use Rattle.look.specs.Ready.{answerOf, lookOf}
+use Rattle.look.specs.inner.Ready.{answerOf, lookOf}
 use Rattle.filling.specs.Columns.{ranges, reversed, columns, regularColumn, lastColumn, columnAt}
 use Rattle.filling.specs.Shapes.{Planner, Shape}
 use Rattle.filling.specs.Search as Filling
@@ -28,13 +28,13 @@ use Rattle.filling.specs.State.{rememberedOf, rememberedNumber}
 use Rattle.filling.specs.NextCopy.{anyAbove}
 use Rattle.filling.proofs.Demand3.{looks-open}
 use Rattle.filling.proofs.FirstFree.{first-free, first-full}
-use Rattle.columns.specs.declared.Columns.{Columns}
-use Rattle.columns.specs.Stands.{columnsOf, reversedOf, regularOf, xOf, lastOf, startFrom, startOf}
-use Rattle.columns.proofs.Steps.{start-reversed, start-none, start-at}
-use Rattle.columns.proofs.Same as Same
+use Rattle.search.specs.declared.columns.Columns.{Columns}
+use Rattle.search.specs.columns.inner.Stands.{columnsOf, reversedOf, regularOf, columnX, lastOf, startFrom, startOf}
+use Rattle.search.proofs.columns.Steps.{start-reversed, start-none, start-at}
+use Rattle.search.proofs.columns.Same as Same
 use Rattle.search.specs.declared.Found.{Found}
 use Rattle.search.specs.declared.Found.the-variants.{At, Nowhere, Overflow}
-use Rattle.search.specs.Searching.{answerAt, Looked, looked, counted, searchFrom, nextOf, Tracked, tracked, remembering, searchOf}
+use Rattle.search.specs.inner.Searching.{answerAt, Looked, looked, counted, searchFrom, nextOf, Tracked, tracked, remembering, searchOf}
 use Rattle.search.proofs.Turns.{search-end, search-overflow, search-free, search-full}
 
 -- what the definition finds, as the code says it
@@ -173,7 +173,7 @@ answer-over : (capacity : ℕ) (y-low y-high : Float) (is : List Interval) → l
 unfolding answerOf
 answer-over capacity y-low y-high is e = rw (e, answerOf)
 
-answer-seen : (capacity : ℕ) (y-low y-high : Float) (is : List Interval) → ltb capacity (length is) ≡ false → answerOf capacity y-low y-high is ≡ Seen (Rattle.height.specs.Smallest.heightOf y-low y-high is)
+answer-seen : (capacity : ℕ) (y-low y-high : Float) (is : List Interval) → ltb capacity (length is) ≡ false → answerOf capacity y-low y-high is ≡ Seen (Rattle.look.specs.height.Smallest.heightOf y-low y-high is)
 unfolding answerOf
 answer-seen capacity y-low y-high is e = rw (e, answerOf)
 
@@ -189,10 +189,10 @@ module _ (p : Planner) (standing : List Float) (s : Shape) (capacity : ℕ) wher
   countFor c = length (intervalsAt p standing s c)
 
   answer-is : (c : ℕ) → answersFor c ≡ answerOf capacity (rangesOf p s .y-low) (rangesOf p s .y-high) (intervalsAt p standing s c)
-  unfolding answerAt lookOf intervalsAt rangesOf columnsOf ranges xOf regularOf columnAt columns regularColumn
+  unfolding answerAt lookOf intervalsAt rangesOf columnsOf ranges columnX regularOf columnAt columns regularColumn
   answer-is c = refl
 
-  look-is : (c : ℕ) → Rattle.height.specs.Smallest.heightOf (rangesOf p s .y-low) (rangesOf p s .y-high) (intervalsAt p standing s c) ≡ lookAt p standing s c
+  look-is : (c : ℕ) → Rattle.look.specs.height.Smallest.heightOf (rangesOf p s .y-low) (rangesOf p s .y-high) (intervalsAt p standing s c) ≡ lookAt p standing s c
   unfolding lookAt
   look-is c = refl
 

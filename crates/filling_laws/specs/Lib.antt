@@ -1,0 +1,2 @@
+pub mod fill_laws
+pub mod step_promises

@@ -5,14 +5,14 @@
 // never of this code.
 ghost use Prim.Native.Nat.{_≤_, _<_};
 use filling::State;
-use filling_script::command;
-use filling_script::command::Command;
-use filling_script::edit;
-use filling_script::lend;
-use filling_script::show;
 use index::Entry;
+use replay::command;
+use replay::command::Command;
+use replay::edit;
+use replay::lend;
+use replay::show;
 use report::NestResult;
-use started::Started;
+use start::replies::Started;
 use step::Stepped;
 
 fn show_start(r: Started) -> State {

@@ -5,7 +5,7 @@ use native.Mathlib.Numerals.{add-one}
 use mathlib.Core.Path.{_≡_, refl, ap, subst}
 use mathlib.Core.List.{List}
 use lib.ListN.{getD}
-use Rattle.gaps.specs.OpenGaps.{before}
+use Rattle.gaps.specs.inner.OpenGaps.{before}
 
 pub before-next : (g : List ℕ) (b : ℕ) → before g (b + 1) ≡ before g b + getD g b 0
 unfolding before

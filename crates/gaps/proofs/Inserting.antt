@@ -8,8 +8,8 @@ use mathlib.Core.List.{List}
 use lib.ListN.{length, getD, set, length-set}
 use lib.Seq.{getD-set-same, getD-set-other}
 use Rattle.numbers.proofs.Truth.{below-or-not}
-use Rattle.moves.specs.Moves.{Moved}
-use Rattle.gaps.specs.OpenGaps.{Inserted, Stepped}
+use Rattle.moves.specs.inner.Moves.{Moved}
+use Rattle.gaps.specs.inner.OpenGaps.{Inserted, Stepped}
 
 -- ---- the buckets, from the last to the first
 pub inserted-start : (lo width number : ℕ) (st e : List ℕ) → Inserted lo width number st e width e

@@ -8,8 +8,8 @@ use mathlib.Core.List.{List}
 use lib.ListN.{length, getD, set, length-set}
 use lib.Seq.{getD-set-same, getD-set-other}
 use Rattle.numbers.proofs.Truth.{below-or-not}
-use Rattle.moves.specs.Moves.{Moved}
-use Rattle.gaps.specs.OpenGaps.{before, Opened, Marked}
+use Rattle.moves.specs.inner.Moves.{Moved}
+use Rattle.gaps.specs.inner.OpenGaps.{before, Opened, Marked}
 use Rattle.gaps.proofs.Before.{before-rise, before-pos, before-back}
 
 -- ---- opening the gaps

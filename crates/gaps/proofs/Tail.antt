@@ -7,8 +7,8 @@ use mathlib.Core.List.{List}
 use lib.ListN.{length, getD}
 use Rattle.numbers.proofs.Truth.{below-or-not}
 use Rattle.index.specs.Buckets.{buckets}
-use Rattle.moves.specs.Moves.{Moved, Shifted}
-use Rattle.gaps.specs.OpenGaps.{before, Opened}
+use Rattle.moves.specs.inner.Moves.{Moved, Shifted}
+use Rattle.gaps.specs.inner.OpenGaps.{before, Opened}
 use Rattle.gaps.proofs.Before.{before-next}
 
 -- ---- no new entries from `end` on

@@ -1,1 +1,1 @@
-pub mod OpenGaps
+pub mod inner

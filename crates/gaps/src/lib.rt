@@ -4,11 +4,11 @@ ghost use Prim.Native.Nat.{ℕ, _+_, _≤_, _<_, _^_};
 ghost use mathlib.Core.List.{List};
 ghost use lib.ListN.{length, getD, set};
 ghost use Rattle.index.specs.Buckets.{buckets, stripNumbers};
-ghost use Rattle.gaps.specs.OpenGaps.{before, Marked, Opened, Inserted, Stepped};
+ghost use Rattle.gaps.specs.inner.OpenGaps.{before, Marked, Opened, Inserted, Stepped};
 use index::Entry;
 use index::Index;
 
-// Writes the number of a strip as entry e. Only crates of ours call it.
+// Writes the number of a strip as entry e.
 pub fn set_entry(entries: &mut [Entry], e: usize, number: usize)
     requires { ⌜ (e < length (now entries)) × (number < stripNumbers) ⌝ }
     ensures { λ _. ⌜ now (entries .exit) ≡ set (now (entries .entry)) e number ⌝ }
@@ -26,8 +26,11 @@ fn open_gaps(
     more: usize,
     end: usize,
 )
-    requires { ⌜ (length (now starts) ≡ buckets + 1) × (end ≤ buckets) × ((b c : ℕ) → b ≤ c → c < end + 1 → getD (now starts) b 0 ≤ getD (now starts) c 0) × (length (now marks) ≡ buckets) × (getD (now starts) end 0 + more ≤ length (now entries)) × (count + more < 2 ^ 64) × ((g : List ℕ) × Marked count end g (now marks) × (more ≡ before g end)) ⌝ }
-    ensures { λ _. ⌜ ((g : List ℕ) → Marked count end g (now (marks .entry)) → more ≡ before g end → Opened end (now (starts .entry)) g (now (entries .entry)) 0 (now (entries .exit)) (now (starts .exit))) ⌝ }
+    requires { ⌜ (length (now starts) ≡ buckets + 1) × (end ≤ buckets) × ((b c : ℕ) → b ≤ c → c < end + 1 → getD (now starts) b 0 ≤ getD (now starts) c 0)
+        × (length (now marks) ≡ buckets) × (getD (now starts) end 0 + more ≤ length (now entries)) × (count + more < 2 ^ 64)
+        × ((g : List ℕ) × Marked count end g (now marks) × (more ≡ before g end)) ⌝ }
+    ensures { λ _. ⌜ ((g : List ℕ) → Marked count end g (now (marks .entry)) → more ≡ before g end → Opened end (now (starts .entry)) g (now (entries .entry)) 0
+        (now (entries .exit)) (now (starts .exit))) ⌝ }
 {
     let mut b = end;
     let mut left = more;
@@ -53,8 +56,11 @@ pub fn open_all(
     more: usize,
     end: usize,
 )
-    requires { ⌜ (length (now starts) ≡ buckets + 1) × ((b c : ℕ) → b ≤ c → c < buckets + 1 → getD (now starts) b 0 ≤ getD (now starts) c 0) × (length (now marks) ≡ buckets) × (getD (now starts) buckets 0 + more ≤ length (now entries)) × (end ≤ buckets) × (count + more < 2 ^ 64) × ((g : List ℕ) × Marked count end g (now marks) × (more ≡ before g buckets)) ⌝ }
-    ensures { λ _. ⌜ ((g : List ℕ) → Marked count end g (now (marks .entry)) → more ≡ before g buckets → Opened buckets (now (starts .entry)) g (now (entries .entry)) 0 (now (entries .exit)) (now (starts .exit))) ⌝ }
+    requires { ⌜ (length (now starts) ≡ buckets + 1) × ((b c : ℕ) → b ≤ c → c < buckets + 1 → getD (now starts) b 0 ≤ getD (now starts) c 0)
+        × (length (now marks) ≡ buckets) × (getD (now starts) buckets 0 + more ≤ length (now entries)) × (end ≤ buckets) × (count + more < 2 ^ 64)
+        × ((g : List ℕ) × Marked count end g (now marks) × (more ≡ before g buckets)) ⌝ }
+    ensures { λ _. ⌜ ((g : List ℕ) → Marked count end g (now (marks .entry)) → more ≡ before g buckets
+        → Opened buckets (now (starts .entry)) g (now (entries .entry)) 0 (now (entries .exit)) (now (starts .exit))) ⌝ }
 {
     let from = starts[end];
     let to = starts[Index::BUCKETS];
@@ -64,7 +70,7 @@ pub fn open_all(
 }
 
 // Moves `width` buckets from lo on up by 0, 1, .., the last first; a strip's number goes to each one's end.
-// `long` where buckets are likely to be long. Only crates of ours call it.
+// `long` where buckets are likely to be long.
 pub fn insert(
     entries: &mut [Entry],
     starts: &[usize],
@@ -73,7 +79,8 @@ pub fn insert(
     width: usize,
     long: bool,
 )
-    requires { ⌜ (lo + width < length (now starts)) × ((b c : ℕ) → b ≤ c → c < length (now starts) → getD (now starts) b 0 ≤ getD (now starts) c 0) × (getD (now starts) (lo + width) 0 + width ≤ length (now entries)) × (number < stripNumbers) ⌝ }
+    requires { ⌜ (lo + width < length (now starts)) × ((b c : ℕ) → b ≤ c → c < length (now starts) → getD (now starts) b 0 ≤ getD (now starts) c 0)
+        × (getD (now starts) (lo + width) 0 + width ≤ length (now entries)) × (number < stripNumbers) ⌝ }
     ensures { λ _. ⌜ Inserted lo width number (now (starts .entry)) (now (entries .entry)) 0 (now (entries .exit)) ⌝ }
 {
     let mut by = width;
@@ -87,7 +94,7 @@ pub fn insert(
     }
 }
 
-// Adds 1, 2, .. `width` to the starts after that of bucket lo. Only crates of ours call it.
+// Adds 1, 2, .. `width` to the starts after that of bucket lo.
 pub fn step_up(starts: &mut [usize], lo: usize, width: usize)
     requires { ⌜ (lo + width < length (now starts)) × ((c : ℕ) → c < length (now starts) → getD (now starts) c 0 + width < 18446744073709551616) ⌝ }
     ensures { λ _. ⌜ Stepped lo (now (starts .entry)) width (now (starts .exit)) ⌝ }

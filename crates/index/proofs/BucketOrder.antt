@@ -12,7 +12,7 @@ use Rattle.numbers.proofs.Operations.{div-real}
 use Rattle.numbers.proofs.RoundDown.{floor-mono}
 use Rattle.index.specs.declared.Index.{Index}
 use Rattle.index.specs.Buckets.{buckets, bucketIn}
-use Rattle.index.specs.Listing.{Bounded, Fair}
+use Rattle.index.specs.inner.Listing.{Bounded, Fair}
 
 -- ---- the smaller and the larger of two finite doubles
 pub smaller-finite : {a b : Float} → Finite a → Finite b → Finite (smaller a b) × (k (smaller a b) ≡ min (k a) (k b))

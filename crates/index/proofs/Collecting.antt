@@ -12,7 +12,7 @@ use borrow.Author.Tests.{lt-ltb, le-ltb}
 use Rattle.numbers.proofs.Truth.{below-or-not}
 use Rattle.index.specs.declared.Interval.{Interval}
 use Rattle.index.specs.Buckets.{upFrom}
-use Rattle.index.specs.Listing.{Collected, collected, push, pushAll, intervalAt, intervals}
+use Rattle.index.specs.inner.Listing.{Collected, collected, push, pushAll, intervalAt, intervals}
 use Rattle.index.proofs.Steps.{push-true, push-false, length-push}
 use Rattle.index.proofs.Flat.{upFrom-mem, map-same}
 

@@ -8,7 +8,7 @@ use lib.Ieee.{Float}
 use Rattle.trapezoid.specs.Strip.{stripAt}
 use Rattle.index.specs.declared.Index.{Index}
 use Rattle.index.specs.Buckets.{upFrom, keep, buckets, bucketIn, Span, spanOf, numbersIn, byBucket, entriesOf}
-use Rattle.index.specs.Listing.{covers, entered}
+use Rattle.index.specs.inner.Listing.{covers, enteredFrom}
 
 module _ (ix : Index) (standing : List Float) (b : ℕ) where
   numbers-keep : (n c : ℕ) → numbersIn b c (map (λ i. spanOf ix (stripAt standing i)) (upFrom n c)) ≡ keep (λ i. covers ix (stripAt standing i) b) (upFrom n c)
@@ -25,7 +25,7 @@ unfolding flatMap
 flat-pointwise f g h [] = refl
 flat-pointwise f g h (a ∷ l) = ap₂ _++_ (h a) (flat-pointwise f g h l)
 
-pub entries-by-bucket : (ix : Index) (standing : List Float) (n : ℕ) → entriesOf ix standing n ≡ flatMap (entered ix standing n) (upFrom buckets 0)
-unfolding entriesOf byBucket entered
+pub entries-by-bucket : (ix : Index) (standing : List Float) (n : ℕ) → entriesOf ix standing n ≡ flatMap (enteredFrom ix standing n) (upFrom buckets 0)
+unfolding entriesOf byBucket enteredFrom
 entries-by-bucket ix standing n =
     flat-pointwise (λ b. numbersIn b 0 (map (λ i. spanOf ix (stripAt standing i)) (upFrom n 0))) (λ b. keep (λ i. covers ix (stripAt standing i) b) (upFrom n 0)) (λ b. numbers-keep ix standing b n 0) (upFrom buckets 0)

@@ -20,7 +20,7 @@ use Rattle.index.specs.declared.Interval.{Interval}
 use Rattle.index.specs.declared.Moving.{Moving}
 use Rattle.index.specs.Buckets.{buckets, upFrom, keep, bucketIn}
 use Rattle.index.specs.Intervals.{meetingOf, intervalIn, forbiddenOf, countsOf, countedOf}
-use Rattle.index.specs.Listing.{movingOf, heightsOf, meetingAt, pairOf, metIn, entryOf, listEntries, listBucket, listMoving, listed, Usable, Laid, Bounded, Fair, covers, entered}
+use Rattle.index.specs.inner.Listing.{movingOf, heightsOf, meetingAt, pairOf, metIn, entryOf, listEntries, listBucket, listMoving, listed, Usable, Laid, Bounded, Fair, covers, enteredFrom}
 use Rattle.index.proofs.Steps.{entry-true, entry-false, pair-apart, bucket-top}
 use Rattle.index.proofs.BucketOrder.{bucket-meets, larger-finite, smaller-finite}
 use Rattle.index.proofs.Flat.{perm-of, flat-same, flat-perm, flat-none, flat-swap, flat-single, flat-slice, flat-keep, keep-flat, keep-mem, upFrom-mem}
@@ -129,7 +129,7 @@ module _ (ix : Index) (I : Fair ix) (standing : List Float) (n : ℕ) (entries s
     (P0 : (i : ℕ) → i < n → Bounded 4000000 (stripAt standing i .x0)) (P1 : (i : ℕ) → i < n → Bounded 4000000 (stripAt standing i .x1)) where
   bucket-list : (m : Moving) (first b : ℕ) → b < 512
       → listBucket ix m first standing entries starts b ≡ flatMap (λ i. elim (covers ix (stripAt standing i) b) [ true ↦ entryOf ix m first b (stripAt standing i) | false ↦ [] ]) (upFrom n 0)
-  unfolding listBucket listEntries entered
+  unfolding listBucket listEntries enteredFrom
   bucket-list m first b h =
       flat-slice (λ i. entryOf ix m first b (stripAt standing i)) entries (getD starts (b + 1) 0 - getD starts b 0) (getD starts b 0) (getD starts (b + 1) 0) refl (L .within (b + 1) (omega arith))
       ∙ ap (flatMap (λ i. entryOf ix m first b (stripAt standing i))) (L .block b h)
@@ -165,7 +165,7 @@ module _ (ix : Index) (I : Fair ix) (standing : List Float) (n : ℕ) (entries s
   slice-mem (suc k) f e t q h l w = rw (slice-cons f t entries 0 (omega arith) w) (List·Memᴰ·tail (slice-mem k (suc f) e t (omega arith) (omega arith) l w))
 
   pub laid-usable : Usable standing entries starts
-  unfolding entered
+  unfolding enteredFrom
   laid-usable = record { table = L .table; within = L .within; strips = strips }
     where
       strips : (b : ℕ) → b < 512 → (e : ℕ) → getD starts b 0 ≤ e → e < getD starts (b + 1) 0 → 6 * getD entries e 0 + 6 ≤ length standing

@@ -16,7 +16,7 @@ use Rattle.numbers.proofs.Literals.{least, least-is, least-pos}
 use Rattle.trapezoid.specs.Strip.{stripAt}
 use Rattle.index.specs.declared.Index.{Index}
 use Rattle.index.specs.Buckets.{buckets, leastWidth, upFrom, keep, indexOf}
-use Rattle.index.specs.Listing.{Laid, Bounded, Fair, covers, entered}
+use Rattle.index.specs.inner.Listing.{Laid, Bounded, Fair, covers, enteredFrom}
 use Rattle.index.proofs.BucketOrder.{larger-finite}
 use Rattle.index.proofs.Flat.{upFrom-mem, keep-same}
 
@@ -54,11 +54,11 @@ new-fair x0 x1 X0 X1 = record { start = X0; width = w .0; some = rw (w .1) (abov
 
 -- ---- no strips
 pub none-laid : (ix : Index) (standing : List Float) (entries starts : List ℕ) → length starts ≡ buckets + 1 → ((b : ℕ) → getD starts b 0 ≡ 0) → Laid ix standing 0 entries starts
-unfolding entered upFrom keep
+unfolding enteredFrom upFrom keep
 none-laid ix standing entries starts t z = record { table = t; first = z 0; rise = λ b c h l. rw (z b) (omega arith); within = λ b h. rw (z b) (omega arith); block = λ b h. rw (z b, z (b + 1)) (slice-empty 0 entries); room = omega arith }
 
 -- ---- strips after the first n
 pub laid-after : (ix : Index) (s s' : List Float) (n : ℕ) (entries starts : List ℕ) → Laid ix s n entries starts → ((i : ℕ) → i < n → stripAt s i ≡ stripAt s' i) → 6 * n ≤ length s' → Laid ix s' n entries starts
-unfolding entered
+unfolding enteredFrom
 laid-after ix s s' n entries starts L f r =
     record { table = L .table; first = L .first; rise = L .rise; within = L .within; room = r; block = λ b h. L .block b h ∙ keep-same (λ i. covers ix (stripAt s i) b) (λ i. covers ix (stripAt s' i) b) (upFrom n 0) (λ i m. (let u = upFrom-mem n 0 i m in ap (λ p. covers ix p b) (f i (omega (arith, u .1))))) }

@@ -19,7 +19,7 @@ use Rattle.index.specs.declared.Meeting.{Meeting}
 use Rattle.index.specs.declared.Meeting.the-variants.{Apart, Forbidden}
 use Rattle.index.specs.Buckets.{buckets, upFrom, keep, bucketIn}
 use Rattle.index.specs.Intervals.{countsOf, intervalIn}
-use Rattle.index.specs.Listing.{heightsOf, meetingAt, pairOf, Collected, collected, push, pushAll, metIn, entryOf}
+use Rattle.index.specs.inner.Listing.{heightsOf, meetingAt, pairOf, Collected, collected, push, pushAll, metIn, entryOf}
 
 pub push-true : (r : List Float) (n : ℕ) (i : Interval) → ltb n (length r / 2) ≡ true → push (collected r n) i ≡ collected (set (set r (2 * n) (i .from)) (2 * n + 1) (i .to)) (n + 1)
 unfolding push

@@ -1,3 +1,4 @@
+pub mod entries
 pub mod Buckets
 pub mod Intervals
-pub mod Listing
+pub mod inner

@@ -1,11 +1,14 @@
 // The index over the standing strips, and the forbidden intervals that it lists (document 01, "Index").
+pub mod entries;
+
 ghost use mathlib.Core.Path.{_≡_};
 ghost use Prim.Native.Nat.{ℕ, _+_, _-_, _*_, _/_, _≤_, _<_};
 ghost use lib.ListN.{length, getD};
 ghost use Rattle.trapezoid.specs.Strip.{stripAt, capacity};
 ghost use Rattle.index.specs.Buckets.{indexOf, bucketIn, standingCapacity};
 ghost use Rattle.index.specs.Intervals.{countsOf};
-ghost use Rattle.index.specs.Listing.{movingOf, heightsOf, meetingAt, pairOf, collected, push, pushAll, entryOf, listEntries, listMoving, listed, Usable};
+ghost use Rattle.index.specs.inner.Listing.{movingOf, heightsOf, meetingAt, pairOf, collected, push, pushAll, entryOf, listEntries, listMoving, listed};
+ghost use Rattle.index.specs.inner.Listing.{Usable};
 use trapezoid::Trapezoid;
 
 // An entry of a bucket: the number of a standing strip.
@@ -85,7 +88,8 @@ impl Index {
         start: usize,
     ) -> usize
         requires { ⌜ Usable (now standing) (now entries) (now starts) ⌝ }
-        ensures { λ r. ⌜ collected (now (room .exit)) r ≡ pushAll (collected (now (room .entry)) start) (listed self «y_low» «y_high» (now (standing .entry)) (now (entries .entry)) (now (starts .entry)) (now (moving .entry)) x (capacity (now (moving .entry))) 0) ⌝ }
+        ensures { λ r. ⌜ collected (now (room .exit)) r ≡ pushAll (collected (now (room .entry)) start) (listed self «y_low» «y_high» (now (standing .entry))
+            (now (entries .entry)) (now (starts .entry)) (now (moving .entry)) x (capacity (now (moving .entry))) 0) ⌝ }
     {
         let mut n = start;
         let count = trapezoid::capacity(moving);
@@ -234,7 +238,8 @@ fn list_entries(
     start: usize,
 ) -> usize
     requires { ⌜ (to ≤ length (now entries)) × ((e : ℕ) → from ≤ e → e < to → 6 * getD (now entries) e 0 + 6 ≤ length (now standing)) ⌝ }
-    ensures { λ r. ⌜ collected (now (room .exit)) r ≡ pushAll (collected (now (room .entry)) start) (listEntries ix m first b (now (standing .entry)) (now (entries .entry)) (to - from) from) ⌝ }
+    ensures { λ r. ⌜ collected (now (room .exit)) r ≡ pushAll (collected (now (room .entry)) start) (listEntries ix m first b (now (standing .entry))
+        (now (entries .entry)) (to - from) from) ⌝ }
 {
     let mut n = start;
     let mut e = from;
@@ -257,7 +262,8 @@ fn list_moving(
     start: usize,
 ) -> usize
     requires { ⌜ Usable (now standing) (now entries) (now starts) ⌝ }
-    ensures { λ r. ⌜ collected (now (room .exit)) r ≡ pushAll (collected (now (room .entry)) start) (listMoving ix (now (standing .entry)) (now (entries .entry)) (now (starts .entry)) m) ⌝ }
+    ensures { λ r. ⌜ collected (now (room .exit)) r ≡ pushAll (collected (now (room .entry)) start)
+        (listMoving ix (now (standing .entry)) (now (entries .entry)) (now (starts .entry)) m) ⌝ }
 {
     let mut n = start;
     let first = ix.bucket(m.x0);

@@ -18,8 +18,8 @@ use Rattle.bits.specs.declared.Refusal.the-variants.{UnknownVersion, TrailingDa
 use Rattle.bits.specs.Reading.{Read, ok, bad, Reader, after, _>>=_, _>>_, give, unless, bits}
 use Rattle.bits.specs.Fields.{kindsField, count, resolutionRange, number}
 use Rattle.bits.proofs.Accepted.{Gives, after-ok, bind, given, unless-ok, bits-less, count-in-range, Between, number-between, UpFrom, resolution-in}
-use Rattle.sets.specs.Sets.{Set, aSet}
-use Rattle.sets.proofs.Accepted.{Coordinates, coordinate-at, Good, set-good}
+use Rattle.kinds.specs.sets.Sets.{Set, aSet}
+use Rattle.kinds.proofs.sets.Accepted.{Coordinates, coordinate-at, Good, set-good}
 use Rattle.kinds.specs.Kinds.{Kind, someKinds, copiesOf}
 use Rattle.kinds.proofs.Accepted.{Every, GoodKind, kinds-good}
 use Rattle.job.specs.declared.Header.{Header}

@@ -21,10 +21,10 @@ use Rattle.job.specs.declared.Judged.{Judged}
 use Rattle.job.specs.declared.Judged.the-variants.{Passed, Failed}
 use Rattle.job.specs.declared.JobRead.{JobRead}
 use Rattle.job.specs.declared.ReadJob.{ReadJob}
-use Rattle.kinds.specs.Tables.{tabulate, kindAt}
-use Rattle.job.specs.Meaning.{answered, jobRead}
-use Rattle.sets.specs.Sets.{Set, aSet}
-use Rattle.sets.specs.Answers.{found, setAt}
+use Rattle.kinds.specs.inner.Tables.{tabulate, kindAt}
+use Rattle.job.specs.inner.Meaning.{answered, jobRead}
+use Rattle.kinds.specs.sets.Sets.{Set, aSet}
+use Rattle.kinds.specs.sets.inner.Answers.{found, setAt}
 use Rattle.kinds.specs.Kinds.{Kind, someKinds, copiesOf}
 use Rattle.job.specs.Jobs.{Job, aHeader, aJob, ended, left, right, widthOf, judgeEnd, Answer, accepted, refused, passed, judged, readJob}
 

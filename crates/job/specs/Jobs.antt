@@ -16,7 +16,7 @@ use Rattle.job.specs.declared.Judged.{Judged}
 use Rattle.job.specs.declared.Judged.the-variants.{Passed, Failed}
 use Rattle.job.specs.declared.Verdict.{Verdict}
 use Rattle.job.specs.declared.Verdict.the-variants.{Accepted, Refused}
-use Rattle.sets.specs.Sets.{Set, aSet}
+use Rattle.kinds.specs.sets.Sets.{Set, aSet}
 use Rattle.kinds.specs.Kinds.{Kind, someKinds, copiesOf}
 
 pub record Job : Type 0 where

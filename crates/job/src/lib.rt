@@ -5,13 +5,13 @@ ghost use Prim.Native.Nat.{_+_, _*_, _≤_, _<_};
 ghost use lib.ListN.{length};
 ghost use Rattle.numbers.specs.Numbers.{_⊖_};
 ghost use Rattle.job.specs.Jobs.{afterVersion, aHeader, ended, left, right, judgeEnd, readJob, verdictOf};
-ghost use Rattle.job.specs.Meaning.{headerRead, answered, jobRead, headerFits};
+ghost use Rattle.job.specs.inner.Meaning.{headerRead, answered, jobRead, headerFits};
 use bits::Counted;
 use bits::Measured;
 use bits::Refusal;
 use bits::Taken;
 use kinds::KindsRead;
-use sets::SetRead;
+use kinds::sets::SetRead;
 
 // What stands before the sheet.
 pub struct Header {
@@ -181,13 +181,14 @@ fn read_job(
     room: &mut [f64],
     ends: &mut [usize],
 ) -> JobRead
-    requires { ⌜ (256 ≤ length (now rows)) × (64 ≤ length (now areas)) × (2048 ≤ length (now places)) × (1024 ≤ length (now room)) × (64 ≤ length (now ends)) ⌝ }
+    requires { ⌜ (256 ≤ length (now rows)) × (64 ≤ length (now areas)) × (2048 ≤ length (now places)) × (1024 ≤ length (now room))
+        × (64 ≤ length (now ends)) ⌝ }
     ensures { λ r. ⌜ readJob (now (bytes .entry)) ≡ jobRead r (now (bytes .entry)) (now (rows .exit)) (now (areas .exit)) (now (places .exit)) ⌝ }
 {
     match read_header(bytes) {
         HeaderRead::Front(h, at) => {
             let sheet = at as u32;
-            match sets::read_set(bytes, sheet, room, ends) {
+            match kinds::sets::read_set(bytes, sheet, room, ends) {
                 SetRead::Loops(_, m, q) => {
                     let w = width_of(room, m);
                     let n = h.kinds as usize;

@@ -1,7 +1,7 @@
 // Replays stored jobs: stdin has a container of jobs (oracle/README.md), and for each a line is
 // printed: ok, or no and the number of its refusal. The file stdout holds the oracle's answers.
 use job::Verdict;
-use records::Part;
+use replay::records::Part;
 
 fn print_verdict(v: Verdict) {
     match v {
@@ -27,10 +27,10 @@ fn answer(room: &[u8], n: usize) -> bool {
 
 // Whether there was one more record; the answer to its job is printed.
 fn replay(room: &mut [u8]) -> bool {
-    let Part::Bytes(_) = records::read_label(room) else {
+    let Part::Bytes(_) = replay::records::read_label(room) else {
         return false;
     };
-    let Part::Bytes(n) = records::read_job(room) else {
+    let Part::Bytes(n) = replay::records::read_job(room) else {
         return false;
     };
     answer(room, n)

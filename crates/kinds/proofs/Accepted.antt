@@ -9,12 +9,12 @@ use Rattle.numbers.specs.Numbers.{posZero}
 use Rattle.bits.specs.Reading.{Read, ok, bad, Reader, after, _>>=_, give, bits}
 use Rattle.bits.specs.Fields.{quantityField, orientationsField, count, areaRange, number}
 use Rattle.bits.proofs.Accepted.{Gives, bind, given, bits-less, count-in-range, Between, number-between, UpFrom, area-in}
-use Rattle.sets.specs.Sets.{Set, aSet}
-use Rattle.sets.proofs.Accepted.{Good, set-good, set-accepted}
-use Rattle.sets.specs.Answers.{setAt}
+use Rattle.kinds.specs.sets.Sets.{Set, aSet}
+use Rattle.kinds.proofs.sets.Accepted.{Good, set-good, set-accepted}
+use Rattle.kinds.specs.sets.inner.Answers.{setAt}
 use Rattle.kinds.specs.declared.KindHead.{KindHead}
 use Rattle.kinds.specs.Kinds.{Orientation, anOrientation, someOrientations, Kind, kindHead, kindOf, aKind, someKinds}
-use Rattle.kinds.specs.Tables.{tabulate, orientationAt, orientationsOf, headAt, kindWith, kindAt}
+use Rattle.kinds.specs.inner.Tables.{tabulate, orientationAt, orientationsOf, headAt, kindWith, kindAt}
 use Rattle.kinds.proofs.Tables.{length-tabulate, tabulate-at, orientations-at}
 
 pub record GoodSets (o : Orientation) : Type 0 where

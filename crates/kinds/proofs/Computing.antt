@@ -1,5 +1,5 @@
 -- What a computed claim opens, of the definitions in specs/. Assumes nothing.
-use Rattle.sets.proofs.Computing.{sets-compute}
+use Rattle.kinds.proofs.sets.Computing.{sets-compute}
 use Rattle.kinds.specs.Kinds.{anOrientation, someOrientations, signed, lower, kindHead, kindOf, aKind, someKinds, copiesOf}
 
 unfoldable pub kinds-compute : Unit {0}

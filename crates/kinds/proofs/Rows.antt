@@ -13,7 +13,7 @@ use Rattle.bits.specs.Reading.{Read, ok, bad, after}
 use Rattle.kinds.specs.declared.KindHead.{KindHead}
 use Rattle.kinds.specs.Kinds.{Orientation, Kind, kindOf, aKind, someKinds}
 use Rattle.kinds.specs.Kinds.{copiesOf}
-use Rattle.kinds.specs.Tables.{tabulate, orientationAt, orientationsOf, headAt, kindWith, kindAt}
+use Rattle.kinds.specs.inner.Tables.{tabulate, orientationAt, orientationsOf, headAt, kindWith, kindAt}
 use Rattle.kinds.proofs.Tables.{getD-same, take-less, tabulate-same, tabulate-more, orientation-same}
 
 -- four numbers stored one after the other

@@ -8,7 +8,7 @@ use lib.Ieee.{Float}
 use Rattle.bits.specs.Reading.{Read, ok, bad, Reader, after, _>>=_, _>>_, give, bits}
 use Rattle.bits.specs.Fields.{Field, quantityField, orientationsField, count, Range, areaRange, number}
 use Rattle.kinds.specs.declared.KindHead.{KindHead}
-use Rattle.sets.specs.Sets.{Set, aSet}
+use Rattle.kinds.specs.sets.Sets.{Set, aSet}
 
 pub record Orientation : Type 0 where
   pub apart : Set

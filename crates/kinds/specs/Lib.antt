@@ -1,2 +1,3 @@
+pub mod sets
 pub mod Kinds
-pub mod Tables
+pub mod inner

@@ -2,19 +2,21 @@
 // (quantity, fill, priority as 32 bits, orientations), areas its area, and places for each slot,
 // 16 × kind + orientation, the bit positions of its apart and its inset set. The functions are
 // called by this project's crates alone.
+pub mod sets;
+
 ghost use mathlib.Core.Path.{_≡_};
 ghost use Prim.Native.Nat.{_+_, _*_, _≤_, _<_};
 ghost use mathlib.Core.List.{[]};
 ghost use lib.ListN.{length, take};
-ghost use Rattle.sets.specs.Answers.{runRead, runFits};
+ghost use Rattle.kinds.specs.sets.inner.Answers.{runRead, runFits};
 ghost use Rattle.kinds.specs.Kinds.{signed, lower, anOrientation, someOrientations, kindHead, aKind, someKinds};
-ghost use Rattle.kinds.specs.Tables.{headRead, orientationAt, orientationsOf, kindRead, kindsRead, headAt, headFits, kindFits, kindsFit};
+ghost use Rattle.kinds.specs.inner.Tables.{headRead, orientationAt, orientationsOf, kindRead, kindsRead, headAt, headFits, kindFits, kindsFit};
+use crate::sets::Run;
+use crate::sets::SetRead;
 use bits::Counted;
 use bits::Measured;
 use bits::Refusal;
 use bits::Taken;
-use sets::Run;
-use sets::SetRead;
 
 // The two sets of a slot: where each begins, into the table. The rooms take each set in turn.
 fn read_orientation(
@@ -26,7 +28,8 @@ fn read_orientation(
     ends: &mut [usize],
 ) -> Run
     requires { ⌜ (at ≤ 4000000000) × (slot < 1024) × (2048 ≤ length (now places)) × (1024 ≤ length (now room)) × (64 ≤ length (now ends)) ⌝ }
-    ensures { λ r. ⌜ (anOrientation (now (bytes .entry)) at ≡ runRead r (orientationAt (now (bytes .entry)) (now (places .exit)) slot)) × runFits r (at + 132366) × (take (2 * slot) (now (places .exit)) ≡ take (2 * slot) (now (places .entry))) ⌝ }
+    ensures { λ r. ⌜ (anOrientation (now (bytes .entry)) at ≡ runRead r (orientationAt (now (bytes .entry)) (now (places .exit)) slot))
+        × runFits r (at + 132366) × (take (2 * slot) (now (places .exit)) ≡ take (2 * slot) (now (places .entry))) ⌝ }
 {
     let apart = at as u32;
     match sets::read_set(bytes, apart, room, ends) {
@@ -57,7 +60,8 @@ fn read_orientations(
     ends: &mut [usize],
 ) -> Run
     requires { ⌜ (at ≤ 3000000000) × (n ≤ 16) × (kind < 64) × (2048 ≤ length (now places)) × (1024 ≤ length (now room)) × (64 ≤ length (now ends)) ⌝ }
-    ensures { λ r. ⌜ (someOrientations n [] (now (bytes .entry)) at ≡ runRead r (orientationsOf (now (bytes .entry)) (now (places .exit)) kind n)) × runFits r (at + 132366 * n) × (take (32 * kind) (now (places .exit)) ≡ take (32 * kind) (now (places .entry))) ⌝ }
+    ensures { λ r. ⌜ (someOrientations n [] (now (bytes .entry)) at ≡ runRead r (orientationsOf (now (bytes .entry)) (now (places .exit)) kind n))
+        × runFits r (at + 132366 * n) × (take (32 * kind) (now (places .exit)) ≡ take (32 * kind) (now (places .entry))) ⌝ }
 {
     let mut i = 0;
     let mut p = at;
@@ -142,7 +146,8 @@ fn read_kind(
     ends: &mut [usize],
 ) -> KindRead
     requires { ⌜ (at ≤ 2000000000) × (kind < 64) × (2048 ≤ length (now places)) × (1024 ≤ length (now room)) × (64 ≤ length (now ends)) ⌝ }
-    ensures { λ r. ⌜ (aKind (now (bytes .entry)) at ≡ kindRead r (now (bytes .entry)) (now (places .exit)) kind) × kindFits r (at + 2117970) × (take (32 * kind) (now (places .exit)) ≡ take (32 * kind) (now (places .entry))) ⌝ }
+    ensures { λ r. ⌜ (aKind (now (bytes .entry)) at ≡ kindRead r (now (bytes .entry)) (now (places .exit)) kind) × kindFits r (at + 2117970)
+        × (take (32 * kind) (now (places .exit)) ≡ take (32 * kind) (now (places .entry))) ⌝ }
 {
     match read_head(bytes, at) {
         HeadRead::Head(h) => {
@@ -159,7 +164,8 @@ fn read_kind(
 // A kind's fields, into the tables.
 fn put_head(rows: &mut [u64], areas: &mut [f64], kind: usize, h: KindHead)
     requires { ⌜ (kind < 64) × (256 ≤ length (now rows)) × (64 ≤ length (now areas)) ⌝ }
-    ensures { λ _. ⌜ (headAt (now (rows .exit)) (now (areas .exit)) kind ≡ h) × (take (4 * kind) (now (rows .exit)) ≡ take (4 * kind) (now (rows .entry))) × (take kind (now (areas .exit)) ≡ take kind (now (areas .entry))) ⌝ }
+    ensures { λ _. ⌜ (headAt (now (rows .exit)) (now (areas .exit)) kind ≡ h) × (take (4 * kind) (now (rows .exit)) ≡ take (4 * kind) (now (rows .entry)))
+        × (take kind (now (areas .exit)) ≡ take kind (now (areas .entry))) ⌝ }
 {
     let j = 4 * kind;
     rows[j] = h.quantity;
@@ -186,8 +192,10 @@ pub fn read_kinds(
     room: &mut [f64],
     ends: &mut [usize],
 ) -> KindsRead
-    requires { ⌜ (at ≤ 1000000) × (n ≤ 64) × (256 ≤ length (now rows)) × (64 ≤ length (now areas)) × (2048 ≤ length (now places)) × (1024 ≤ length (now room)) × (64 ≤ length (now ends)) ⌝ }
-    ensures { λ r. ⌜ (someKinds n [] (now (bytes .entry)) at ≡ kindsRead r (now (bytes .entry)) n (now (rows .exit)) (now (areas .exit)) (now (places .exit))) × kindsFit r (at + 2117970 * n) (now (bytes .entry)) n (now (rows .exit)) (now (areas .exit)) (now (places .exit)) ⌝ }
+    requires { ⌜ (at ≤ 1000000) × (n ≤ 64) × (256 ≤ length (now rows)) × (64 ≤ length (now areas)) × (2048 ≤ length (now places)) × (1024 ≤ length (now room))
+        × (64 ≤ length (now ends)) ⌝ }
+    ensures { λ r. ⌜ (someKinds n [] (now (bytes .entry)) at ≡ kindsRead r (now (bytes .entry)) n (now (rows .exit)) (now (areas .exit)) (now (places .exit)))
+        × kindsFit r (at + 2117970 * n) (now (bytes .entry)) n (now (rows .exit)) (now (areas .exit)) (now (places .exit)) ⌝ }
 {
     let mut i = 0;
     let mut p = at;

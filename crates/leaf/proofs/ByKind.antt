@@ -12,7 +12,7 @@ use Rattle.bits.specs.declared.Refusal as Input
 use Rattle.job.specs.declared.Header.{Header}
 use Rattle.job.specs.declared.JobRead.the-variants.{Good}
 use Rattle.job.specs.Jobs.{Job, accepted, refused, readJob}
-use Rattle.job.specs.Meaning.{jobRead}
+use Rattle.job.specs.inner.Meaning.{jobRead}
 use Rattle.job.proofs.Accepted.{job-good}
 use Rattle.filling.specs.declared.Refusal.{Refusal}
 use Rattle.filling.specs.declared.Refusal.the-variants as Why
@@ -20,8 +20,8 @@ use Rattle.filling.specs.declared.Verdict.the-variants.{Accepted, Refused}
 use Rattle.filling.specs.Refusals.{isRefused, refuseIf}
 use Rattle.filling.specs.State.{orientationCounts, partAt}
 use Rattle.filling.specs.Leaf.{lacks, shapeGiven, shapeVerdict, partIn, stripsByKind}
-use Rattle.tables.specs.Tabled.{Tabled}
-use Rattle.tables.proofs.Tabling.{jobIn, kinds-in, tabled}
+use Rattle.accounts.specs.tables.inner.Tabled.{Tabled}
+use Rattle.accounts.proofs.tables.Tabling.{jobIn, kinds-in, tabled}
 
 -- where number r of the slot of kind k and orientation o stands
 abbrev pub place : ℕ → ℕ → ℕ → ℕ

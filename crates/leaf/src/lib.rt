@@ -8,7 +8,7 @@ ghost use lib.ListN.{length, getD};
 ghost use lib.Ieee.{Float};
 ghost use Rattle.job.specs.Jobs.{Job};
 ghost use Rattle.filling.specs.Leaf.{lacks, shapeVerdict, stripsByKind};
-ghost use Rattle.tables.specs.Tabled.{Tabled};
+ghost use Rattle.accounts.specs.tables.inner.Tabled.{Tabled};
 use filling::Refusal;
 use filling::Verdict;
 use job::JobRead;

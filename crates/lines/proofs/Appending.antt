@@ -6,7 +6,7 @@ use native.Mathlib.Omega.{arith}
 use native.Mathlib.Numerals.{add-one}
 use lib.ListN.{length, getD, take, set, length-append, length-set}
 use lib.Seq.{take-suc, take-suc-set, take-all}
-use Rattle.lines.specs.Writing.{Wrote}
+use Rattle.lines.specs.inner.Writing.{Wrote}
 
 pub wrote-none : (b : List ℕ) (at : ℕ) → Wrote b at [] b at
 wrote-none b at = record { long = refl; next = omega arith; written = sym (append-nil (take at b)) }

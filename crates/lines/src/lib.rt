@@ -6,7 +6,7 @@ ghost use mathlib.Core.Path.{_≡_};
 ghost use mathlib.Core.List.{[], _∷_};
 ghost use lib.ListN.{length};
 ghost use Rattle.nesting.specs.Text.{decimal, hexDigit, hexUpTo, hex, line};
-ghost use Rattle.lines.specs.Writing.{Wrote};
+ghost use Rattle.lines.specs.inner.Writing.{Wrote};
 
 // One byte.
 pub fn put_byte(out: &mut [u8], at: usize, b: u8) -> usize

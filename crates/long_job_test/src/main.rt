@@ -2,5 +2,5 @@
 // the oracle's answer (oracle/samples/long_job.py).
 
 fn main() {
-    print_plan::read_and_print();
+    program::print_plan::read_and_print();
 }

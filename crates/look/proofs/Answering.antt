@@ -15,18 +15,18 @@ use Rattle.trapezoid.specs.Strip.{stripAt, capacity}
 use Rattle.index.specs.declared.Interval.{Interval}
 use Rattle.index.specs.declared.Index.{Index}
 use Rattle.index.specs.Intervals.{countedOf}
-use Rattle.index.specs.Listing.{movingOf, Collected, collected, pushAll, intervals, listed, Usable, Laid, Bounded}
+use Rattle.index.specs.inner.Listing.{movingOf, Collected, collected, pushAll, intervals, listed, Usable, Laid, Bounded}
 use Rattle.index.proofs.Steps.{pushAll-append, kept-length}
 use Rattle.index.proofs.Flat.{perm-length, perm-mem, perm-append}
 use Rattle.index.proofs.Listed.{listed-perm, laid-usable}
 use Rattle.index.proofs.Collecting.{push-fits, push-over}
-use Rattle.height.specs.declared.Look.{Look}
-use Rattle.height.specs.Smallest.{heightOf}
-use Rattle.height.specs.Raising.{FiniteEnds}
+use Rattle.look.specs.declared.height.Look.{Look}
+use Rattle.look.specs.height.Smallest.{heightOf}
+use Rattle.look.specs.height.inner.Raising.{FiniteEnds}
 use Rattle.look.specs.declared.Answer.{Answer}
 use Rattle.look.specs.declared.Answer.the-variants.{NoRoom, Seen}
 use Rattle.look.specs.Looking.{countedIn}
-use Rattle.look.specs.Ready.{BoundedStrip, BoundedStrips, Lookable, answerOf, lookOf}
+use Rattle.look.specs.inner.Ready.{BoundedStrip, BoundedStrips, Lookable, answerOf, lookOf}
 use Rattle.look.proofs.IntervalEnds.{widen, moved-x0, moved-x1}
 use Rattle.look.proofs.Counted.{outside-within, same-height, counted-finite}
 

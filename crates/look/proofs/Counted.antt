@@ -13,14 +13,14 @@ use Rattle.numbers.proofs.Truth.{either, clash, below-or-not}
 use Rattle.index.specs.declared.Interval.{Interval}
 use Rattle.index.specs.Buckets.{keep}
 use Rattle.index.specs.Intervals.{forbiddenOf, countsOf, countedOf}
-use Rattle.index.specs.Listing.{Bounded}
-use Rattle.height.specs.declared.Look.{Look}
-use Rattle.height.specs.declared.Look.the-variants.{Free, Full}
-use Rattle.height.specs.Smallest.{inside, outside, heightOf}
-use Rattle.height.specs.Raising.{FiniteEnd, FiniteEnds}
-use Rattle.height.proofs.SmallestHeight.{Real, real-of, lt-is-true, lt-is-false, le-is-true, is-lt, is-le, inside-key, outside-of, of-outside, keep-mem, mem-keep, Smallest, NoneFree, height-free, height-full, free-height, full-height, real-end}
+use Rattle.index.specs.inner.Listing.{Bounded}
+use Rattle.look.specs.declared.height.Look.{Look}
+use Rattle.look.specs.declared.height.Look.the-variants.{Free, Full}
+use Rattle.look.specs.height.Smallest.{inside, outside, heightOf}
+use Rattle.look.specs.height.inner.Raising.{FiniteEnd, FiniteEnds}
+use Rattle.look.proofs.height.SmallestHeight.{Real, real-of, lt-is-true, lt-is-false, le-is-true, is-lt, is-le, inside-key, outside-of, of-outside, keep-mem, mem-keep, Smallest, NoneFree, height-free, height-full, free-height, full-height, real-end}
 use Rattle.look.specs.Looking.{countedIn}
-use Rattle.look.specs.Ready.{BoundedStrips, forbiddenIn}
+use Rattle.look.specs.inner.Ready.{BoundedStrips, forbiddenIn}
 use Rattle.look.proofs.IntervalEnds.{forbidden-finite}
 
 -- every interval of the one list is in the other

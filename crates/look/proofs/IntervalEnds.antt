@@ -17,10 +17,10 @@ use Rattle.index.specs.declared.Interval.{Interval}
 use Rattle.index.specs.declared.Meeting.the-variants.{Apart, Forbidden}
 use Rattle.index.specs.Buckets.{upFrom}
 use Rattle.index.specs.Intervals.{intervalOf, meetingOf, intervalIn, forbiddenOf}
-use Rattle.index.specs.Listing.{movingOf, Bounded}
+use Rattle.index.specs.inner.Listing.{movingOf, Bounded}
 use Rattle.index.proofs.Flat.{upFrom-mem, flatMap-mem}
-use Rattle.height.specs.Raising.{FiniteEnd, FiniteEnds}
-use Rattle.look.specs.Ready.{BoundedStrip, BoundedStrips}
+use Rattle.look.specs.height.inner.Raising.{FiniteEnd, FiniteEnds}
+use Rattle.look.specs.inner.Ready.{BoundedStrip, BoundedStrips}
 
 pub widen : (a b : ℕ) {x : Float} → a ≤ b → Bounded a x → Bounded b x
 widen a b {x} h s = record { fine = s .fine; bound = record { atLeast = z o (k x) (a * u) (b * u) (native.Mathlib.Nat.mul-le-mul-right u h) (s .bound .atLeast); atMost = y o (k x) (a * u) (b * u) (native.Mathlib.Nat.mul-le-mul-right u h) (s .bound .atMost) } }

@@ -19,8 +19,8 @@ use Rattle.trapezoid.specs.Strip.{heightsAt, between, movedBy}
 use Rattle.index.specs.declared.Interval.{Interval}
 use Rattle.index.specs.declared.Meeting.the-variants.{Apart, Forbidden}
 use Rattle.index.specs.Intervals.{intervalOf, meetingOf}
-use Rattle.index.specs.Listing.{Bounded}
-use Rattle.look.specs.Ready.{BoundedStrip}
+use Rattle.index.specs.inner.Listing.{Bounded}
+use Rattle.look.specs.inner.Ready.{BoundedStrip}
 use Rattle.look.proofs.IntervalEnds.{widen, add-bounded, sub-bounded, larger-bounded, smaller-bounded}
 
 -- x is a multiple of 1 / 1024, of at most n multiples either way, and no minus zero

@@ -1,2 +1,3 @@
+pub mod height
 pub mod Looking
-pub mod Ready
+pub mod inner

@@ -1,10 +1,12 @@
 // One look (document 01, "Filling"): inset strips against the sheet's strips, apart strips against
 // the strips of the placed copies.
+pub mod height;
+
 ghost use mathlib.Core.Path.{_≡_};
 ghost use Prim.Native.Nat.{_/_};
 ghost use lib.ListN.{length};
-ghost use Rattle.look.specs.Ready.{Lookable, lookOf};
-use height::Look;
+ghost use Rattle.look.specs.inner.Ready.{Lookable, lookOf};
+use crate::height::Look;
 use index::Entry;
 use index::Index;
 
@@ -31,8 +33,10 @@ pub fn look_at(
     placed_starts: &[usize],
     room: &mut [f64],
 ) -> Answer
-    requires { ⌜ Lookable ix x «y_low» «y_high» (now inset) (now apart) (now sheet) (now placed) (now «sheet_entries») (now «sheet_starts») (now «placed_entries») (now «placed_starts») ⌝ }
-    ensures { λ r. ⌜ r ≡ lookOf (length (now (room .entry)) / 2) x «y_low» «y_high» (now (inset .entry)) (now (apart .entry)) (now (sheet .entry)) (now (placed .entry)) ⌝ }
+    requires { ⌜ Lookable ix x «y_low» «y_high» (now inset) (now apart) (now sheet) (now placed) (now «sheet_entries») (now «sheet_starts»)
+        (now «placed_entries») (now «placed_starts») ⌝ }
+    ensures { λ r. ⌜ r ≡ lookOf (length (now (room .entry)) / 2) x «y_low» «y_high» (now (inset .entry)) (now (apart .entry)) (now (sheet .entry))
+        (now (placed .entry)) ⌝ }
 {
     let m = ix.forbidden(
         inset,

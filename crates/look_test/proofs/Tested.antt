@@ -14,11 +14,11 @@ use Rattle.numbers.proofs.Ranges.{tested-within}
 use Rattle.trapezoid.specs.Strip.{stripAt, capacity}
 use Rattle.index.specs.declared.Index.{Index}
 use Rattle.index.specs.Buckets.{indexOf}
-use Rattle.index.specs.Listing.{Laid, Bounded}
+use Rattle.index.specs.inner.Listing.{Laid, Bounded}
 use Rattle.index.proofs.NewIndex.{new-fair}
-use Rattle.look.specs.Ready.{BoundedStrips, Lookable}
+use Rattle.look.specs.inner.Ready.{BoundedStrips, Lookable}
 use Rattle.look.proofs.IntervalEnds.{widen}
-use Rattle.look_test.specs.Fair.{FairColumn, FairStrips, Entered}
+use Rattle.look_test.specs.inner.Fair.{FairColumn, FairStrips, Entered}
 
 -- 1,000,000
 abbrev million : Float

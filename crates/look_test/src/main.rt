@@ -11,9 +11,9 @@ ghost use mathlib.Core.Bool.{true};
 ghost use Prim.Native.Nat.{ℕ, _+_, _*_, _≤_, _<_};
 ghost use lib.ListN.{length, getD};
 ghost use Rattle.index.specs.Buckets.{buckets};
-ghost use Rattle.index.specs.Listing.{Bounded};
-ghost use Rattle.look.specs.Ready.{BoundedStrips, Lookable};
-ghost use Rattle.look_test.specs.Fair.{FairColumn, FairStrips, Entered};
+ghost use Rattle.index.specs.inner.Listing.{Bounded};
+ghost use Rattle.look.specs.inner.Ready.{BoundedStrips, Lookable};
+ghost use Rattle.look_test.specs.inner.Fair.{FairColumn, FairStrips, Entered};
 use index::Entry;
 use index::Index;
 
@@ -157,8 +157,10 @@ fn enter_both(
     ps: &mut [usize],
     gains: &mut [usize],
 ) -> bool
-    requires { ⌜ (length (now sheet) ≤ 6120) × (length (now placed) ≤ 6120) × (length (now ss) ≡ buckets + 1) × (length (now ps) ≡ buckets + 1) × (length (now gains) ≡ buckets) ⌝ }
-    ensures { λ r. ⌜ (r ≡ true → Entered ix (now (sheet .entry)) (now (se .exit)) (now (ss .exit)) × Entered ix (now (placed .entry)) (now (pe .exit)) (now (ps .exit))) ⌝ }
+    requires { ⌜ (length (now sheet) ≤ 6120) × (length (now placed) ≤ 6120) × (length (now ss) ≡ buckets + 1) × (length (now ps) ≡ buckets + 1)
+        × (length (now gains) ≡ buckets) ⌝ }
+    ensures { λ r. ⌜ (r ≡ true → Entered ix (now (sheet .entry)) (now (se .exit)) (now (ss .exit)) × Entered ix (now (placed .entry)) (now (pe .exit))
+        (now (ps .exit))) ⌝ }
 {
     if enter_all(ix, sheet, se, ss, gains) {
         return enter_all(ix, placed, pe, ps, gains);
@@ -228,7 +230,8 @@ fn look_fresh(
     apart: &[f64],
     out: &mut [f64],
 )
-    requires { ⌜ FairColumn x0 x1 x lo hi × FairStrips (now sheet) (now put) (now inset) (now apart) × (length (now sheet) ≤ 6120) × (length (now put) ≤ 6120) ⌝ }
+    requires { ⌜ FairColumn x0 x1 x lo hi × FairStrips (now sheet) (now put) (now inset) (now apart) × (length (now sheet) ≤ 6120)
+        × (length (now put) ≤ 6120) ⌝ }
 {
     let mut se = table();
     let mut ss = [1usize; 513];

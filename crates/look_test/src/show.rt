@@ -1,6 +1,6 @@
 // The lines of look_test: a look's answer.
-use height::Look;
 use look::Answer;
+use look::height::Look;
 
 fn show_free(h: f64) {
     io::write_all(1, b"free ");

@@ -8,7 +8,7 @@ use mathlib.Core.List.{List}
 use lib.ListN.{length, getD, set, length-set}
 use lib.Seq.{getD-set-same, getD-set-other}
 use Rattle.numbers.proofs.Truth.{below-or-not}
-use Rattle.moves.specs.Moves.{Moved, Shifted}
+use Rattle.moves.specs.inner.Moves.{Moved, Shifted}
 
 -- ---- moving up, from the back: j is the first that is moved already
 pub moved-start : (from to by : ℕ) (s : List ℕ) → from ≤ to → Moved to to by s s

@@ -1,7 +1,7 @@
 // Moving entries up in their room, and buckets' starts with them.
 ghost use Prim.Native.Nat.{ℕ, _+_, _≤_, _<_};
 ghost use lib.ListN.{length, getD};
-ghost use Rattle.moves.specs.Moves.{Moved, Shifted};
+ghost use Rattle.moves.specs.inner.Moves.{Moved, Shifted};
 use index::Entry;
 
 // Moves the entries from `from` to below `to` up by `by`, four at once, the last first; answers where
@@ -122,7 +122,7 @@ fn move_far(s: &mut [Entry], from: usize, to: usize, by: usize)
     move_long(s, from, j, by);
 }
 
-// The same; `long` says whether buckets are likely to be long. Only crates of ours call it.
+// The same; `long` says whether buckets are likely to be long.
 pub fn move_bucket(s: &mut [Entry], from: usize, to: usize, by: usize, long: bool)
     requires { ⌜ (from ≤ to) × (to + by ≤ length (now s)) ⌝ }
     ensures { λ _. ⌜ Moved from to by (now (s .entry)) (now (s .exit)) ⌝ }
@@ -134,7 +134,7 @@ pub fn move_bucket(s: &mut [Entry], from: usize, to: usize, by: usize, long: boo
     move_up(s, from, to, by);
 }
 
-// Adds `by` to the starts from number `from` on. Only crates of ours call it.
+// Adds `by` to the starts from number `from` on.
 pub fn shift(starts: &mut [usize], from: usize, by: usize)
     requires { ⌜ (from ≤ length (now starts)) × ((c : ℕ) → from ≤ c → c < length (now starts) → getD (now starts) c 0 + by < 18446744073709551616) ⌝ }
     ensures { λ _. ⌜ Shifted from by (now (starts .entry)) (length (now (starts .entry))) (now (starts .exit)) ⌝ }

@@ -7,8 +7,8 @@ use Rattle.filling.specs.declared.Refusal.the-variants as Why
 use Rattle.filling.specs.Rooms.{Lent}
 use Rattle.nesting.specs.Rounds.{Swaps, kept, ended, swapSearch}
 use Rattle.nesting.specs.Nest.{nestVerdict, nested, nestGiven, nestOf}
-use Rattle.readied.proofs.Left.{WorkZero, refused-zero, planned-zero, when-zero}
-use Rattle.nest_job.proofs.Judging.{nest-when}
+use Rattle.report.proofs.readied.Left.{WorkZero, refused-zero, planned-zero, when-zero}
+use Rattle.plan_job.proofs.Judging.{nest-when}
 
 by-swaps : (j : Job) (l : Lent) (q : Swaps) → WorkZero l (nested j l q)
 unfolding nested

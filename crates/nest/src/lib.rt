@@ -4,8 +4,8 @@
 ghost use mathlib.Core.Path.{_≡_};
 ghost use Rattle.filling.specs.Rooms.{Lent, lentOf};
 ghost use Rattle.nesting.specs.Nest.{nestOf};
-ghost use Rattle.report.specs.Replies.{reply, replyOf};
-ghost use Rattle.readied.specs.Zeroed.{Zeroed};
+ghost use Rattle.report.specs.inner.Replies.{reply, replyOf};
+ghost use Rattle.report.specs.readied.inner.Zeroed.{Zeroed};
 ghost use Rattle.report.specs.Lent.{answered};
 use filling::Refusal;
 use index::Entry;
@@ -24,7 +24,9 @@ fn nest_bytes(
     positions: &mut [f64],
 ) -> NestResult
     requires { ⌜ ((l : Lent) × Zeroed l (now shapes) (now sheet) (now placed) (now «sheet_entries») (now «placed_entries») (now intervals) (now positions)) ⌝ }
-    ensures { λ r. ⌜ ((l : Lent) → Zeroed l (now (shapes .entry)) (now (sheet .entry)) (now (placed .entry)) (now («sheet_entries» .entry)) (now («placed_entries» .entry)) (now (intervals .entry)) (now (positions .entry)) → reply r (now (positions .exit)) ≡ replyOf (nestOf (now (bytes .entry)) l)) ⌝ }
+    ensures { λ r. ⌜ ((l : Lent) → Zeroed l (now (shapes .entry)) (now (sheet .entry)) (now (placed .entry)) (now («sheet_entries» .entry))
+        (now («placed_entries» .entry)) (now (intervals .entry)) (now (positions .entry))
+        → reply r (now (positions .exit)) ≡ replyOf (nestOf (now (bytes .entry)) l)) ⌝ }
 {
     let j = job::read(bytes);
     let rows = j.rows;
@@ -34,7 +36,7 @@ fn nest_bytes(
     match answer {
         JobRead::Good(h, at, copies) => {
             let n = copies as usize;
-            nest_job::nest_job(
+            plan_job::nest_job(
                 bytes,
                 at,
                 h,
@@ -66,7 +68,10 @@ pub fn nest(
     intervals: &mut [f64],
     positions: &mut [f64],
 ) -> NestResult
-    ensures { λ r. ⌜ answered r (lentOf (now (shapes .exit)) (now (sheet .exit)) (now (placed .exit)) (now («sheet_entries» .exit)) (now («placed_entries» .exit)) (now (intervals .exit)) (now (positions .exit))) ≡ nestOf (now (bytes .entry)) (lentOf (now (shapes .entry)) (now (sheet .entry)) (now (placed .entry)) (now («sheet_entries» .entry)) (now («placed_entries» .entry)) (now (intervals .entry)) (now (positions .entry))) ⌝ }
+    ensures { λ r. ⌜ answered r (lentOf (now (shapes .exit)) (now (sheet .exit)) (now (placed .exit)) (now («sheet_entries» .exit))
+        (now («placed_entries» .exit)) (now (intervals .exit)) (now (positions .exit))) ≡ nestOf (now (bytes .entry))
+        (lentOf (now (shapes .entry)) (now (sheet .entry)) (now (placed .entry)) (now («sheet_entries» .entry)) (now («placed_entries» .entry))
+        (now (intervals .entry)) (now (positions .entry))) ⌝ }
 {
     rooms::zero(positions);
     report::clear(

@@ -5,7 +5,7 @@ use Rattle.trapezoid.proofs.Computing.{strip-computes}
 use Rattle.slab.proofs.Computing.{slab-computes}
 use Rattle.strips.proofs.Computing.{strips-compute}
 use Rattle.index.proofs.Computing.{buckets-compute, intervals-compute}
-use Rattle.height.proofs.Computing.{height-computes}
+use Rattle.look.proofs.height.Computing.{height-computes}
 use Rattle.look.proofs.Computing.{looking-computes}
 use Rattle.job.proofs.Computing.{jobs-compute}
 use Rattle.filling.proofs.Computing.{refusals-compute, columns-compute, shapes-compute, search-computes, choice-computes, rooms-compute, state-computes}

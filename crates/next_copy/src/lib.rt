@@ -22,14 +22,16 @@ pub fn next_copy(
     placed_entries: &mut [Entry],
     intervals: &mut [f64],
 ) -> Stepped
-    ensures { λ r. ⌜ replied r (roomsOf (now (shapes .entry)) (now (sheet .entry)) (now (placed .exit)) (now («sheet_entries» .entry)) (now («placed_entries» .exit))) (now (intervals .exit)) ≡ nextCopyOf (now (bytes .entry)) state (roomsOf (now (shapes .entry)) (now (sheet .entry)) (now (placed .entry)) (now («sheet_entries» .entry)) (now («placed_entries» .entry))) (now (intervals .entry)) ⌝ }
+    ensures { λ r. ⌜ replied r (roomsOf (now (shapes .entry)) (now (sheet .entry)) (now (placed .exit)) (now («sheet_entries» .entry))
+        (now («placed_entries» .exit))) (now (intervals .exit)) ≡ nextCopyOf (now (bytes .entry)) state (roomsOf (now (shapes .entry)) (now (sheet .entry))
+        (now (placed .entry)) (now («sheet_entries» .entry)) (now («placed_entries» .entry))) (now (intervals .entry)) ⌝ }
 {
     let j = job::read(bytes);
     let rows = j.rows;
     let areas = j.areas;
     let answer = j.answer;
     match answer {
-        JobRead::Good(h, _, c) => step_job::step_job(
+        JobRead::Good(h, _, c) => step::step_job::step_job(
             &rows,
             &areas,
             h.kinds as usize,
@@ -42,6 +44,6 @@ pub fn next_copy(
             placed_entries,
             intervals,
         ),
-        JobRead::NoJob(k) => step_job::refuse(Refusal::Job(k), state, intervals),
+        JobRead::NoJob(k) => step::step_job::refuse(Refusal::Job(k), state, intervals),
     }
 }

@@ -10,24 +10,24 @@ use lib.Ieee.{Float}
 use Rattle.trapezoid.specs.Strip.{capacity}
 use Rattle.strips.specs.declared.Rect.{Rect}
 use Rattle.index.specs.declared.Index.{Index}
-use Rattle.index.specs.Listing.{Laid}
-use Rattle.columns.specs.declared.Columns.{Columns}
+use Rattle.index.specs.inner.Listing.{Laid}
+use Rattle.search.specs.declared.columns.Columns.{Columns}
 use Rattle.search.specs.declared.Found.{Found}
 use Rattle.search.specs.declared.Found.the-variants as Founds
-use Rattle.search.specs.Searching.{searchOf}
+use Rattle.search.specs.inner.Searching.{searchOf}
 use Rattle.choose.specs.declared.Part.{Part}
 use Rattle.choose.specs.declared.Choice.{Choice}
 use Rattle.choose.specs.declared.Winner.{Winner}
 use Rattle.choose.specs.declared.Winner.the-variants as Winners
-use Rattle.choose.specs.Choosing.{boundsAt, partAt, apartPart, winsOf, firstOf, winnerOf, againstOf, betterOf, World, columnsAt, looksAt, Chosen, chosen, won, orientationOf, bettered, chooseFrom}
+use Rattle.choose.specs.inner.Choosing.{boundsAt, partAt, apartPart, winsOf, firstOf, winnerOf, againstOf, betterOf, Surroundings, columnsAt, looksAt, Chosen, chosen, won, orientationOf, bettered, chooseFrom}
 use Rattle.store.specs.declared.Stored.{Stored}
 use Rattle.store.specs.declared.Stored.the-variants.{NoStrips, NoEntries, Done}
-use Rattle.store.specs.Storing.{Left, left, storeOf, Entered}
+use Rattle.store.specs.inner.Storing.{Left, left, storeOf, Entered}
 use Rattle.place.specs.declared.Totals.{Totals}
 use Rattle.place.specs.declared.Outcome.{Outcome}
 use Rattle.place.specs.declared.Outcome.the-variants.{At, Nowhere, Refused}
 use Rattle.place.specs.declared.Step.{Step}
-use Rattle.place.specs.Placing.{step, afterOf, withoutOf, PutLeft, put, putLeft, putOf, settleOf, Among, Under, Placed, done, placeWith, placeOf}
+use Rattle.place.specs.inner.Placing.{step, afterOf, withoutOf, PutLeft, put, putLeft, putOf, settleOf, Among, Under, Placed, done, placeWith, placeOf}
 
 -- ---- the winner is stored
 module _ (ix : Index) (p : Choice) (q : Part) (t : Totals) (apart placed : List Float) (e s : List ℕ) (part : List Float) (k : ℕ) (stored : Stored) (p' : List Float) (e' s' : List ℕ) (r : Step)
@@ -88,17 +88,17 @@ winner-among n o k b (Founds.At c y) h = h
 winner-among n o k b Founds.Nowhere h = tt
 winner-among n o k b Founds.Overflow h = tt
 
-orientation-among : (n : ℕ) (w : World) (i o : ℕ) (counts next : List ℕ) → o < n → Among n (orientationOf w i o counts next .winner)
+orientation-among : (n : ℕ) (w : Surroundings) (i o : ℕ) (counts next : List ℕ) → o < n → Among n (orientationOf w i o counts next .winner)
 unfolding orientationOf won
 orientation-among n w i o counts next h = winner-among n o (columnsAt w i) (boundsAt (w .inset-bounds) i) (searchOf (looksAt w i) (columnsAt w i) i counts next .found) h
 
-choose-among : (n : ℕ) (w : World) (i m o : ℕ) (b : Chosen) → o + m ≤ n → Among n (b .winner) → Among n (chooseFrom w i m o b .winner)
+choose-among : (n : ℕ) (w : Surroundings) (i m o : ℕ) (b : Chosen) → o + m ≤ n → Among n (b .winner) → Among n (chooseFrom w i m o b .winner)
 unfolding chooseFrom bettered
 choose-among n w i zero o b h x = x
 choose-among n w i (suc m) o b h x =
     choose-among n w i m (o + 1) (bettered (b .winner) (orientationOf w (i + o) o (b .counts) (b .next))) (omega arith) (better-among n (b .winner) (orientationOf w (i + o) o (b .counts) (b .next) .winner) x (orientation-among n w (i + o) o (b .counts) (b .next) (omega arith)))
 
-pub chosen-among : (w : World) (slot n : ℕ) (v : Winner) (counts next counts' next' : List ℕ) → chosen v counts' next' ≡ chooseFrom w slot n 0 (chosen Winners.Nowhere counts next) → Among n v
+pub chosen-among : (w : Surroundings) (slot n : ℕ) (v : Winner) (counts next counts' next' : List ℕ) → chosen v counts' next' ≡ chooseFrom w slot n 0 (chosen Winners.Nowhere counts next) → Among n v
 chosen-among w slot n v counts next counts' next' e = subst⁻¹ (λ (z : Chosen). Among n (z .winner)) e (choose-among n w slot n 0 (chosen Winners.Nowhere counts next) (omega arith) tt)
 
 after-under : (n : ℕ) (st : Stored) (p : Choice) (t : Totals) (k : ℕ) → p .orientation < n → Under n (afterOf st p t k .outcome)
@@ -116,7 +116,7 @@ pub settled-under : (ix : Index) (n : ℕ) (v : Winner) (area : Float) (slot : �
     → Among n v → put r p' e' s' ≡ settleOf ix v area slot t parts apart placed e s → Under n (r .outcome)
 settled-under ix n v area slot t parts apart placed e s r p' e' s' h E = subst⁻¹ (λ (z : PutLeft). Under n (z .reply .outcome)) E (settle-under ix n v area slot t parts apart placed e s h)
 
-pub place-is : (ix : Index) (w : World) (area : Float) (slot n : ℕ) (t : Totals) (placed : List Float) (e s counts next : List ℕ) (v : Winner) (r : Step) (p' : List Float) (e' s' counts' next' : List ℕ)
+pub place-is : (ix : Index) (w : Surroundings) (area : Float) (slot n : ℕ) (t : Totals) (placed : List Float) (e s counts next : List ℕ) (v : Winner) (r : Step) (p' : List Float) (e' s' counts' next' : List ℕ)
     → chosen v counts' next' ≡ chooseFrom w slot n 0 (chosen Winners.Nowhere counts next) → put r p' e' s' ≡ settleOf ix v area slot t (w .parts) (w .apart) placed e s
     → done r p' e' s' counts' next' ≡ placeOf ix w area slot n t placed e s counts next
 unfolding placeOf placeWith

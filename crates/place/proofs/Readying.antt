@@ -8,12 +8,12 @@ use lib.Seq.{length-take-le}
 use lib.Ieee.{Float}
 use Rattle.trapezoid.specs.Strip.{stripAt, capacity}
 use Rattle.index.specs.declared.Index.{Index}
-use Rattle.index.specs.Listing.{Laid}
+use Rattle.index.specs.inner.Listing.{Laid}
 use Rattle.index.proofs.NewIndex.{laid-after}
-use Rattle.look.specs.Ready.{BoundedStrip, BoundedStrips, Lookable}
-use Rattle.choose.specs.Choosing.{World, Ready}
+use Rattle.look.specs.inner.Ready.{BoundedStrip, BoundedStrips, Lookable}
+use Rattle.choose.specs.inner.Choosing.{Surroundings, Ready}
 use Rattle.store.proofs.Strips.{prefix-strip}
-use Rattle.place.specs.Standing.{Standing, Fixed}
+use Rattle.place.specs.inner.Standing.{Standing, Fixed}
 
 module _ (ix : Index) (placed : List Float) (n : ℕ) (e s : List ℕ) (S : Standing ix placed n e s) where
   long : length (take (6 * n) placed) ≡ 6 * n
@@ -31,7 +31,7 @@ module _ (ix : Index) (placed : List Float) (n : ℕ) (e s : List ℕ) (S : Stan
   prefix-strips : BoundedStrips (take (6 * n) placed)
   prefix-strips i h = let b : i < n = subst (λ (z : ℕ). i < z) count h in subst⁻¹ BoundedStrip (prefix-strip placed n i b) (S .strips i b)
 
-  pub ready-of : (w : World) (se ss : List ℕ) (i : ℕ) → w .placed ≡ take (6 * n) placed → Fixed ix w se ss i → Ready ix w se ss e s i
+  pub ready-of : (w : Surroundings) (se ss : List ℕ) (i : ℕ) → w .placed ≡ take (6 * n) placed → Fixed ix w se ss i → Ready ix w se ss e s i
   ready-of w se ss i p F =
       record {
         bounded = F .bounded;

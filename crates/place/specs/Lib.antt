@@ -1,2 +1,2 @@
-pub mod Placing
-pub mod Standing
+pub mod next
+pub mod inner

@@ -1,16 +1,18 @@
 // Placing the next copy (document 01, "Filling"): every orientation is searched, then the winner is
 // stored, or the copy has no place. 22, 20 and 21 are met in this order, before the first write to
 // strips and entries.
+pub mod next;
+
 ghost use mathlib.Core.Path.{_≡_};
 ghost use Prim.Native.Nat.{ℕ, _+_, _*_, _/_, _≤_, _<_, _^_};
 ghost use lib.ListN.{length, getD, take};
 ghost use Rattle.trapezoid.specs.Strip.{capacity};
 ghost use Rattle.index.specs.Buckets.{buckets};
-ghost use Rattle.index.specs.Listing.{Laid};
-ghost use Rattle.tracks.specs.Tracks.{nextColumns, lookCounts, slotNumbers};
-ghost use Rattle.choose.specs.Choosing.{worldIn};
-ghost use Rattle.place.specs.Placing.{copyOf, verdictOf, afterOf, put, putOf, withoutOf, Among, settleOf, Under, done, placeOf};
-ghost use Rattle.place.specs.Standing.{Standing, Fixed};
+ghost use Rattle.index.specs.inner.Listing.{Laid};
+ghost use Rattle.rooms.specs.tracks.inner.Tracks.{nextColumns, lookCounts, slotNumbers};
+ghost use Rattle.choose.specs.inner.Choosing.{surroundingsIn};
+ghost use Rattle.place.specs.inner.Placing.{copyOf, verdictOf, afterOf, put, putOf, withoutOf, Among, settleOf, Under, done, placeOf};
+ghost use Rattle.place.specs.inner.Standing.{Standing, Fixed};
 use choose::Choice;
 use choose::Grid;
 use choose::Part;
@@ -210,7 +212,7 @@ pub fn place_copy(
     room: &mut [f64],
     tracks: &mut [usize],
 ) -> Step
-    requires { ⌜ ((o : ℕ) → o < copy .orientations → Fixed (g .index) (worldIn (length (now room) / 2) g (now «inset_bounds») (now parts) (now shapes)
+    requires { ⌜ ((o : ℕ) → o < copy .orientations → Fixed (g .index) (surroundingsIn (length (now room) / 2) g (now «inset_bounds») (now parts) (now shapes)
         (now sheet) (take (6 * t .«placed_strips») (now placed))) (now «sheet_entries») (now «sheet_starts») (copy .slot + o))
         × (copy .slot + copy .orientations ≤ 1024) × (slotNumbers ≤ length (now tracks))
         × ((o : ℕ) → o < copy .orientations → getD (lookCounts (now tracks)) (copy .slot + o) 0 + 4000000002 < 2 ^ 64)
@@ -218,7 +220,7 @@ pub fn place_copy(
         × (6 * g .«apart_strips» ≤ length (now shapes)) ⌝ }
     ensures { λ r. ⌜ (done r (now (placed .exit)) (now (entries .exit)) (now (starts .exit)) (lookCounts (now (tracks .exit)))
         (nextColumns (now (tracks .exit)))
-        ≡ placeOf (g .index) (worldIn (length (now (room .entry)) / 2) g (now («inset_bounds» .entry)) (now (parts .entry)) (now (shapes .entry))
+        ≡ placeOf (g .index) (surroundingsIn (length (now (room .entry)) / 2) g (now («inset_bounds» .entry)) (now (parts .entry)) (now (shapes .entry))
         (now (sheet .entry)) (take (6 * t .«placed_strips») (now (placed .entry)))) (copy .area) (copy .slot) (copy .orientations) t
         (now (placed .entry)) (now (entries .entry)) (now (starts .entry)) (lookCounts (now (tracks .entry))) (nextColumns (now (tracks .entry))))
         × Laid (g .index) (now (placed .exit)) (r .totals .«placed_strips») (now (entries .exit)) (now (starts .exit))

@@ -2,5 +2,5 @@
 // its plan, or `no` and the number of its refusal.
 
 fn main() {
-    print_plan::read_and_print();
+    program::print_plan::read_and_print();
 }

@@ -38,5 +38,5 @@ pub extern "C" fn panel_fill(
         positions,
     );
     let v = r.verdict;
-    verdicts::verdict_number(v)
+    accounts::verdicts::verdict_number(v)
 }

@@ -2,7 +2,7 @@
 // whole plan; a filling in a given order.
 ghost use mathlib.Core.Path.{_≡_};
 ghost use Rattle.filling.specs.Rooms.{lentOf};
-ghost use Rattle.panel.specs.Told.{toldOf};
+ghost use Rattle.plan_text.specs.Told.{textReplyOf};
 use index::Entry;
 
 pub mod given;
@@ -26,11 +26,11 @@ pub extern "C" fn panel_nest(
       lent = lentOf (now (shapes .exit)) (now (sheet .exit)) (now (placed .exit))
           (now («sheet_entries» .exit)) (now («placed_entries» .exit)) (now (intervals .exit)) (now (positions .exit));
     }
-        ≡ toldOf (now (bytes .entry)) (now (out .entry))
+        ≡ textReplyOf (now (bytes .entry)) (now (out .entry))
         (lentOf (now (shapes .entry)) (now (sheet .entry)) (now (placed .entry))
         (now («sheet_entries» .entry)) (now («placed_entries» .entry)) (now (intervals .entry)) (now (positions .entry))) ⌝ }
 {
-    panel::plan_text(
+    plan_text::plan_text(
         bytes,
         shapes,
         sheet,

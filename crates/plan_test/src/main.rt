@@ -1,24 +1,24 @@
 // Replays stored jobs as the program `plan` answers them: stdin has a container of jobs
 // (oracle/README.md), and for each a line `job` with its label and then its plan is printed. The
 // file stdout holds the oracle's answers (oracle/samples/plan.py).
-use records::Part;
+use replay::records::Part;
 
 // Prints the answer to the job that the first n bytes are.
 fn answer(room: &[u8], n: usize) -> bool {
     if room.len() < n {
         return false;
     }
-    print_plan::print_plan(&room[..n]);
+    program::print_plan::print_plan(&room[..n]);
     true
 }
 
 // Whether there was one more record; its label and the job's plan are printed.
 fn replay(room: &mut [u8]) -> bool {
-    let Part::Bytes(n) = records::read_label(room) else {
+    let Part::Bytes(n) = replay::records::read_label(room) else {
         return false;
     };
-    records::print_label(room, n);
-    let Part::Bytes(m) = records::read_job(room) else {
+    replay::records::print_label(room, n);
+    let Part::Bytes(m) = replay::records::read_job(room) else {
         return false;
     };
     answer(room, m)

@@ -10,7 +10,7 @@ use lib.Ieee.{Float}
 use borrow.Author.Tests.{lt-ltb, le-ltb}
 use Rattle.trapezoid.specs.Strip.{capacity}
 use Rattle.index.specs.Buckets.{standingCapacity}
-use Rattle.index.specs.Listing.{Laid}
+use Rattle.index.specs.inner.Listing.{Laid}
 use Rattle.strips.specs.declared.Rect.{Rect}
 use Rattle.job.specs.declared.Header.{Header}
 use Rattle.job.specs.Jobs.{Job}
@@ -27,15 +27,15 @@ use Rattle.filling.specs.Start.{apartStrips, insetStrips, tablesOf, prepareVerd
 use Rattle.filling.proofs.Steps.{refused≢accepted}
 use Rattle.shapes.specs.declared.ShapesLaid.{ShapesLaid}
 use Rattle.shapes.specs.declared.ShapesLaid.the-variants as Shapes
-use Rattle.slots.specs.Slots.{slotOf}
-use Rattle.shapes.specs.ShapeRooms.{ShapesAre}
-use Rattle.sheet.specs.declared.SheetLaid.{SheetLaid}
-use Rattle.sheet.specs.declared.SheetLaid.the-variants as Sheet
-use Rattle.sheet.specs.SheetRoom.{SheetIn, SheetIs}
+use Rattle.shapes.specs.slots.inner.Slots.{slotOf}
+use Rattle.shapes.specs.inner.ShapeRooms.{ShapesAre}
+use Rattle.prepare.specs.declared.sheet.SheetLaid.{SheetLaid}
+use Rattle.prepare.specs.declared.sheet.SheetLaid.the-variants as Sheet
+use Rattle.prepare.specs.sheet.inner.SheetRoom.{SheetIn, SheetIs}
 use Rattle.prepare.specs.declared.Prepared.{Prepared}
-use Rattle.prepare.specs.Ready.{FromTables, given, PreparedIs}
+use Rattle.prepare.specs.inner.Ready.{FromTables, given, PreparedIs}
 use Rattle.prepare.proofs.Tabled.{slots-are, sheet-bounds-are, sheet-strips-are}
-use Rattle.sets.specs.Answers.{setAt}
+use Rattle.kinds.specs.sets.inner.Answers.{setAt}
 
 -- ---- the verdict
 module _ (p : Planner) (w : Rooms) where

@@ -14,20 +14,20 @@ use Rattle.trapezoid.specs.Strip.{flat}
 use Rattle.index.specs.Buckets.{upFrom}
 use Rattle.index.proofs.Flat.{map-at}
 use Rattle.kinds.specs.Kinds.{Orientation, Kind, kindOf}
-use Rattle.kinds.specs.Tables.{tabulate, orientationAt, orientationsOf, headAt, kindWith, kindAt}
+use Rattle.kinds.specs.inner.Tables.{tabulate, orientationAt, orientationsOf, headAt, kindWith, kindAt}
 use Rattle.kinds.proofs.Tables.{length-tabulate, tabulate-at}
 use Rattle.job.specs.declared.Header.{Header}
 use Rattle.job.specs.declared.JobRead.the-variants.{Good}
 use Rattle.job.specs.Jobs.{Job, Answer, accepted}
-use Rattle.job.specs.Meaning.{jobRead}
+use Rattle.job.specs.inner.Meaning.{jobRead}
 use Rattle.filling.specs.Shapes.{Shape, Planner, plannerOf, setStrips, setBounds, shapeFor, noBounds, noShape, shapeOf}
 use Rattle.filling.specs.State.{bySlot, slotShape}
 use Rattle.filling.proofs.Reading.{upFrom-same}
-use Rattle.set_strips.specs.SetStrips.{stripsOf, stripsAt}
-use Rattle.slots.specs.Slots.{inUse, slotStrips, slotBounds, slotOf}
-use Rattle.slots.proofs.SlotWalk.{not-in-use}
-use Rattle.prepare.specs.Ready.{FromTables}
-use Rattle.sets.specs.Answers.{setAt}
+use Rattle.shapes.specs.set_strips.inner.SetStrips.{stripsOf, stripsAt}
+use Rattle.shapes.specs.slots.inner.Slots.{inUse, slotStrips, slotBounds, slotOf}
+use Rattle.shapes.proofs.slots.SlotWalk.{not-in-use}
+use Rattle.prepare.specs.inner.Ready.{FromTables}
+use Rattle.kinds.specs.sets.inner.Answers.{setAt}
 
 -- what `job::read` answers
 pub from-tables : (bytes rows places : List ℕ) (areas : List Float) (h : Header) (s c : ℕ) (j : Job) → jobRead (Good h s c) bytes rows areas places ≡ accepted j → FromTables bytes rows places s (h .kinds) j

@@ -1,20 +1,22 @@
 // What an accepted job has before its filling: the sheet's strips and entries, the shapes' strips,
 // bounds and parts (document 01, "Then come the sheet's strips (20) and entries (21), the shapes'
 // strips by kind and orientation, apart before inset (20)").
+pub mod sheet;
+
 ghost use mathlib.Core.Path.{_≡_};
 ghost use Prim.Native.Nat.{_≤_};
 ghost use lib.ListN.{length};
 ghost use Rattle.job.specs.Jobs.{Job};
 ghost use Rattle.filling.specs.declared.Verdict.the-variants.{Refused};
 ghost use Rattle.filling.specs.Shapes.{plannerOf};
-ghost use Rattle.prepare.specs.Ready.{FromTables, given, PreparedIs};
+ghost use Rattle.prepare.specs.inner.Ready.{FromTables, given, PreparedIs};
+use crate::sheet::SheetLaid;
 use filling::Refusal;
 use filling::Tables;
 use filling::Verdict;
 use index::Entry;
 use job::Header;
 use shapes::ShapesLaid;
-use sheet::SheetLaid;
 use strips::Rect;
 
 // What is prepared: accepted or the refusal; the tables; where the sheet's buckets start.
@@ -48,7 +50,7 @@ fn refused(k: Refusal) -> Prepared
 }
 
 // Prepares the job whose sheet begins at the bit position `at` and whose kinds `job::read` laid into
-// `rows` and `places`. Only crates of ours call it.
+// `rows` and `places`.
 pub fn prepare(
     bytes: &[u8],
     at: u32,

@@ -11,10 +11,10 @@ use borrow.Author.Tests.{lt-ltb, le-ltb}
 use Rattle.numbers.proofs.Truth.{below-or-not}
 use Rattle.filling.specs.Rooms.{Lent, laid, zeros, lentOf}
 use Rattle.nesting.specs.Text.{decimal, line, noWord, printed}
-use Rattle.lines.specs.Writing.{Wrote}
-use Rattle.panel.specs.Told.{Told, bufferLength, toldOf}
-use Rattle.panel.specs.Program.{longestJob, overlongNumber, programText, Buffered, textIn, programAnswer, stripRoom, entryRoom, intervalRoom, positionRoom, programRooms}
-use Rattle.panel.proofs.Telling.{zeros-behind}
+use Rattle.lines.specs.inner.Writing.{Wrote}
+use Rattle.plan_text.specs.Told.{TextReply, bufferLength, textReplyOf}
+use Rattle.plan_text.specs.Program.{longestJob, overlongNumber, programText, Buffered, textIn, programAnswer, stripRoom, entryRoom, intervalRoom, positionRoom, programRooms}
+use Rattle.plan_text.proofs.Telling.{zeros-behind}
 
 same : (a b : ℕ) (o p : List ℕ) → a ≡ b → o ≡ p → _≡_ {A = Buffered} (record { end = a; out = o }) (record { end = b; out = p })
 same a b o p e f = rw (e, f)
@@ -63,15 +63,15 @@ unfolding programText
 text-plan bytes l = rw (le-ltb longestJob (length bytes) l, programText)
 
 told-text : (bytes out : List ℕ) (l : Lent) → bufferLength ≤ length out
-    → record { end = toldOf bytes out l .end; out = toldOf bytes out l .out } ≡ textIn (printed bytes l) out
-unfolding toldOf textIn
-told-text bytes out l h = rw (le-ltb (length out) bufferLength h, toldOf)
+    → record { end = textReplyOf bytes out l .end; out = textReplyOf bytes out l .out } ≡ textIn (printed bytes l) out
+unfolding textReplyOf textIn
+told-text bytes out l h = rw (le-ltb (length out) bufferLength h, textReplyOf)
 
 pub answer-plan : (bytes out last : List ℕ) (l m : Lent) (n : ℕ) → bufferLength ≤ length out → length bytes ≤ longestJob → l ≡ programRooms
-    → record { end = n; out = last; lent = m } ≡ toldOf bytes out l → record { end = n; out = last } ≡ programAnswer bytes out
+    → record { end = n; out = last; lent = m } ≡ textReplyOf bytes out l → record { end = n; out = last } ≡ programAnswer bytes out
 answer-plan bytes out last l m n h k r e =
-    let f : _≡_ {A = Buffered} (record { end = n; out = last }) (record { end = toldOf bytes out l .end; out = toldOf bytes out l .out }) =
-    ap (λ (t : Told). record { end = t .end; out = t .out }) e in
+    let f : _≡_ {A = Buffered} (record { end = n; out = last }) (record { end = textReplyOf bytes out l .end; out = textReplyOf bytes out l .out }) =
+    ap (λ (t : TextReply). record { end = t .end; out = t .out }) e in
     f ∙ (told-text bytes out l h ∙ (ap (λ (w : Lent). textIn (printed bytes w) out) r
     ∙ (ap (λ (t : List ℕ). textIn t out) (text-plan bytes k) ∙ answer-long bytes out h)))
 

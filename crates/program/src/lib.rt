@@ -1,11 +1,13 @@
 // The text that the program `plan` prints for its input (document 01, "The printed plan"): `no 11` for a
 // job of more than 65,536 bytes, else its plan, or its refusal, in the rooms that the program lends.
+pub mod print_plan;
+
 ghost use Prim.Native.Nat.{_≤_};
 ghost use mathlib.Core.Path.{_≡_};
 ghost use mathlib.Core.List.{[], _∷_};
 ghost use lib.ListN.{length};
 ghost use Rattle.nesting.specs.Text.{decimal, line, noWord};
-ghost use Rattle.panel.specs.Program.{overlongNumber, stripRoom, entryRoom, intervalRoom, positionRoom, textIn, programAnswer};
+ghost use Rattle.plan_text.specs.Program.{overlongNumber, stripRoom, entryRoom, intervalRoom, positionRoom, textIn, programAnswer};
 use index::Entry;
 
 // 1,365 strips, six numbers to a strip.
@@ -50,7 +52,7 @@ fn overlong_text(out: &mut [u8]) -> usize
     ensures { λ r. ⌜ record { end = r; out = now (out .exit) } ≡ textIn (line noWord (decimal overlongNumber ∷ [])) (now (out .entry)) ⌝ }
 {
     let n = lines::count_line(out, 0, b"no", 11);
-    panel::zero_from(out, n);
+    plan_text::zero_from(out, n);
     n
 }
 
@@ -72,7 +74,7 @@ pub fn program_text(bytes: &[u8], out: &mut [u8]) -> usize
     let mut placed_entries = entry_room();
     let mut intervals = interval_room();
     let mut positions = position_room();
-    panel::plan_text(
+    plan_text::plan_text(
         bytes,
         &mut shapes,
         &mut sheet,

@@ -15,10 +15,10 @@ use Rattle.filling.specs.State.{copyAt, standsAt, missesAt, standingTo, without
 use Rattle.filling.specs.Start.{tablesOf}
 use Rattle.filling.specs.Accounts.{lookCountsOf, notBelowZero, offcutOf, planOf}
 use Rattle.place.specs.declared.Totals.{Totals}
-use Rattle.fill_laws.specs.Prepared.{stateBy}
-use Rattle.accounts.specs.Told.{Told, Totalled}
-use Rattle.offcut.specs.Reaching.{reachTo, Parted}
-use Rattle.offcut.proofs.Reached.{offcut-is}
+use Rattle.filling_laws.specs.fill_laws.inner.Prepared.{stateBy}
+use Rattle.accounts.specs.inner.Told.{PlanTold, Totalled}
+use Rattle.report.specs.offcut.inner.Reaching.{reachTo, Parted}
+use Rattle.report.proofs.offcut.Reached.{offcut-is}
 
 -- ---- lists
 
@@ -104,7 +104,7 @@ module _ (p : Planner) (order next looks : List ℕ) (t : Totals) (orientation :
   unfolding planOf lookCountsOf tracksOf
   plan-is j n = rw (standing-is, without-is, offcut-same (plannerOf j))
 
-  pub told : Told Lent′ order orientation x y looks (length order)
+  pub told : PlanTold Lent′ order orientation x y looks (length order)
   told = record { order-is = refl; orientation-is = refl; x-is = refl; y-is = refl; looks-are = refl; taken-is = refl }
 
   pub totalled : (j : Job) (offcut : Float) → offcutOf (plannerOf j) s ≡ offcut → Totalled j Lent′ (t .right) (t .«unplaced_area») offcut

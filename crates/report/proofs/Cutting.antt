@@ -18,10 +18,10 @@ use Rattle.filling.specs.Order.{rearranged}
 use Rattle.filling.proofs.Reading.{slot-kind, slot-turn}
 use Rattle.filling.proofs.Sizes.{sized}
 use Rattle.filling.proofs.Begin.{apart-room, apart-lies, lacking, rearranged-length}
-use Rattle.fill_laws.specs.Prepared.{Given, Prepared}
-use Rattle.fill_laws.proofs.Between.{kind-below}
-use Rattle.fill_laws.proofs.Ready.{parts-long}
-use Rattle.offcut.specs.Reaching.{apartAt, Parted}
+use Rattle.filling_laws.specs.fill_laws.inner.Prepared.{Given, Prepared}
+use Rattle.filling_laws.proofs.fill_laws.Between.{kind-below}
+use Rattle.filling_laws.proofs.fill_laws.Ready.{parts-long}
+use Rattle.report.specs.offcut.inner.Reaching.{apartAt, Parted}
 
 -- the strips that a slot's part says, out of a room
 abbrev lies : ℕ → List ℕ → List Float → List Float

@@ -16,12 +16,12 @@ use Rattle.filling.specs.Rooms.{Lent, laid, zeros, onlyPositions}
 use Rattle.filling.specs.State.{standingOf}
 use Rattle.filling.specs.Accounts.{positions, flatPositions, offcutOf, planOf}
 use Rattle.filling.specs.Fill.{notPlanned, plannedWith, plannedBy}
-use Rattle.tables.specs.Tabled.{Tabled}
+use Rattle.accounts.specs.tables.inner.Tabled.{Tabled}
 use Rattle.place.specs.declared.Totals.{Totals}
-use Rattle.accounts.specs.Told.{Told, Totalled}
-use Rattle.fill_laws.specs.Prepared.{stateBy, fillingBy}
+use Rattle.accounts.specs.inner.Told.{PlanTold, Totalled}
+use Rattle.filling_laws.specs.fill_laws.inner.Prepared.{stateBy, fillingBy}
 use Rattle.report.specs.declared.NestResult.{NestResult}
-use Rattle.report.specs.Replies.{reply, replyOf, refusedBy, reported}
+use Rattle.report.specs.inner.Replies.{reply, replyOf, refusedBy, reported}
 use Rattle.report.proofs.Agree.{Lent′, standing-is, plan-is, told, totalled}
 
 -- refused: only the number
@@ -39,7 +39,7 @@ stopped-reply j l v k d p order next looks t orientation x y n room e r f = refu
 -- accepted: what plan_of answers
 pub told-reply : (j : Job) (areas : List Float) (p : Planner) (next : List ℕ) (l : Lent) (rows : List ℕ) (kinds : ℕ) (v : Verdict) → v ≡ Accepted → (order looks : List ℕ) (t : Totals) (orientation : List ℕ) (x y : List Float) (offcut : Float) (n : ℕ) (room₀ room : List Float) (plan : Plan)
     → length order ≤ length orientation → length order ≤ length x → length order ≤ length y → Tabled j rows areas → length (j .kinds) ≡ kinds → offcutOf (plannerOf j) (stateBy p order (length order) next looks t orientation x y) ≡ offcut → room₀ ≡ zeros posZero (l .positions)
-    → ((j : Job) (areas : List Float) (s : State) → Tabled j rows areas → length (j .kinds) ≡ kinds → Told s order orientation x y looks (length order) → Totalled j s (t .right) (t .«unplaced_area») offcut
+    → ((j : Job) (areas : List Float) (s : State) → Tabled j rows areas → length (j .kinds) ≡ kinds → PlanTold s order orientation x y looks (length order) → Totalled j s (t .right) (t .«unplaced_area») offcut
     → (plan ≡ planOf j s n) × (room ≡ laid (flatPositions (positions j (standingOf s))) room₀))
     → reply (record { verdict = Accepted; plan = plan }) room ≡ replyOf (reported v j l p order next looks t orientation x y n)
 unfolding plannedWith onlyPositions

@@ -1,2 +1,4 @@
-pub mod Replies
+pub mod readied
+pub mod offcut
 pub mod Lent
+pub mod inner

@@ -1,5 +1,8 @@
 // The reply of a whole plan (document 01, "The printed plan"): its verdict, its plan, its positions,
 // and zeros in the work rooms.
+pub mod offcut;
+pub mod readied;
+
 ghost use mathlib.Core.List.{List};
 ghost use mathlib.Core.Path.{_≡_};
 ghost use Prim.Native.Nat.{ℕ, _*_, _≤_, _<_};
@@ -11,9 +14,9 @@ ghost use Rattle.filling.specs.declared.Verdict.the-variants.{Accepted};
 ghost use Rattle.filling.specs.Shapes.{Planner, plannerOf};
 ghost use Rattle.filling.specs.Rooms.{Lent, zeros};
 ghost use Rattle.filling.specs.Accounts.{noPlan};
-ghost use Rattle.tables.specs.Tabled.{Tabled};
-ghost use Rattle.offcut.specs.Reaching.{Parted};
-ghost use Rattle.report.specs.Replies.{reply, replyOf, refusedBy, reported};
+ghost use Rattle.accounts.specs.tables.inner.Tabled.{Tabled};
+ghost use Rattle.report.specs.offcut.inner.Reaching.{Parted};
+ghost use Rattle.report.specs.inner.Replies.{reply, replyOf, refusedBy, reported};
 use filling::Plan;
 use filling::Refusal;
 use filling::Verdict;
@@ -62,7 +65,9 @@ pub fn clear(
     placed_entries: &mut [Entry],
     intervals: &mut [f64],
 )
-    ensures { λ _. ⌜ (now (shapes .exit) ≡ zeros posZero (now (shapes .entry))) × (now (sheet .exit) ≡ zeros posZero (now (sheet .entry))) × (now (placed .exit) ≡ zeros posZero (now (placed .entry))) × (now («sheet_entries» .exit) ≡ zeros 0 (now («sheet_entries» .entry))) × (now («placed_entries» .exit) ≡ zeros 0 (now («placed_entries» .entry))) × (now (intervals .exit) ≡ zeros posZero (now (intervals .entry))) ⌝ }
+    ensures { λ _. ⌜ (now (shapes .exit) ≡ zeros posZero (now (shapes .entry))) × (now (sheet .exit) ≡ zeros posZero (now (sheet .entry)))
+        × (now (placed .exit) ≡ zeros posZero (now (placed .entry))) × (now («sheet_entries» .exit) ≡ zeros 0 (now («sheet_entries» .entry)))
+        × (now («placed_entries» .exit) ≡ zeros 0 (now («placed_entries» .entry))) × (now (intervals .exit) ≡ zeros posZero (now (intervals .entry))) ⌝ }
 {
     rooms::zero(shapes);
     rooms::zero(sheet);

@@ -1,4 +1,6 @@
 // Zeros in lent rooms: every slot, those of a remainder too.
+pub mod tracks;
+
 ghost use mathlib.Core.Path.{_≡_};
 ghost use Rattle.numbers.specs.Numbers.{posZero};
 ghost use Rattle.filling.specs.Rooms.{zeros};

@@ -9,13 +9,13 @@ use mathlib.Core.Bool.{Bool, true, false, _||_, true≢false}
 use lib.ListN.{length, getD, set, length-set}
 use lib.Seq.{getD-set-same, set-set, set-getD}
 use lib.Ieee.{Float}
-use Rattle.height.specs.declared.Look.{Look}
-use Rattle.height.specs.declared.Look.the-variants.{Free, Full}
+use Rattle.look.specs.declared.height.Look.{Look}
+use Rattle.look.specs.declared.height.Look.the-variants.{Free, Full}
 use Rattle.look.specs.declared.Answer.{Answer}
 use Rattle.look.specs.declared.Answer.the-variants.{NoRoom, Seen}
 use Rattle.search.specs.declared.Found.{Found}
 use Rattle.search.specs.declared.Found.the-variants.{At, Nowhere, Overflow}
-use Rattle.search.specs.Searching.{Looked, looked, afterLook, afterAnswer, counted, searchFrom}
+use Rattle.search.specs.inner.Searching.{Looked, looked, afterLook, afterAnswer, counted, searchFrom}
 
 -- the columns after one with this answer are looked at only if it is full
 abbrev pub onward : Answer → List ℕ → List ℕ

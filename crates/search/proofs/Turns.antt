@@ -6,17 +6,17 @@ use mathlib.Core.List.{List}
 use lib.ListN.{length, getD, set}
 use lib.Seq.{getD-set-same}
 use lib.Ieee.{Float}
-use Rattle.height.specs.declared.Look.{Look}
-use Rattle.height.specs.declared.Look.the-variants.{Free, Full}
-use Rattle.tracks.specs.Tracks.{nextColumns, lookCounts, slotNumbers}
-use Rattle.tracks.proofs.Fields.{length-field, field-at, slot-first, slot-number, number-kept}
+use Rattle.look.specs.declared.height.Look.{Look}
+use Rattle.look.specs.declared.height.Look.the-variants.{Free, Full}
+use Rattle.rooms.specs.tracks.inner.Tracks.{nextColumns, lookCounts, slotNumbers}
+use Rattle.rooms.proofs.tracks.Fields.{length-field, field-at, slot-first, slot-number, number-kept}
 use Rattle.look.specs.declared.Answer.{Answer}
 use Rattle.look.specs.declared.Answer.the-variants.{NoRoom, Seen}
-use Rattle.columns.specs.declared.Columns.{Columns}
+use Rattle.search.specs.declared.columns.Columns.{Columns}
 use Rattle.search.specs.declared.Found.{Found}
 use Rattle.search.specs.declared.Found.the-variants.{At, Nowhere, Overflow}
-use Rattle.columns.specs.Stands.{lastOf, startOf}
-use Rattle.search.specs.Searching.{remembering, nextOf, tracked, searchOf, answerAt, looked, counted, afterLook, afterAnswer, searchFrom}
+use Rattle.search.specs.columns.inner.Stands.{lastOf, startOf}
+use Rattle.search.specs.inner.Searching.{remembering, nextOf, tracked, searchOf, answerAt, looked, counted, afterLook, afterAnswer, searchFrom}
 
 module _ (f : ℕ → Answer) (slot c : ℕ) (counts : List ℕ) where
   pub search-end : (n : ℕ) → n ≡ 0 → searchFrom f slot n c counts ≡ looked Nowhere counts

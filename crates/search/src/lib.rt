@@ -1,17 +1,19 @@
 // The column search (document 01, "Filling"): the column step, and the search of one orientation
 // from its remembered column.
+pub mod columns;
+
 ghost use mathlib.Core.Path.{_≡_};
 ghost use Prim.Native.Nat.{ℕ, _+_, _-_, _/_, _≤_, _<_, _^_};
 ghost use lib.ListN.{length, getD, set};
-ghost use Rattle.look.specs.Ready.{Lookable};
-ghost use Rattle.tracks.specs.Tracks.{nextColumns, lookCounts, slotNumbers};
-ghost use Rattle.columns.specs.Stands.{xOf, lastOf};
-ghost use Rattle.search.specs.Searching.{answerAt, looked, searchFrom, Within, nextOf, tracked, searchOf};
-use columns::Columns;
-use height::Look;
+ghost use Rattle.look.specs.inner.Ready.{Lookable};
+ghost use Rattle.rooms.specs.tracks.inner.Tracks.{nextColumns, lookCounts, slotNumbers};
+ghost use Rattle.search.specs.columns.inner.Stands.{columnX, lastOf};
+ghost use Rattle.search.specs.inner.Searching.{answerAt, looked, searchFrom, Within, nextOf, tracked, searchOf};
+use crate::columns::Columns;
 use index::Entry;
 use index::Index;
 use look::Answer;
+use look::height::Look;
 
 // The column that a search yields, with its free height; or that a look's intervals exceed the room.
 pub enum Found {
@@ -37,7 +39,7 @@ fn column_step(
     room: &mut [f64],
     tracks: &mut [usize],
 ) -> Answer
-    requires { ⌜ Lookable ix (xOf k c) (k .«y_low») (k .«y_high») (now inset) (now apart) (now sheet) (now placed)
+    requires { ⌜ Lookable ix (columnX k c) (k .«y_low») (k .«y_high») (now inset) (now apart) (now sheet) (now placed)
         (now «sheet_entries») (now «sheet_starts») (now «placed_entries») (now «placed_starts»)
         × (k .count ≤ 4000000000) × (slot < 1024) × (slotNumbers ≤ length (now tracks)) × (getD (lookCounts (now tracks)) slot 0 + 1 < 2 ^ 64) ⌝ }
     ensures { λ r. ⌜ (r ≡ answerAt (length (now (room .entry)) / 2) k (now (inset .entry)) (now (apart .entry)) (now (sheet .entry)) (now (placed .entry)) c)
@@ -82,7 +84,7 @@ fn column_search(
     room: &mut [f64],
     tracks: &mut [usize],
 ) -> Found
-    requires { ⌜ ((c : ℕ) → from ≤ c → c ≤ last → Lookable ix (xOf k c) (k .«y_low») (k .«y_high») (now inset) (now apart) (now sheet) (now placed)
+    requires { ⌜ ((c : ℕ) → from ≤ c → c ≤ last → Lookable ix (columnX k c) (k .«y_low») (k .«y_high») (now inset) (now apart) (now sheet) (now placed)
         (now «sheet_entries») (now «sheet_starts») (now «placed_entries») (now «placed_starts»))
         × (k .count ≤ 4000000000) × (last ≤ 4000000001) × (slot < 1024) × (slotNumbers ≤ length (now tracks))
         × (getD (lookCounts (now tracks)) slot 0 + (last + 1 - from) < 2 ^ 64) ⌝ }
@@ -157,7 +159,7 @@ pub fn search(
     room: &mut [f64],
     tracks: &mut [usize],
 ) -> Found
-    requires { ⌜ ((c : ℕ) → c ≤ lastOf k → Lookable ix (xOf k c) (k .«y_low») (k .«y_high») (now inset) (now apart) (now sheet) (now placed)
+    requires { ⌜ ((c : ℕ) → c ≤ lastOf k → Lookable ix (columnX k c) (k .«y_low») (k .«y_high») (now inset) (now apart) (now sheet) (now placed)
         (now «sheet_entries») (now «sheet_starts») (now «placed_entries») (now «placed_starts»))
         × (k .count ≤ 4000000000) × (slot < 1024) × (slotNumbers ≤ length (now tracks)) × (getD (lookCounts (now tracks)) slot 0 + 4000000002 < 2 ^ 64) ⌝ }
     ensures { λ r. ⌜ tracked r (lookCounts (now (tracks .exit))) (nextColumns (now (tracks .exit)))

@@ -12,18 +12,18 @@ use Rattle.index.specs.Buckets.{upFrom}
 use Rattle.strips.specs.declared.Rect.{Rect}
 use Rattle.strips.specs.declared.Stored.{Stored}
 use Rattle.strips.specs.declared.Stored.the-variants as Stored
-use Rattle.strips.specs.Tables as Tables
+use Rattle.strips.specs.inner.Tables as Tables
 use Rattle.filling.specs.Shapes.{Shape, noShape}
 use Rattle.filling.specs.Rooms.{laid}
 use Rattle.filling.specs.State.{bySlot, Part, flatParts, partAt, flatBounds, boundsAt}
 use Rattle.filling.specs.Start.{partsFrom}
 use Rattle.filling.proofs.Reading.{flat-append, getD-bySlot, length-bySlot, bounds-slot, length-bounds}
 use Rattle.filling.proofs.WithinBoundsStrips.{capacity-flat}
-use Rattle.set_strips.proofs.ReadSets.{laid-first}
+use Rattle.shapes.proofs.set_strips.ReadSets.{laid-first}
 use Rattle.shapes.specs.declared.ShapesLaid.the-variants as Laid
-use Rattle.slots.specs.Slots.{slotStrips, slotBounds, slotOf, stripsTo, Column, SlotsLaid, BoundsTo}
-use Rattle.shapes.specs.ShapeRooms.{ShapesAre}
-use Rattle.slots.proofs.SlotWalk.{length-laid, laid-on}
+use Rattle.shapes.specs.slots.inner.Slots.{slotStrips, slotBounds, slotOf, stripsTo, Column, SlotsLaid, BoundsTo}
+use Rattle.shapes.specs.inner.ShapeRooms.{ShapesAre}
+use Rattle.shapes.proofs.slots.SlotWalk.{length-laid, laid-on}
 
 -- ---- lists of four numbers to a slot
 
@@ -176,7 +176,7 @@ module _ (f g : ℕ → List Trapezoid) (b : ℕ → Rect) (s : ℕ → Shape) (
         let z = both-number in
         let v : length shapes₁ ≡ length shapes₀ = ap length (P .2) ∙ length-laid (stripsTo f 1024) shapes₀ 0 (omega (arith, P .0, P .1)) in
         let c : m ≡ 0 + length (stripsTo f 1024) = omega (arith, P .0) in
-        let w : shapes ≡ Tables.laid (stripsTo f 1024 ++ stripsTo g 1024) shapes₀ 0 = Q .2 ∙ ap₂ (λ (r : List Float) (k : ℕ). Tables.laid (stripsTo g 1024) r k) (P .2) c ∙ laid-on (stripsTo f 1024) (stripsTo g 1024) shapes₀ 0 (omega (arith, P .0, P .1)) in (
+        let w : shapes ≡ Tables.stripsLaid (stripsTo f 1024 ++ stripsTo g 1024) shapes₀ 0 = Q .2 ∙ ap₂ (λ (r : List Float) (k : ℕ). Tables.stripsLaid (stripsTo g 1024) r k) (P .2) c ∙ laid-on (stripsTo f 1024) (stripsTo g 1024) shapes₀ 0 (omega (arith, P .0, P .1)) in (
           P .0 ∙ sym x,
           Q .0 ∙ sym y,
           omega (arith, z, P .0, Q .0, Q .1, v),

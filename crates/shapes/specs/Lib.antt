@@ -1,1 +1,3 @@
-pub mod ShapeRooms
+pub mod set_strips
+pub mod slots
+pub mod inner

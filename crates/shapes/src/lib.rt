@@ -2,12 +2,15 @@
 // inset"): their strips, their parts of the room and their inset bounds, by slot. A slot is
 // 16 × kind + orientation. Only crates of ours call it, so it may require that the tables are long
 // enough.
+pub mod set_strips;
+pub mod slots;
+
 ghost use mathlib.Core.Path.{_≡_};
 ghost use Prim.Native.Nat.{_≤_};
 ghost use lib.ListN.{length};
 ghost use Rattle.filling.specs.State.{bySlot};
-ghost use Rattle.slots.specs.Slots.{slotOf};
-ghost use Rattle.shapes.specs.ShapeRooms.{ShapesAre};
+ghost use Rattle.shapes.specs.slots.inner.Slots.{slotOf};
+ghost use Rattle.shapes.specs.inner.ShapeRooms.{ShapesAre};
 use strips::Stored;
 
 // How many apart strips and inset strips were laid, or that they exceed the room (document 01's 20).
@@ -28,7 +31,8 @@ pub fn lay_shapes(
     parts: &mut [usize],
 ) -> ShapesLaid
     requires { ⌜ (256 ≤ length (now rows)) × (2048 ≤ length (now places)) × (length (now «inset_bounds») ≡ 4096) × (length (now parts) ≡ 4096) ⌝ }
-    ensures { λ r. ⌜ ShapesAre r (bySlot (slotOf (now (bytes .entry)) (now (rows .entry)) (now (places .entry)) kinds)) (now (shapes .entry)) (now (shapes .exit)) (now («inset_bounds» .exit)) (now (parts .exit)) ⌝ }
+    ensures { λ r. ⌜ ShapesAre r (bySlot (slotOf (now (bytes .entry)) (now (rows .entry)) (now (places .entry)) kinds)) (now (shapes .entry))
+        (now (shapes .exit)) (now («inset_bounds» .exit)) (now (parts .exit)) ⌝ }
 {
     let mut points = [0.0; 1024];
     let mut ends = [0usize; 64];

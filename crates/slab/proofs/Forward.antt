@@ -15,7 +15,7 @@ use Rattle.numbers.proofs.Truth.{either}
 use Rattle.slab.specs.declared.Edge.{Edge}
 use Rattle.slab.specs.declared.Row.{Row}
 use Rattle.slab.specs.Slab.{up, insert, sort, Crossing, crossing, before, spans, spanning, crossings}
-use Rattle.slab.specs.Tables.{down, merge, rowAt, setRow, crossingOf, crossingAt, behind, Number, Placed}
+use Rattle.slab.specs.inner.Tables.{down, merge, rowAt, setRow, crossingOf, crossingAt, behind, Number, Placed}
 use Rattle.slab.proofs.Sorting.{over, insert-step, insert-last, insert-on, insert-here, up-snoc}
 use Rattle.slab.proofs.Merging.{All, merge-right, merge-left, merge-none, merge-sort, all-append}
 use Rattle.slab.proofs.Rows.{row-below, row-above, row-same}

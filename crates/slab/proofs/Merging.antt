@@ -7,7 +7,7 @@ use mathlib.Core.List.{List, [], _∷_, _++_}
 use mathlib.Core.Bool.{Bool, true, false}
 use Rattle.numbers.proofs.Truth.{either}
 use Rattle.slab.specs.Slab.{up, insert, sort}
-use Rattle.slab.specs.Tables.{down, merge}
+use Rattle.slab.specs.inner.Tables.{down, merge}
 use Rattle.slab.proofs.Sorting.{insert-on, insert-here, down-ext, down-suc, down-zero}
 
 -- what holds of each of a list

@@ -11,7 +11,7 @@ use Rattle.numbers.specs.Numbers.{_⊕_}
 use Rattle.numbers.proofs.Truth.{is-true, holds, either, clash}
 use Rattle.numbers.proofs.Keys.{key, mid, lt-is, eq→key, key→eq, key-top, self-real}
 use Rattle.slab.specs.Slab.{Crossing, positive, ahead, before}
-use Rattle.slab.specs.Tables.{Number, Placed}
+use Rattle.slab.specs.inner.Tables.{Number, Placed}
 use Rattle.slab.proofs.Merging.{Order}
 
 abbrev k : Float → ℕ

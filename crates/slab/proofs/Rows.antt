@@ -11,7 +11,7 @@ use lib.Ieee.{Float, nan, lt, binary64, ofBits, neg}
 use Rattle.slab.specs.declared.Edge.{Edge}
 use Rattle.slab.specs.declared.Row.{Row}
 use Rattle.slab.specs.Slab.{up, insert, sort, Crossing, direction, crossing, before, spans, spanning, crossings}
-use Rattle.slab.specs.Tables.{down, rowAt, setRow, crossingOf, crossingAt, zeroBits}
+use Rattle.slab.specs.inner.Tables.{down, rowAt, setRow, crossingOf, crossingAt, zeroBits}
 use Rattle.slab.proofs.Sorting.{over, insert-step, insert-last, up-none, up-cons}
 
 module _ (rs : List Float) (i : ℕ) (c : Row) where

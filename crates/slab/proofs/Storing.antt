@@ -11,10 +11,10 @@ use lib.Ieee.{Float}
 use borrow.Author.Tests.{lt-ltb, le-ltb, ltb-true, ltb-false}
 use Rattle.trapezoid.specs.declared.Trapezoid.{Trapezoid}
 use Rattle.trapezoid.specs.Strip.{flat, capacity}
-use Rattle.trapezoid.specs.Writing.{setStrip}
+use Rattle.trapezoid.specs.inner.Writing.{setStrip}
 use Rattle.trapezoid.proofs.Strips.{length-setStrip, take-strip, drop-strip}
 use Rattle.slab.specs.Slab.{kept, piece}
-use Rattle.slab.specs.Tables.{Held, put, hold}
+use Rattle.slab.specs.inner.Tables.{Held, put, hold}
 
 pub put-fits : (r : List Float) (n : ℕ) (s : Trapezoid) → n < length r / 6 → put (record { room = r; count = n }) s ≡ record { room = setStrip r n s; count = n + 1 }
 unfolding put capacity

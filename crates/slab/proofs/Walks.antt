@@ -12,7 +12,7 @@ use borrow.Author.Tests.{lt-ltb, le-ltb, ltb-true, ltb-false, le-leb, lt-leb}
 use Rattle.trapezoid.specs.declared.Trapezoid.{Trapezoid}
 use Rattle.slab.specs.declared.Row.{Row}
 use Rattle.slab.specs.Slab.{Crossing, positive, strip, piece, runs, walk}
-use Rattle.slab.specs.Tables.{down, rowAt, crossingOf, crossingAt, zeroBits, Held, hold}
+use Rattle.slab.specs.inner.Tables.{down, rowAt, crossingOf, crossingAt, zeroBits, Held, hold}
 use Rattle.slab.proofs.Sorting.{down-zero}
 use Rattle.slab.proofs.Storing.{hold-append}
 

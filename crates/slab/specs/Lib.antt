@@ -1,2 +1,3 @@
+pub mod xs
 pub mod Slab
-pub mod Tables
+pub mod inner

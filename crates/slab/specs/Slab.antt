@@ -91,7 +91,8 @@ piece closed s = elim (closed && kept s) [ true ↦ s ∷ [] | false ↦ [] ]
 unfoldable pub runs : Bool → ℤ → Bool
 runs sheet w = cond sheet (not (positive w)) (positive w)
 
--- "Winding sums d": at winding w; (la, lb) is the lower edge of the strip that runs. What runs at the end is the sheet's, "of its bounding box", and ends at the top
+-- "Winding sums d": at winding w; (la, lb) is the lower edge of the strip that runs. What runs at the end is the sheet's, "of its bounding box", and ends at
+-- the top
 unfoldable pub walk : Bool → Float → Float → Float → ℤ → Float → Float → List Crossing → List Trapezoid
 walk sheet top xa xb w la lb [] = piece (sheet && runs sheet w) (strip xa xb la lb top top)
 walk sheet top xa xb w la lb (c ∷ cs) =

@@ -1,6 +1,7 @@
 // The strips of one slab (document 01, "Strips"): crossings of its edges, sorted, and winding.
 // Edges, rows and strips lie in lent tables; `one_slab` is what the crate `strips` calls.
 mod winding;
+pub mod xs;
 
 ghost use mathlib.Core.Path.{_≡_};
 ghost use mathlib.Core.Bool.{true, not};
@@ -8,7 +9,7 @@ ghost use Prim.Native.Nat.{_+_, _-_, _*_, _≤_, _<_};
 ghost use lib.ListN.{length};
 ghost use lib.IntN.{pos};
 ghost use Rattle.slab.specs.Slab.{up, insert, spans, heightAt, crossing, ahead, before, crossings, strip, runs, walk, slab};
-ghost use Rattle.slab.specs.Tables.{down, edgeAt, rowAt, setRow, crossingOf, crossingAt, behind, Placed, put, hold};
+ghost use Rattle.slab.specs.inner.Tables.{down, edgeAt, rowAt, setRow, crossingOf, crossingAt, behind, Placed, put, hold};
 
 // An edge from p to q, with the smaller and the larger of its x's.
 pub struct Edge {
@@ -316,7 +317,8 @@ fn wind(
     n: usize,
 ) -> usize
     requires { ⌜ 3 * m ≤ length (now rows) ⌝ }
-    ensures { λ r. ⌜ record { room = now (room .exit); count = r } ≡ hold (record { room = now (room .entry); count = n }) (walk sheet top xa xb (pos 0) bottom bottom (down (crossingAt (now (rows .entry))) m)) ⌝ }
+    ensures { λ r. ⌜ record { room = now (room .exit); count = r } ≡ hold (record { room = now (room .entry); count = n })
+        (walk sheet top xa xb (pos 0) bottom bottom (down (crossingAt (now (rows .entry))) m)) ⌝ }
 {
     let mut k = m;
     let mut w = m;
@@ -341,7 +343,7 @@ fn wind(
 }
 
 // The strips of the slab from xa to xb go into the room from number n on; how many it then holds, or
-// one more than fit. `es` holds `edges` edges; `rows` is a work table. Only crates of ours call it.
+// one more than fit. `es` holds `edges` edges; `rows` is a work table.
 pub fn one_slab(
     es: &[f64],
     edges: usize,
@@ -355,7 +357,8 @@ pub fn one_slab(
     n: usize,
 ) -> usize
     requires { ⌜ (6 * edges ≤ length (now es)) × (3 * edges ≤ length (now rows)) ⌝ }
-    ensures { λ r. ⌜ record { room = now (room .exit); count = r } ≡ hold (record { room = now (room .entry); count = n }) (slab (up (edgeAt (now (es .entry))) 0 edges) sheet bottom top xa xb) ⌝ }
+    ensures { λ r. ⌜ record { room = now (room .exit); count = r } ≡ hold (record { room = now (room .entry); count = n })
+        (slab (up (edgeAt (now (es .entry))) 0 edges) sheet bottom top xa xb) ⌝ }
 {
     let m = sorted_rows(es, edges, xa, xb, rows);
     wind(rows, m, sheet, bottom, top, xa, xb, room, n)

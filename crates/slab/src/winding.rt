@@ -5,7 +5,7 @@ ghost use Prim.Native.Nat.{_+_, _-_, _<_};
 ghost use lib.IntN.{pos, _-ℤ_};
 ghost use lib.Ieee.{lt};
 ghost use Rattle.slab.specs.Slab.{strip, kept, piece, runs};
-ghost use Rattle.slab.specs.Tables.{zeroBits, put, hold};
+ghost use Rattle.slab.specs.inner.Tables.{zeroBits, put, hold};
 
 // Winding after d, counted from a base: one more or one less.
 pub fn turned(w: usize, d: f64) -> usize

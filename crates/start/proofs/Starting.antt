@@ -12,7 +12,7 @@ use Rattle.bits.specs.declared.Refusal as Input
 use Rattle.job.specs.declared.Header.{Header}
 use Rattle.job.specs.declared.JobRead.the-variants.{Good}
 use Rattle.job.specs.Jobs.{Job, Answer, accepted, refused, readJob}
-use Rattle.job.specs.Meaning.{jobRead}
+use Rattle.job.specs.inner.Meaning.{jobRead}
 use Rattle.job.proofs.Accepted.{job-good, same-job}
 use Rattle.filling.specs.declared.Refusal.{Refusal}
 use Rattle.filling.specs.declared.Refusal.the-variants as Why
@@ -25,16 +25,16 @@ use Rattle.filling.specs.Rooms.{Lent, positionCapacity, laid, zeros, zeroRooms,
 use Rattle.filling.specs.Order.{rearranged}
 use Rattle.filling.specs.Start.{firstRooms, prepareVerdict, startVerdict, Start, noStart, goodStart, startJob, startGiven, startOf}
 use Rattle.filling.proofs.Begin.{rearranged-length}
-use Rattle.tables.specs.Tabled.{Tabled}
-use Rattle.tables.proofs.Tabling.{jobIn, kinds-in, tabled}
-use Rattle.prepare.specs.Ready.{FromTables}
+use Rattle.accounts.specs.tables.inner.Tabled.{Tabled}
+use Rattle.accounts.proofs.tables.Tabling.{jobIn, kinds-in, tabled}
+use Rattle.prepare.specs.inner.Ready.{FromTables}
 use Rattle.prepare.proofs.Tabled.{from-tables}
-use Rattle.started.specs.declared.Started.{Started}
-use Rattle.started.specs.Answers.{notStarted}
+use Rattle.start.specs.declared.replies.Started.{Started}
+use Rattle.start.specs.replies.inner.Answers.{notStarted}
 use Rattle.start.specs.Answered.{answered}
-use Rattle.begin.specs.Beginning.{Cleared, Begun}
+use Rattle.start.specs.ordered.inner.Beginning.{Cleared, Begun}
 use Rattle.filling.proofs.Begin.{start-refused, start-good}
-use Rattle.begin.proofs.Beginning.{not-begun, begun-refused}
+use Rattle.start.proofs.ordered.Beginning.{not-begun, begun-refused}
 
 -- ---- the verdict
 module _ (j : Job) (order : List ℕ) (l : Lent) (positions : ℕ) (e : positionCapacity (l .positions) ≡ positions) where

@@ -1,1 +1,3 @@
+pub mod replies
+pub mod ordered
 pub mod Answered

@@ -1,4 +1,7 @@
 // The start (document 01: "a start (it leaves strips and entries for single steps)").
+pub mod ordered;
+pub mod replies;
+
 ghost use mathlib.Core.Path.{_≡_};
 ghost use mathlib.Core.List.{List};
 ghost use Prim.Native.Nat.{_≤_};
@@ -6,16 +9,16 @@ ghost use lib.ListN.{length};
 ghost use lib.Ieee.{Float};
 ghost use Rattle.job.specs.declared.JobRead.the-variants.{Good};
 ghost use Rattle.job.specs.Jobs.{Job, accepted, readJob};
-ghost use Rattle.job.specs.Meaning.{jobRead};
+ghost use Rattle.job.specs.inner.Meaning.{jobRead};
 ghost use Rattle.filling.specs.Rooms.{Lent, positionCapacity, lentOf};
 ghost use Rattle.filling.specs.Start.{startJob, startOf};
-ghost use Rattle.begin.specs.Beginning.{Cleared, Begun};
+ghost use Rattle.start.specs.ordered.inner.Beginning.{Cleared, Begun};
 ghost use Rattle.start.specs.Answered.{answered};
+use crate::replies::Started;
 use filling::Refusal;
 use index::Entry;
 use job::Header;
 use job::JobRead;
-use started::Started;
 
 // The start of a job that was read into the tables.
 fn begin_job(
@@ -31,16 +34,19 @@ fn begin_job(
     sheet: &mut [f64],
     sheet_entries: &mut [Entry],
 ) -> Started
-    requires { ⌜ (256 ≤ length (now rows)) × (2048 ≤ length (now places)) × ((areas : List Float) × (64 ≤ length areas) × (readJob (now bytes) ≡ jobRead (Good h at copies) (now bytes) (now rows) areas (now places))) ⌝ }
-    ensures { λ r. ⌜ ((j : Job) (l : Lent) → readJob (now (bytes .entry)) ≡ accepted j → Cleared l (now (shapes .entry)) (now (sheet .entry)) (now («sheet_entries» .entry)) → positionCapacity (l .positions) ≡ positions → Begun r (startJob j (now (order .entry)) l) (now (shapes .exit)) (now (sheet .exit)) (now («sheet_entries» .exit))) ⌝ }
+    requires { ⌜ (256 ≤ length (now rows)) × (2048 ≤ length (now places)) × ((areas : List Float) × (64 ≤ length areas)
+        × (readJob (now bytes) ≡ jobRead (Good h at copies) (now bytes) (now rows) areas (now places))) ⌝ }
+    ensures { λ r. ⌜ ((j : Job) (l : Lent) → readJob (now (bytes .entry)) ≡ accepted j → Cleared l (now (shapes .entry)) (now (sheet .entry))
+        (now («sheet_entries» .entry)) → positionCapacity (l .positions) ≡ positions → Begun r (startJob j (now (order .entry)) l) (now (shapes .exit))
+        (now (sheet .exit)) (now («sheet_entries» .exit))) ⌝ }
 {
     let n = copies as usize;
     if positions < n {
-        return started::refused(Refusal::PositionRoom);
+        return replies::refused(Refusal::PositionRoom);
     }
     let kinds = h.kinds as usize;
-    if order::rearranged(order, rows, kinds, n) {
-        return begin::begin_order(
+    if accounts::order::rearranged(order, rows, kinds, n) {
+        return ordered::begin_order(
             bytes,
             order,
             h,
@@ -52,7 +58,7 @@ fn begin_job(
             sheet_entries,
         );
     }
-    started::refused(Refusal::WrongOrder)
+    replies::refused(Refusal::WrongOrder)
 }
 
 // The start over zeroed rooms; the position room holds so many positions.
@@ -64,7 +70,9 @@ fn begin(
     sheet: &mut [f64],
     sheet_entries: &mut [Entry],
 ) -> Started
-    ensures { λ r. ⌜ ((l : Lent) → Cleared l (now (shapes .entry)) (now (sheet .entry)) (now («sheet_entries» .entry)) → positionCapacity (l .positions) ≡ positions → Begun r (startOf (now (bytes .entry)) (now (order .entry)) l) (now (shapes .exit)) (now (sheet .exit)) (now («sheet_entries» .exit))) ⌝ }
+    ensures { λ r. ⌜ ((l : Lent) → Cleared l (now (shapes .entry)) (now (sheet .entry)) (now («sheet_entries» .entry))
+        → positionCapacity (l .positions) ≡ positions → Begun r (startOf (now (bytes .entry)) (now (order .entry)) l) (now (shapes .exit)) (now (sheet .exit))
+        (now («sheet_entries» .exit))) ⌝ }
 {
     let j = job::read(bytes);
     let rows = j.rows;
@@ -84,7 +92,7 @@ fn begin(
             sheet,
             sheet_entries,
         ),
-        JobRead::NoJob(k) => started::refused(Refusal::Job(k)),
+        JobRead::NoJob(k) => replies::refused(Refusal::Job(k)),
     }
 }
 
@@ -101,7 +109,10 @@ pub fn start(
     intervals: &mut [f64],
     positions: &mut [f64],
 ) -> Started
-    ensures { λ r. ⌜ answered r (lentOf (now (shapes .exit)) (now (sheet .exit)) (now (placed .exit)) (now («sheet_entries» .exit)) (now («placed_entries» .exit)) (now (intervals .exit)) (now (positions .exit))) ≡ startOf (now (bytes .entry)) (now (order .entry)) (lentOf (now (shapes .entry)) (now (sheet .entry)) (now (placed .entry)) (now («sheet_entries» .entry)) (now («placed_entries» .entry)) (now (intervals .entry)) (now (positions .entry))) ⌝ }
+    ensures { λ r. ⌜ answered r (lentOf (now (shapes .exit)) (now (sheet .exit)) (now (placed .exit)) (now («sheet_entries» .exit))
+        (now («placed_entries» .exit)) (now (intervals .exit)) (now (positions .exit))) ≡ startOf (now (bytes .entry)) (now (order .entry))
+        (lentOf (now (shapes .entry)) (now (sheet .entry)) (now (placed .entry)) (now («sheet_entries» .entry)) (now («placed_entries» .entry))
+        (now (intervals .entry)) (now (positions .entry))) ⌝ }
 {
     let held = positions.len() / 5;
     rooms::zero(shapes);

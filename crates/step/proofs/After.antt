@@ -9,11 +9,11 @@ use Rattle.filling.specs.declared.State.{State}
 use Rattle.filling.specs.declared.Refusal.{Refusal}
 use Rattle.filling.specs.declared.Verdict.{Verdict}
 use Rattle.filling.specs.declared.Verdict.the-variants.{Accepted, Refused}
-use Rattle.tracks.specs.Tracks.{field, nextColumns, lookCounts, slotNumbers}
+use Rattle.rooms.specs.tracks.inner.Tracks.{field, nextColumns, lookCounts, slotNumbers}
 use Rattle.place.specs.declared.Step.{Step}
-use Rattle.place.specs.Placing.{verdictOf, numberOf, xOf, yOf}
+use Rattle.place.specs.inner.Placing.{verdictOf, orientationNumber, outcomeX, yOf}
 use Rattle.step.specs.declared.Stepped.{Stepped}
-use Rattle.step.specs.Going.{takenOf, answerOf}
+use Rattle.step.specs.inner.Going.{takenOf, answerOf}
 
 -- ---- numbers
 pub below : (i n : ℕ) → i < 4096 → n ≡ 4096 → i < n
@@ -50,13 +50,13 @@ module _ (s : State) (r : Step) (tracks : List ℕ) where
       }
 
   pub state-is : (next counts : List ℕ) (n : ℕ) (x y : Float) (a b : ℕ) → a ≡ 1024 → b ≡ 1024 → next ≡ field 0 2 0 a tracks → counts ≡ field 0 2 1 b tracks
-      → n ≡ numberOf (r .outcome) → x ≡ xOf (r .outcome) → y ≡ yOf (r .outcome) → stateBy next counts n x y ≡ takenOf (s .taken + 1) s r tracks
+      → n ≡ orientationNumber (r .outcome) → x ≡ outcomeX (r .outcome) → y ≡ yOf (r .outcome) → stateBy next counts n x y ≡ takenOf (s .taken + 1) s r tracks
   state-is next counts n x y a b u v e f g h k =
       ap (λ (l : List ℕ). stateBy l counts n x y) (e ∙ ap (λ (m : ℕ). field 0 2 0 m tracks) u)
       ∙ (ap (λ (l : List ℕ). stateBy (nextColumns tracks) l n x y) (f ∙ ap (λ (m : ℕ). field 0 2 1 m tracks) v)
       ∙ (ap (λ (m : ℕ). stateBy (nextColumns tracks) (lookCounts tracks) m x y) g
-      ∙ (ap (λ (z : Float). stateBy (nextColumns tracks) (lookCounts tracks) (numberOf (r .outcome)) z y) h
-      ∙ ap (λ (z : Float). stateBy (nextColumns tracks) (lookCounts tracks) (numberOf (r .outcome)) (xOf (r .outcome)) z) k)))
+      ∙ (ap (λ (z : Float). stateBy (nextColumns tracks) (lookCounts tracks) (orientationNumber (r .outcome)) z y) h
+      ∙ ap (λ (z : Float). stateBy (nextColumns tracks) (lookCounts tracks) (orientationNumber (r .outcome)) (outcomeX (r .outcome)) z) k)))
 
   -- ---- the answer
   by-verdict : (v w : Verdict) → v ≡ verdictOf (r .outcome) → v ≡ w → answerOf s r tracks w ≡ answerOf s r tracks (verdictOf (r .outcome))

@@ -18,15 +18,15 @@ use Rattle.filling.specs.State.{apartRoom, insetRoom, orientationCounts}
 use Rattle.filling.specs.Consistent.{sheetIndex}
 use Rattle.filling.proofs.Reading.{kinds-many}
 use Rattle.choose.specs.declared.Grid.{Grid}
-use Rattle.choose.specs.Choosing.{gridOf, worldIn}
+use Rattle.choose.specs.inner.Choosing.{gridOf, surroundingsIn}
 use Rattle.place.specs.declared.Copy.{Copy}
 use Rattle.place.specs.declared.Totals.{Totals}
-use Rattle.place.specs.Placing.{totalsOf, copyOf}
-use Rattle.place.specs.Standing.{Standing, Fixed}
+use Rattle.place.specs.inner.Placing.{totalsOf, copyOf}
+use Rattle.place.specs.inner.Standing.{Standing, Fixed}
 use Rattle.filling_laws.proofs.ReadyStrips.{AllFit}
 use Rattle.filling_laws.proofs.Ready.{InDoubles, strips-within, ready-fixed, ready-counts, ready-standing}
 use Rattle.filling_laws.proofs.ReadyOrder.{slots-within, next-kind}
-use Rattle.step.specs.Going.{Going}
+use Rattle.step.specs.inner.Going.{Going}
 
 -- ---- the numbers of an array of doubles
 each-fit : (xs : List Float) (us : List Val) → shadow (each Float (FloatOf binary64 .own) xs us) → AllFit xs
@@ -99,7 +99,7 @@ module _ {j : Job} {s : State} {w : Rooms} {rows : List ℕ} {areas : List Float
     -- what the job fixes of slot i, by the grid
     abbrev FixedBy : Grid → ℕ → Type 0
     FixedBy g i =
-        Fixed (g .index) (worldIn room g (s .tables .«inset_bounds») (s .tables .parts) (w .shapes) (take (6 * s .tables .«sheet_strips») (w .sheet)) placed)
+        Fixed (g .index) (surroundingsIn room g (s .tables .«inset_bounds») (s .tables .parts) (w .shapes) (take (6 * s .tables .«sheet_strips») (w .sheet)) placed)
         (w .sheet-entries) sheet-starts i
 
     fixed : (o : ℕ) → o < turns → FixedBy (gridOf (s .tables)) (16 * kind + o)

@@ -18,14 +18,14 @@ use Rattle.choose.specs.declared.Choice.{Choice}
 use Rattle.choose.specs.declared.Part.{Part}
 use Rattle.choose.specs.declared.Winner.{Winner}
 use Rattle.choose.specs.declared.Winner.the-variants as Winners
-use Rattle.choose.specs.Choosing.{partAt, apartPart, World, Chosen, chosen, chooseFrom}
+use Rattle.choose.specs.inner.Choosing.{partAt, apartPart, Surroundings, Chosen, chosen, chooseFrom}
 use Rattle.store.specs.declared.Stored.{Stored}
 use Rattle.store.specs.declared.Stored.the-variants.{NoStrips, NoEntries, Done}
-use Rattle.store.specs.Storing.{Left, left, together, storeOf}
+use Rattle.store.specs.inner.Storing.{Left, left, together, storeOf}
 use Rattle.place.specs.declared.Totals.{Totals}
 use Rattle.place.specs.declared.Outcome.{Outcome}
 use Rattle.place.specs.declared.Outcome.the-variants.{At, Nowhere, Refused}
-use Rattle.place.specs.Placing.{afterOf, withoutOf, PutLeft, put, putLeft, putOf, settleOf, Placed, placeWith, placeOf}
+use Rattle.place.specs.inner.Placing.{afterOf, withoutOf, PutLeft, put, putLeft, putOf, settleOf, Placed, placeWith, placeOf}
 
 at-not : {c : Choice} {r : Refusal} → At c ≡ Refused r → ⊥
 at-not e = absurd (let z : _≡_ {A = ℕ} 0 1 = cc in omega arith)
@@ -84,6 +84,6 @@ module _ (ix : Index) (t : Totals) (placed : List Float) (e s : List ℕ) where
   settle-kept Winners.Overflow area slot parts apart r h = (refl, refl)
 
   -- the rooms after a refused copy
-  pub place-kept : (w : World) (area : Float) (slot n : ℕ) (counts next : List ℕ) (r : Refusal) → placeOf ix w area slot n t placed e s counts next .left .reply .outcome ≡ Refused r → Same (placeOf ix w area slot n t placed e s counts next .left)
+  pub place-kept : (w : Surroundings) (area : Float) (slot n : ℕ) (counts next : List ℕ) (r : Refusal) → placeOf ix w area slot n t placed e s counts next .left .reply .outcome ≡ Refused r → Same (placeOf ix w area slot n t placed e s counts next .left)
   unfolding placeOf placeWith
   place-kept w area slot n counts next r h = settle-kept (chooseFrom w slot n 0 (chosen Winners.Nowhere counts next) .winner) area slot (w .parts) (w .apart) r h

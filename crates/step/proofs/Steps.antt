@@ -17,21 +17,21 @@ use Rattle.filling.specs.Consistent.{sheetIndex}
 use Rattle.filling.specs.NextCopy as Next
 use Rattle.filling.specs.NextCopy.{entered, noStep, coreStep}
 use Rattle.filling.proofs.Steps.{accepted≢refused, refused≢accepted, same-refusal}
-use Rattle.tracks.specs.Tracks.{nextColumns, lookCounts}
+use Rattle.rooms.specs.tracks.inner.Tracks.{nextColumns, lookCounts}
 use Rattle.choose.specs.declared.Grid.{Grid}
-use Rattle.choose.specs.Choosing.{gridOf, worldIn}
+use Rattle.choose.specs.inner.Choosing.{gridOf, surroundingsIn}
 use Rattle.place.specs.declared.Copy.{Copy}
 use Rattle.place.specs.declared.Totals.{Totals}
 use Rattle.place.specs.declared.Step.{Step}
 use Rattle.place.specs.declared.Outcome.{Outcome}
 use Rattle.place.specs.declared.Outcome.the-variants.{At, Nowhere, Refused}
-use Rattle.place.specs.Placing.{totalsOf, copyOf, verdictOf, Placed, done, placeOf}
+use Rattle.place.specs.inner.Placing.{totalsOf, copyOf, verdictOf, Placed, done, placeOf}
 use Rattle.filling_laws.proofs.SameCopy.{stepBy, stepFrom}
 use Rattle.filling_laws.proofs.SameCore.{same-core}
 use Rattle.filling_laws.proofs.Ready.{strips-within}
 use Rattle.filling_laws.proofs.ReadyOrder.{slots-within, next-first}
 use Rattle.step.specs.declared.Stepped.{Stepped}
-use Rattle.step.specs.Going.{rooms, Going, takenOf, answerOf, stepOf}
+use Rattle.step.specs.inner.Going.{rooms, Going, takenOf, answerOf, stepOf}
 use Rattle.step.proofs.Allowed.{kind, turns, listed, known, turns-are}
 use Rattle.step.proofs.Kept.{place-kept}
 
@@ -56,7 +56,7 @@ module _ {j : Job} {s : State} {w : Rooms} {rows : List ℕ} {areas : List Float
 
   abbrev pub placedBy : Grid → Copy → Totals → List ℕ → List ℕ → Placed
   placedBy g q t counts next =
-      placeOf (g .index) (worldIn (length intervals / 2) g (s .tables .«inset_bounds») (s .tables .parts) (w .shapes)
+      placeOf (g .index) (surroundingsIn (length intervals / 2) g (s .tables .«inset_bounds») (s .tables .parts) (w .shapes)
       (take (6 * s .tables .«sheet_strips») (w .sheet)) (take (6 * t .«placed_strips») (w .placed)))
       (q .area) (q .slot) (q .orientations) t (w .placed) (w .placed-entries) starts counts next
 

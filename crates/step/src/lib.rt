@@ -1,12 +1,14 @@
 // A single step (document 01): the next copy of a state and its rooms.
+pub mod step_job;
+
 ghost use mathlib.Core.Path.{_≡_};
 ghost use Prim.Native.Nat.{_+_, _≤_, _<_};
 ghost use lib.ListN.{length};
 ghost use Rattle.job.specs.Jobs.{Job};
 ghost use Rattle.filling.specs.NextCopy.{coreStep};
-ghost use Rattle.tracks.specs.Tracks.{nextColumns, lookCounts, slotNumbers};
-ghost use Rattle.place.specs.Placing.{totalsOf, verdictOf, Under};
-ghost use Rattle.step.specs.Going.{rooms, Going, takenOf, answerOf, stepOf};
+ghost use Rattle.rooms.specs.tracks.inner.Tracks.{nextColumns, lookCounts, slotNumbers};
+ghost use Rattle.place.specs.inner.Placing.{totalsOf, verdictOf, Under};
+ghost use Rattle.step.specs.inner.Going.{rooms, Going, takenOf, answerOf, stepOf};
 use filling::Layout;
 use filling::State;
 use filling::Verdict;
@@ -46,7 +48,7 @@ fn tracks_of(state: State) -> [usize; 2048]
     let next_column = state.next_column;
     let look_counts = state.look_counts;
     let mut tracks = no_tracks();
-    tracks::join(&next_column, &look_counts, &mut tracks);
+    rooms::tracks::join(&next_column, &look_counts, &mut tracks);
     tracks
 }
 
@@ -59,17 +61,17 @@ fn taken(state: State, n: usize, step: Step, tracks: &[usize]) -> State
     let order = state.order;
     let mut next_column = state.next_column;
     let mut look_counts = state.look_counts;
-    tracks::read_numbers(tracks, 2, 0, &mut next_column);
-    tracks::read_numbers(tracks, 2, 1, &mut look_counts);
+    rooms::tracks::read_numbers(tracks, 2, 0, &mut next_column);
+    rooms::tracks::read_numbers(tracks, 2, 1, &mut look_counts);
     let at = state.taken;
     let o = step.outcome;
     let layout = state.layout;
     let mut orientation = layout.orientation;
     let mut x = layout.x;
     let mut y = layout.y;
-    orientation[at] = next::number_of(o, n);
-    x[at] = next::x_of(o);
-    y[at] = next::y_of(o);
+    orientation[at] = place::next::number_of(o, n);
+    x[at] = place::next::x_of(o);
+    y[at] = place::next::y_of(o);
     let after = at + 1;
     let t = step.totals;
     State {

@@ -12,12 +12,12 @@ use mathlib.Core.Bool.{Bool, true, false}
 use borrow.Author.Tests.{ltb-true, ltb-false}
 use Rattle.trapezoid.specs.declared.Trapezoid.{Trapezoid}
 use Rattle.trapezoid.specs.Strip.{stripAt, flat, capacity, movedBy}
-use Rattle.trapezoid.specs.Writing.{setStrip}
+use Rattle.trapezoid.specs.inner.Writing.{setStrip}
 use Rattle.trapezoid.proofs.Strips.{six, length-setStrip, take-strip, drop-strip}
 use Rattle.index.specs.Buckets.{upFrom}
 use Rattle.filling.specs.Shapes.{movedStrips}
 use Rattle.filling.specs.Rooms.{laid}
-use Rattle.store.specs.Storing.{movedTo, together}
+use Rattle.store.specs.inner.Storing.{movedTo, together}
 
 -- ---- six numbers set
 module _ (s : List Float) (a : ℕ) (v0 v1 v2 v3 v4 v5 : Float) where

@@ -13,20 +13,20 @@ use borrow.Author.Tests.{lt-ltb, le-ltb, le-leb, lt-leb, leb-true, leb-false}
 use Rattle.numbers.specs.Numbers.{_⊕_}
 use Rattle.trapezoid.specs.declared.Trapezoid.{Trapezoid}
 use Rattle.trapezoid.specs.Strip.{stripAt, capacity, movedBy}
-use Rattle.trapezoid.specs.Writing.{setStrip}
+use Rattle.trapezoid.specs.inner.Writing.{setStrip}
 use Rattle.index.specs.declared.Index.{Index}
 use Rattle.index.specs.Buckets.{buckets, bucketIn, entriesOf, stripNumbers, standingCapacity}
 use Rattle.index.proofs.Standing.{standing-within, standing-few}
 use Rattle.index.proofs.Steps.{bucket-top}
-use Rattle.index.specs.Listing.{Laid}
+use Rattle.index.specs.inner.Listing.{Laid}
 use Rattle.index.proofs.NewIndex.{laid-after}
-use Rattle.enter.specs.EntryRoom.{entriesIn, startsOf, Rooms, Entering, enterOf}
-use Rattle.enter.specs.Gaps.{rooms, entering}
+use Rattle.enter.specs.inner.EntryRoom.{entriesIn, startsOf, Rooms, Entering, enterOf}
+use Rattle.enter.specs.inner.Gaps.{rooms, entering}
 use Rattle.enter.proofs.Starts.{enter-fits}
 use Rattle.filling.specs.Rooms.{laid}
 use Rattle.store.specs.declared.Stored.{Stored}
 use Rattle.store.specs.declared.Stored.the-variants.{NoStrips, NoEntries, Done}
-use Rattle.store.specs.Storing.{movedTo, widthAt, widthsTo, Left, left, together, storeOf}
+use Rattle.store.specs.inner.Storing.{movedTo, widthAt, widthsTo, Left, left, together, storeOf}
 use Rattle.store.proofs.Strips.{after-length, after-before, after-strip, strips-count, after-laid, strips-same}
 use Rattle.store.proofs.Widths.{entries-same, starts-same, entries-more}
 

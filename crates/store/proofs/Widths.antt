@@ -1,4 +1,4 @@
--- How many entries strips have: as many as buckets they are entered in. Assumes nothing.
+-- How many entries strips have: as many as buckets they are enteredFrom in. Assumes nothing.
 use Prim.{⊥}
 use Prim.Native.Nat.{ℕ, zero, suc, _+_, _-_, _*_, _<_, _≤_, min}
 use native.Mathlib.Omega.{arith}
@@ -14,26 +14,26 @@ use Rattle.trapezoid.specs.declared.Trapezoid.{Trapezoid}
 use Rattle.trapezoid.specs.Strip.{stripAt, movedBy}
 use Rattle.index.specs.declared.Index.{Index}
 use Rattle.index.specs.Buckets.{buckets, upFrom, bucketIn, entriesOf}
-use Rattle.index.specs.Listing.{Laid, covers, entered}
+use Rattle.index.specs.inner.Listing.{Laid, covers, enteredFrom}
 use Rattle.index.proofs.Steps.{bucket-top}
 use Rattle.index.proofs.EntryLists.{entries-by-bucket}
 use Rattle.index.proofs.Flat.{flat-same, upFrom-mem, keep-same, map-same}
-use Rattle.enter.specs.EntryRoom.{startOf, startsOf}
+use Rattle.enter.specs.inner.EntryRoom.{startOf, startsOf}
 use Rattle.enter.proofs.Starts.{covers-parts, covers-yes, entered-yes, entered-no, start-first, start-next, start-last, laid-starts}
-use Rattle.store.specs.Storing.{widthAt, widthsTo}
+use Rattle.store.specs.inner.Storing.{widthAt, widthsTo}
 
 -- ---- strips that are alike have the same entries
 module _ (ix : Index) (s t : List Float) (n : ℕ) (h : (i : ℕ) → i < n → stripAt s i ≡ stripAt t i) where
-  entered-same : (b : ℕ) → entered ix s n b ≡ entered ix t n b
-  unfolding entered
+  entered-same : (b : ℕ) → enteredFrom ix s n b ≡ enteredFrom ix t n b
+  unfolding enteredFrom
   entered-same b = keep-same (λ i. covers ix (stripAt s i) b) (λ i. covers ix (stripAt t i) b) (upFrom n 0) (λ i m. (let u = upFrom-mem n 0 i m in ap (λ (p : Trapezoid). covers ix p b) (h i (omega (arith, u .1)))))
 
   pub entries-same : entriesOf ix s n ≡ entriesOf ix t n
-  entries-same = entries-by-bucket ix s n ∙ (flat-same (entered ix s n) (entered ix t n) (upFrom buckets 0) (λ b m. entered-same b) ∙ sym (entries-by-bucket ix t n))
+  entries-same = entries-by-bucket ix s n ∙ (flat-same (enteredFrom ix s n) (enteredFrom ix t n) (upFrom buckets 0) (λ b m. entered-same b) ∙ sym (entries-by-bucket ix t n))
 
   start-same : (b : ℕ) → startOf ix s n b ≡ startOf ix t n b
   unfolding startOf
-  start-same b = ap length (flat-same (entered ix s n) (entered ix t n) (upFrom b 0) (λ c m. entered-same c))
+  start-same b = ap length (flat-same (enteredFrom ix s n) (enteredFrom ix t n) (upFrom b 0) (λ c m. entered-same c))
 
   pub starts-same : startsOf ix s n ≡ startsOf ix t n
   unfolding startsOf
@@ -47,11 +47,11 @@ module _ (ix : Index) (s : List Float) (i : ℕ) where
   abbrev hi : ℕ
   hi = bucketIn ix (stripAt s i .x1)
 
-  -- the buckets before b that it is entered in
+  -- the buckets before b that it is enteredFrom in
   abbrev covered : ℕ → ℕ
   covered b = min b (hi + 1) - min b lo
 
-  bucket-more : (b : ℕ) → length (entered ix s (i + 1) b) + covered b ≡ length (entered ix s i b) + covered (b + 1)
+  bucket-more : (b : ℕ) → length (enteredFrom ix s (i + 1) b) + covered b ≡ length (enteredFrom ix s i b) + covered (b + 1)
   bucket-more b = go (either (covers ix (stripAt s i) b))
     where
       inside : (a c : ℕ) → lo ≤ b → b ≤ hi → c ≡ a + 1 → c + (min b (hi + 1) - min b lo) ≡ a + (min (b + 1) (hi + 1) - min (b + 1) lo)
@@ -70,12 +70,12 @@ module _ (ix : Index) (s : List Float) (i : ℕ) where
       no f l (inl g) = g
       no f l (inr g) = absurd (true≢false (sym (covers-yes ix s i b l g) ∙ f))
 
-      outside : covers ix (stripAt s i) b ≡ false → (b < lo) ⊎ (lo ≤ b) → length (entered ix s (i + 1) b) + covered b ≡ length (entered ix s i b) + covered (b + 1)
-      outside f (inl l) = before (length (entered ix s i b)) (length (entered ix s (i + 1) b)) l (ap length (entered-no ix s i b f))
-      outside f (inr l) = beyond (length (entered ix s i b)) (length (entered ix s (i + 1) b)) (no f l (below-or-not hi b)) (ap length (entered-no ix s i b f))
+      outside : covers ix (stripAt s i) b ≡ false → (b < lo) ⊎ (lo ≤ b) → length (enteredFrom ix s (i + 1) b) + covered b ≡ length (enteredFrom ix s i b) + covered (b + 1)
+      outside f (inl l) = before (length (enteredFrom ix s i b)) (length (enteredFrom ix s (i + 1) b)) l (ap length (entered-no ix s i b f))
+      outside f (inr l) = beyond (length (enteredFrom ix s i b)) (length (enteredFrom ix s (i + 1) b)) (no f l (below-or-not hi b)) (ap length (entered-no ix s i b f))
 
-      go : (covers ix (stripAt s i) b ≡ true) ⊎ (covers ix (stripAt s i) b ≡ false) → length (entered ix s (i + 1) b) + covered b ≡ length (entered ix s i b) + covered (b + 1)
-      go (inl t) = let q = covers-parts ix s i b t in inside (length (entered ix s i b)) (length (entered ix s (i + 1) b)) (q .0) (q .1) (ap length (entered-yes ix s i b t) ∙ length-append (entered ix s i b) (i ∷ []))
+      go : (covers ix (stripAt s i) b ≡ true) ⊎ (covers ix (stripAt s i) b ≡ false) → length (enteredFrom ix s (i + 1) b) + covered b ≡ length (enteredFrom ix s i b) + covered (b + 1)
+      go (inl t) = let q = covers-parts ix s i b t in inside (length (enteredFrom ix s i b)) (length (enteredFrom ix s (i + 1) b)) (q .0) (q .1) (ap length (entered-yes ix s i b t) ∙ length-append (enteredFrom ix s i b) (i ∷ []))
       go (inr f) = outside f (below-or-not b lo)
 
   start-more : (b : ℕ) → startOf ix s (i + 1) b ≡ startOf ix s i b + covered b
@@ -86,7 +86,7 @@ module _ (ix : Index) (s : List Float) (i : ℕ) where
   start-more (suc b) =
       let q : b + 1 ≡ suc b = add-one b in
       subst (λ (m : ℕ). startOf ix s (i + 1) m ≡ startOf ix s i m + covered m) q
-      (sums (startOf ix s (i + 1) (b + 1)) (startOf ix s i (b + 1)) (startOf ix s (i + 1) b) (startOf ix s i b) (length (entered ix s (i + 1) b)) (length (entered ix s i b)) (covered b) (covered (b + 1))
+      (sums (startOf ix s (i + 1) (b + 1)) (startOf ix s i (b + 1)) (startOf ix s (i + 1) b) (startOf ix s i b) (length (enteredFrom ix s (i + 1) b)) (length (enteredFrom ix s i b)) (covered b) (covered (b + 1))
       (start-next ix s (i + 1) b) (start-next ix s i b) (start-more b) (bucket-more b))
     where
       sums : (a c d e f g u v : ℕ) → a ≡ d + f → c ≡ e + g → d ≡ e + u → f + u ≡ g + v → a ≡ c + v

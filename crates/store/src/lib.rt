@@ -6,8 +6,8 @@ ghost use lib.ListN.{length};
 ghost use lib.Dec.{leb};
 ghost use Rattle.trapezoid.specs.Strip.{capacity};
 ghost use Rattle.index.specs.Buckets.{buckets};
-ghost use Rattle.index.specs.Listing.{Laid};
-ghost use Rattle.store.specs.Storing.{movedTo, widthAt, widthsTo, left, storeOf, Entered};
+ghost use Rattle.index.specs.inner.Listing.{Laid};
+ghost use Rattle.store.specs.inner.Storing.{movedTo, widthAt, widthsTo, left, storeOf, Entered};
 use index::Entry;
 use index::Index;
 use trapezoid::Trapezoid;
@@ -78,7 +78,9 @@ pub fn store_copy(
     gains: &mut [usize],
 ) -> Stored
     requires { ⌜ Laid ix (now placed) n (now entries) (now starts) × (length (now gains) ≡ buckets) ⌝ }
-    ensures { λ r. ⌜ (left r (now (placed .exit)) (now (entries .exit)) (now (starts .exit)) ≡ storeOf ix (now (apart .entry)) x y n (now (placed .entry)) (now (entries .entry)) (now (starts .entry))) × Entered ix n (capacity (now (apart .entry))) (now (placed .exit)) (now (entries .exit)) (now (starts .exit)) r ⌝ }
+    ensures { λ r. ⌜ (left r (now (placed .exit)) (now (entries .exit)) (now (starts .exit)) ≡ storeOf ix (now (apart .entry)) x y n (now (placed .entry))
+        (now (entries .entry)) (now (starts .entry))) × Entered ix n (capacity (now (apart .entry))) (now (placed .exit)) (now (entries .exit))
+        (now (starts .exit)) r ⌝ }
 {
     let k = trapezoid::capacity(apart);
     if index::standing_capacity(placed) < n + k {

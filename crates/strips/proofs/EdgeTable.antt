@@ -9,10 +9,10 @@ use lib.Seq.{getD-set-same, getD-set-other, drop-cons}
 use lib.Ieee.{Float, nan}
 use Rattle.slab.specs.declared.Edge.{Edge}
 use Rattle.slab.specs.Slab.{up}
-use Rattle.slab.specs.Tables.{edgeAt, setEdge}
+use Rattle.slab.specs.inner.Tables.{edgeAt, setEdge}
 use Rattle.slab.proofs.Sorting.{up-ext, up-snoc}
 use Rattle.strips.specs.Strips.{edge, after, loopEdges, edges}
-use Rattle.strips.specs.Tables.{Loops}
+use Rattle.strips.specs.inner.Tables.{Loops}
 
 module _ (rs : List Float) (i : ℕ) (e : Edge) where
   edge-other : (k : ℕ) → (k < 6 * i) → getD (setEdge rs i e) k nan ≡ getD rs k nan

@@ -10,15 +10,15 @@ use lib.Ieee.{Float}
 use borrow.Author.Tests.{lt-ltb, le-ltb, ltb-true, ltb-false}
 use Rattle.trapezoid.specs.declared.Trapezoid.{Trapezoid}
 use Rattle.trapezoid.specs.Strip.{capacity}
-use Rattle.slab.specs.Tables.{Held, hold}
+use Rattle.slab.specs.inner.Tables.{Held, hold}
 use Rattle.slab.proofs.Storing.{take-all, hold-fits, hold-over, hold-room}
 use Rattle.strips.specs.declared.Stored.{Stored}
 use Rattle.strips.specs.declared.Stored.the-variants.{Count, NoRoom}
-use Rattle.strips.specs.Tables.{laid, stored}
+use Rattle.strips.specs.inner.Tables.{stripsLaid, stripsStored}
 
 module _ (ss : List Trapezoid) (r r' : List Float) (from count : ℕ) (h : 6 * from ≤ length r) (e : record { room = r'; count = count } ≡ hold (record { room = r; count = from }) ss) where
-  room-is : r' ≡ laid (take (length r / 6 - from) ss) r from
-  unfolding laid
+  room-is : r' ≡ stripsLaid (take (length r / 6 - from) ss) r from
+  unfolding stripsLaid
   room-is = ap (λ (x : Held). x .room) e ∙ hold-room r from ss (omega arith)
 
   fitted : 6 * (from + length ss) ≤ length r → count ≡ from + length ss
@@ -49,28 +49,28 @@ module _ (ss : List Trapezoid) (r r' : List Float) (from count : ℕ) (h : 6 * f
     pub from-count : count ≤ cap → from ≤ count
     from-count c = let y = cap-is in let z : count ≡ from + length ss = fitted (fits-yes (omega arith)) in omega arith
 
-    pub stored-yes : count ≤ cap → record { answer = Count (count - from); room = r' } ≡ stored ss r from
-    unfolding stored capacity
+    pub stored-yes : count ≤ cap → record { answer = Count (count - from); room = r' } ≡ stripsStored ss r from
+    unfolding stripsStored capacity
     stored-yes c =
         let y = cap-is in
         let f = fits-yes (omega arith) in
         let z : count - from ≡ length ss = omega (arith, fitted f) in
         rw (z, ← room-is, le-ltb (length r / 6) (from + length ss) (omega arith))
 
-    pub stored-no : cap < count → record { answer = NoRoom; room = r' } ≡ stored ss r from
-    unfolding stored capacity
+    pub stored-no : cap < count → record { answer = NoRoom; room = r' } ≡ stripsStored ss r from
+    unfolding stripsStored capacity
     stored-no c =
         let y = cap-is in
         let f = fits-no (omega arith) in
         rw (← room-is, lt-ltb (length r / 6) (from + length ss) (omega arith))
 
 -- ---- what the answer tells
-pub stored-fits : (ss : List Trapezoid) (r : List Float) (from : ℕ) → 6 * (from + length ss) ≤ length r → stored ss r from ≡ record { answer = Count (length ss); room = laid ss r from }
-unfolding stored capacity
+pub stored-fits : (ss : List Trapezoid) (r : List Float) (from : ℕ) → 6 * (from + length ss) ≤ length r → stripsStored ss r from ≡ record { answer = Count (length ss); room = stripsLaid ss r from }
+unfolding stripsStored capacity
 stored-fits ss r from h = rw (le-ltb (length r / 6) (from + length ss) (omega arith), take-all ss (length r / 6 - from) (omega arith))
 
-pub stored-over : (ss : List Trapezoid) (r : List Float) (from : ℕ) → length r < 6 * (from + length ss) → stored ss r from .answer ≡ NoRoom
-unfolding stored capacity
+pub stored-over : (ss : List Trapezoid) (r : List Float) (from : ℕ) → length r < 6 * (from + length ss) → stripsStored ss r from .answer ≡ NoRoom
+unfolding stripsStored capacity
 stored-over ss r from h = rw (lt-ltb (length r / 6) (from + length ss) (omega arith))
 
 abbrev number : Stored → ℕ
@@ -82,8 +82,8 @@ counted (Count m) = true
 counted NoRoom = false
 
 -- a count is the number of the strips, and they lie in the room
-pub stored-count : (ss : List Trapezoid) (r : List Float) (from m : ℕ) → Count m ≡ stored ss r from .answer → (m ≡ length ss) × (6 * (from + m) ≤ length r)
-unfolding stored capacity
+pub stored-count : (ss : List Trapezoid) (r : List Float) (from m : ℕ) → Count m ≡ stripsStored ss r from .answer → (m ≡ length ss) × (6 * (from + m) ≤ length r)
+unfolding stripsStored capacity
 stored-count ss r from m e = go (ltb (length r / 6) (from + length ss)) refl e
   where
     go : (t : Bool) → ltb (length r / 6) (from + length ss) ≡ t → Count m ≡ cond t NoRoom (Count (length ss)) → (m ≡ length ss) × (6 * (from + m) ≤ length r)

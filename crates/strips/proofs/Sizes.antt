@@ -14,8 +14,8 @@ use Rattle.slab.specs.Slab.{up, sort, slab}
 use Rattle.slab.proofs.Sizes.{Coordinate, Height, Good, Sides, wide, all-sort, slab-good}
 use Rattle.slab.proofs.Merging.{All, all-append, all-up}
 use Rattle.strips.specs.declared.Rect.{Rect}
-use Rattle.strips.specs.Strips.{xOf, yOf, widened, boundsOn, bounds, frame, distinctFrom, distinct, xs, between, slabs, edge, after, loopEdges, edges, trapezoids}
-use Rattle.strips.specs.Tables.{Loops}
+use Rattle.strips.specs.Strips.{xOf, yOf, widened, boundsOn, bounds, frame, distinctFrom, distinct, xs, stripsBetween, slabs, edge, after, loopEdges, edges, trapezoids}
+use Rattle.strips.specs.inner.Tables.{Loops}
 
 -- all four sides are coordinates
 pub record Framed (b : Rect) : Type 0 where
@@ -58,11 +58,11 @@ frame-all true b F = (F .left, (F .right, tt))
 frame-all false b F = tt
 
 slabs-good : (es : List Edge) (sheet : Bool) (bottom top : Float) (l : List Float) → All Sides es → Height bottom → Height top → All Coordinate l → All Good (slabs es sheet bottom top l)
-unfolding slabs between
+unfolding slabs stripsBetween
 slabs-good es sheet bottom top [] S p q c = tt
 slabs-good es sheet bottom top (a ∷ []) S p q c = tt
 slabs-good es sheet bottom top (a ∷ b ∷ l) S p q c =
-    all-append Good (between es sheet bottom top a b) (slabs es sheet bottom top (b ∷ l)) (go (lt a b) (λ t. lt-yes (finite (c .0 .num)) (finite (c .1 .0 .num)) t)) (slabs-good es sheet bottom top (b ∷ l) S p q (c .1))
+    all-append Good (stripsBetween es sheet bottom top a b) (slabs es sheet bottom top (b ∷ l)) (go (lt a b) (λ t. lt-yes (finite (c .0 .num)) (finite (c .1 .0 .num)) t)) (slabs-good es sheet bottom top (b ∷ l) S p q (c .1))
   where
     go : (t : Bool) → (T t → k a < k b) → All Good (elim t [ true ↦ slab es sheet bottom top a b | false ↦ [] ])
     go true h = slab-good es sheet bottom top a b S p q (c .0) (c .1 .0) (h tt)

@@ -8,15 +8,15 @@ use lib.Ieee.{Float, lt, eq}
 use borrow.Author.Tests.{not-true, not-false}
 use Rattle.slab.specs.declared.Edge.{Edge}
 use Rattle.slab.specs.Slab.{slab, up, sort}
-use Rattle.slab.specs.Tables.{down, edgeAt, Held, hold}
+use Rattle.slab.specs.inner.Tables.{down, edgeAt, Held, hold}
 use Rattle.slab.proofs.Sorting.{down-suc, down-zero}
 use Rattle.slab.proofs.Storing.{hold-append}
 use Rattle.strips.specs.declared.Rect.{Rect}
-use Rattle.strips.specs.Strips.{xOf, frame, distinctFrom, distinct, xs, between, slabs, edges, bounds, trapezoids}
-use Rattle.strips.specs.Tables.{slanted}
+use Rattle.strips.specs.Strips.{xOf, frame, distinctFrom, distinct, xs, stripsBetween, slabs, edges, bounds, trapezoids}
+use Rattle.strips.specs.inner.Tables.{slanted}
 use Rattle.strips.proofs.Slanted.{slabs-slanted}
-use Rattle.sorting.specs.Xs.{xAt, sides}
-use Rattle.sorting.proofs.Lines.{at}
+use Rattle.slab.specs.xs.inner.Xs.{xAt, sides}
+use Rattle.slab.proofs.xs.Lines.{at}
 
 from-same : (a b : Float) (bs : List Float) → eq a b ≡ true → distinctFrom a (b ∷ bs) ≡ distinctFrom a bs
 unfolding distinctFrom
@@ -31,23 +31,23 @@ pred-down f zero p = absurd (omega arith)
 pred-down f (suc j) p = let d : suc j - 1 ≡ j = omega arith in rw d (down-suc f j)
 
 module _ (es : List Edge) (sheet : Bool) (bottom top : Float) where
-  pub between-yes : (xa xb : Float) → lt xa xb ≡ true → between es sheet bottom top xa xb ≡ slab es sheet bottom top xa xb
-  unfolding between
-  between-yes xa xb e = rw (e, between)
+  pub between-yes : (xa xb : Float) → lt xa xb ≡ true → stripsBetween es sheet bottom top xa xb ≡ slab es sheet bottom top xa xb
+  unfolding stripsBetween
+  between-yes xa xb e = rw (e, stripsBetween)
 
-  pub between-no : (xa xb : Float) → lt xa xb ≡ false → between es sheet bottom top xa xb ≡ []
-  unfolding between
-  between-no xa xb e = rw (e, between)
+  pub between-no : (xa xb : Float) → lt xa xb ≡ false → stripsBetween es sheet bottom top xa xb ≡ []
+  unfolding stripsBetween
+  between-no xa xb e = rw (e, stripsBetween)
 
   -- what is held once the strips after a are held too; k x's are to come
   abbrev pub to-come : Held → (ℕ → Float) → Float → ℕ → Held
   to-come h f a k = hold h (slabs es sheet bottom top (a ∷ distinctFrom a (down f k)))
 
   module _ (f : ℕ → Float) where
-    pub walk-on : (h : Held) (k : ℕ) (a : Float) (t : Bool) → 0 < k → t ≡ not (eq a (f (k - 1))) → t ≡ true → to-come (hold h (between es sheet bottom top a (f (k - 1)))) f (f (k - 1)) (k - 1) ≡ to-come h f a k
+    pub walk-on : (h : Held) (k : ℕ) (a : Float) (t : Bool) → 0 < k → t ≡ not (eq a (f (k - 1))) → t ≡ true → to-come (hold h (stripsBetween es sheet bottom top a (f (k - 1)))) f (f (k - 1)) (k - 1) ≡ to-come h f a k
     unfolding slabs
     walk-on h k a t p et e =
-        sym (hold-append h (between es sheet bottom top a (f (k - 1))) (slabs es sheet bottom top (f (k - 1) ∷ distinctFrom (f (k - 1)) (down f (k - 1)))))
+        sym (hold-append h (stripsBetween es sheet bottom top a (f (k - 1))) (slabs es sheet bottom top (f (k - 1) ∷ distinctFrom (f (k - 1)) (down f (k - 1)))))
         ∙ ap (λ (l : List Float). hold h (slabs es sheet bottom top (a ∷ l))) (sym (ap (λ (l : List Float). distinctFrom a l) (pred-down f k p) ∙ from-other a (f (k - 1)) (down f (k - 1)) (not-true (eq a (f (k - 1))) (sym et ∙ e))))
 
     pub walk-past : (h : Held) (k : ℕ) (a : Float) (t : Bool) → 0 < k → t ≡ not (eq a (f (k - 1))) → t ≡ false → to-come h f a (k - 1) ≡ to-come h f a k

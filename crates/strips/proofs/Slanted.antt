@@ -10,11 +10,11 @@ use lib.Ieee.{Float, le, lt, eq}
 use Rattle.trapezoid.specs.declared.Trapezoid.{Trapezoid}
 use Rattle.slab.specs.declared.Edge.{Edge}
 use Rattle.slab.specs.Slab.{up, sort, spans, Crossing, crossing, before, spanning, crossings, walk, slab}
-use Rattle.slab.specs.Tables.{edgeAt, setEdge}
+use Rattle.slab.specs.inner.Tables.{edgeAt, setEdge}
 use Rattle.slab.proofs.Sorting.{up-snoc, up-ext}
 use Rattle.slab.proofs.Forward.{spanning-off}
-use Rattle.strips.specs.Tables.{slanted}
-use Rattle.strips.specs.Strips.{between, slabs}
+use Rattle.strips.specs.inner.Tables.{slanted}
+use Rattle.strips.specs.Strips.{stripsBetween, slabs}
 use Rattle.strips.proofs.EdgeTable.{edge-below, edge-above, edge-same}
 
 slanted-yes : (e : Edge) (es : List Edge) → not (eq (e .px) (e .qx)) ≡ true → slanted (e ∷ es) ≡ e ∷ slanted es
@@ -89,12 +89,12 @@ spanning-slanted xa xb (e ∷ es) = go (not (eq (e .px) (e .qx))) refl (spanning
     go false h i = ap (λ (l : List Edge). spanning xa xb l) (slanted-no e es h) ∙ (i ∙ sym (spanning-off xa xb e es (vertical-out xa xb e h)))
 
 module _ (es : List Edge) (sheet : Bool) (bottom top : Float) where
-  between-slanted : (a b : Float) → between (slanted es) sheet bottom top a b ≡ between es sheet bottom top a b
-  unfolding between slab crossings
+  between-slanted : (a b : Float) → stripsBetween (slanted es) sheet bottom top a b ≡ stripsBetween es sheet bottom top a b
+  unfolding stripsBetween slab crossings
   between-slanted a b = ap (λ (l : List Crossing). elim (lt a b) [ true ↦ walk sheet top a b (lib.IntN.pos 0) bottom bottom (sort before l) | false ↦ [] ]) (spanning-slanted a b es)
 
   pub slabs-slanted : (l : List Float) → slabs (slanted es) sheet bottom top l ≡ slabs es sheet bottom top l
   unfolding slabs
   slabs-slanted [] = refl
   slabs-slanted (a ∷ []) = refl
-  slabs-slanted (a ∷ b ∷ l) = ap (λ (x : List Trapezoid). x ++ slabs (slanted es) sheet bottom top (b ∷ l)) (between-slanted a b) ∙ ap (λ (x : List Trapezoid). between es sheet bottom top a b ++ x) (slabs-slanted (b ∷ l))
+  slabs-slanted (a ∷ b ∷ l) = ap (λ (x : List Trapezoid). x ++ slabs (slanted es) sheet bottom top (b ∷ l)) (between-slanted a b) ∙ ap (λ (x : List Trapezoid). stripsBetween es sheet bottom top a b ++ x) (slabs-slanted (b ∷ l))

@@ -50,20 +50,21 @@ unfoldable pub xs : List Float → ℕ → Bool → List Float
 xs pts n sheet = distinct (sort lt (up (xOf pts) 0 n ++ frame sheet (bounds pts n .left) (bounds pts n .right)))
 
 -- a slab where xa < xb
-unfoldable pub between : List Edge → Bool → Float → Float → Float → Float → List Trapezoid
-between es sheet bottom top xa xb = elim (lt xa xb) [ true ↦ slab es sheet bottom top xa xb | false ↦ [] ]
+unfoldable pub stripsBetween : List Edge → Bool → Float → Float → Float → Float → List Trapezoid
+stripsBetween es sheet bottom top xa xb = elim (lt xa xb) [ true ↦ slab es sheet bottom top xa xb | false ↦ [] ]
 
 -- "Each neighbouring pair xa < xb is a slab."
 unfoldable pub slabs : List Edge → Bool → Float → Float → List Float → List Trapezoid
 slabs es sheet bottom top [] = []
 slabs es sheet bottom top (a ∷ []) = []
-slabs es sheet bottom top (a ∷ b ∷ bs) = between es sheet bottom top a b ++ slabs es sheet bottom top (b ∷ bs)
+slabs es sheet bottom top (a ∷ b ∷ bs) = stripsBetween es sheet bottom top a b ++ slabs es sheet bottom top (b ∷ bs)
 
 -- ---- edges
 
 -- the edge from point i to point j
 unfoldable pub edge : List Float → ℕ → ℕ → Edge
-edge pts i j = record { px = xOf pts i; py = yOf pts i; qx = xOf pts j; qy = yOf pts j; lo = smaller (xOf pts i) (xOf pts j); hi = larger (xOf pts i) (xOf pts j) }
+edge pts i j =
+    record { px = xOf pts i; py = yOf pts i; qx = xOf pts j; qy = yOf pts j; lo = smaller (xOf pts i) (xOf pts j); hi = larger (xOf pts i) (xOf pts j) }
 
 -- the point after i, where n more follow in its loop: after the last comes the first
 unfoldable pub after : ℕ → ℕ → ℕ → ℕ

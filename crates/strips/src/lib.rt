@@ -9,9 +9,9 @@ ghost use Prim.Native.Nat.{ℕ, _+_, _-_, _*_, _≤_, _<_};
 ghost use lib.ListN.{length, getD};
 ghost use lib.Ieee.{nan, eq};
 ghost use Rattle.slab.specs.Slab.{up};
-ghost use Rattle.slab.specs.Tables.{down, edgeAt, setEdge, Held, hold};
-ghost use Rattle.strips.specs.Tables.{slanted, Loops, Stowed, stored};
-ghost use Rattle.strips.specs.Strips.{distinct, widened, bounds, edge, after, loopEdges, edges, between, slabs, trapezoids};
+ghost use Rattle.slab.specs.inner.Tables.{down, edgeAt, setEdge, Held, hold};
+ghost use Rattle.strips.specs.inner.Tables.{slanted, Loops, Stowed, stripsStored};
+ghost use Rattle.strips.specs.Strips.{distinct, widened, bounds, edge, after, loopEdges, edges, stripsBetween, slabs, trapezoids};
 
 // A bounding box, in nesting.rs's order: smallest x, smallest y, largest x, largest y.
 pub struct Rect {
@@ -194,7 +194,8 @@ fn between(
     n: usize,
 ) -> usize
     requires { ⌜ (6 * count ≤ length (now es)) × (3 * count ≤ length (now rows)) ⌝ }
-    ensures { λ r. ⌜ record { room = now (room .exit); count = r } ≡ hold (record { room = now (room .entry); count = n }) (between (up (edgeAt (now (es .entry))) 0 count) sheet bottom top xa xb) ⌝ }
+    ensures { λ r. ⌜ record { room = now (room .exit); count = r } ≡ hold (record { room = now (room .entry); count = n })
+        (stripsBetween (up (edgeAt (now (es .entry))) 0 count) sheet bottom top xa xb) ⌝ }
 {
     if xa < xb {
         slab::one_slab(es, count, sheet, bottom, top, xa, xb, rows, room, n)
@@ -217,7 +218,8 @@ fn slabs(
     from: usize,
 ) -> usize
     requires { ⌜ (0 < m) × (m ≤ length (now line)) × (6 * count ≤ length (now es)) × (3 * count ≤ length (now rows)) ⌝ }
-    ensures { λ r. ⌜ record { room = now (room .exit); count = r } ≡ hold (record { room = now (room .entry); count = from }) (slabs (up (edgeAt (now (es .entry))) 0 count) sheet bottom top (distinct (down (λ (i : ℕ). getD (now (line .entry)) i nan) m))) ⌝ }
+    ensures { λ r. ⌜ record { room = now (room .exit); count = r } ≡ hold (record { room = now (room .entry); count = from })
+        (slabs (up (edgeAt (now (es .entry))) 0 count) sheet bottom top (distinct (down (λ (i : ℕ). getD (now (line .entry)) i nan) m))) ⌝ }
 {
     let mut k = m - 1;
     let mut xa = line[k];
@@ -246,15 +248,17 @@ fn add_strips(
     room: &mut [f64],
     from: usize,
 ) -> usize
-    requires { ⌜ (0 < n) × (2 * n ≤ length (now points)) × Loops 0 (now ends) n × (6 * n ≤ length (now es)) × (3 * n ≤ length (now rows)) × (n + 2 ≤ length (now line)) ⌝ }
-    ensures { λ r. ⌜ record { room = now (room .exit); count = r } ≡ hold (record { room = now (room .entry); count = from }) (trapezoids (now (points .entry)) n (now (ends .entry)) sheet) ⌝ }
+    requires { ⌜ (0 < n) × (2 * n ≤ length (now points)) × Loops 0 (now ends) n × (6 * n ≤ length (now es)) × (3 * n ≤ length (now rows))
+        × (n + 2 ≤ length (now line)) ⌝ }
+    ensures { λ r. ⌜ record { room = now (room .exit); count = r } ≡ hold (record { room = now (room .entry); count = from })
+        (trapezoids (now (points .entry)) n (now (ends .entry)) sheet) ⌝ }
 {
     let b = bounds(points, n);
     let left = b.left;
     let right = b.right;
     let bottom = b.bottom;
     let top = b.top;
-    let m = sorting::sort_xs(points, n, sheet, left, right, line, rows);
+    let m = slab::xs::sort_xs(points, n, sheet, left, right, line, rows);
     edges(points, n, ends, es);
     let count = drop_vertical(es, n);
     slabs(line, m, es, count, sheet, bottom, top, rows, room, from)
@@ -273,8 +277,10 @@ pub fn trapezoids(
     room: &mut [f64],
     from: usize,
 ) -> Stored
-    requires { ⌜ (0 < n) × (2 * n ≤ length (now points)) × Loops 0 (now ends) n × (6 * n ≤ length (now es)) × (3 * n ≤ length (now rows)) × (n + 2 ≤ length (now line)) × (6 * from ≤ length (now room)) ⌝ }
-    ensures { λ r. ⌜ record { answer = r; room = now (room .exit) } ≡ stored (trapezoids (now (points .entry)) n (now (ends .entry)) sheet) (now (room .entry)) from ⌝ }
+    requires { ⌜ (0 < n) × (2 * n ≤ length (now points)) × Loops 0 (now ends) n × (6 * n ≤ length (now es)) × (3 * n ≤ length (now rows))
+        × (n + 2 ≤ length (now line)) × (6 * from ≤ length (now room)) ⌝ }
+    ensures { λ r. ⌜ record { answer = r; room = now (room .exit) } ≡ stripsStored (trapezoids (now (points .entry)) n (now (ends .entry)) sheet)
+        (now (room .entry)) from ⌝ }
 {
     let count = add_strips(points, n, ends, sheet, es, rows, line, room, from);
     if trapezoid::capacity(room) < count {

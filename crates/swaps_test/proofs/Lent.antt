@@ -5,7 +5,7 @@ use mathlib.Core.List.{[]}
 use lib.ListN.{replicate, length-replicate}
 use Rattle.numbers.specs.Numbers.{posZero}
 use Rattle.filling.specs.Rooms.{Lent, zeros, lentOf}
-use Rattle.readied.specs.Zeroed.{Zeroed}
+use Rattle.report.specs.readied.inner.Zeroed.{Zeroed}
 
 -- what preparing is lent; the search has rooms of its own
 abbrev pub rooms : Lent

@@ -6,9 +6,9 @@ ghost use mathlib.Core.Path.{_≡_};
 ghost use Prim.Native.Nat.{_*_, _≤_};
 ghost use lib.ListN.{length};
 ghost use Rattle.job.specs.Jobs.{Job};
-ghost use Rattle.fill_laws.specs.Prepared.{Prepared};
-ghost use Rattle.readied.specs.Zeroed.{ReadInto};
-ghost use Rattle.search_plan.specs.Tabled.{givenBy};
+ghost use Rattle.filling_laws.specs.fill_laws.inner.Prepared.{Prepared};
+ghost use Rattle.report.specs.readied.inner.Zeroed.{ReadInto};
+ghost use Rattle.swaps.specs.search_plan.inner.Tabled.{givenBy};
 use better::Round;
 use filling::Refusal;
 use filling::Tables;
@@ -16,11 +16,11 @@ use filling::Verdict;
 use index::Entry;
 use job::Header;
 use job::JobRead;
-use records::Part;
+use replay::records::Part;
 
 fn print_refusal(r: Refusal) {
     io::write_all(1, b"no ");
-    io::print_decimal(1, verdicts::verdict_number(Verdict::Refused(r)));
+    io::print_decimal(1, accounts::verdicts::verdict_number(Verdict::Refused(r)));
     io::write_all(1, b"\n");
 }
 
@@ -78,11 +78,11 @@ fn search(
     let mut placed = [0.0; 8190];
     let mut placed_entries = [0u16; 16384];
     let mut intervals = [0.0; 8192];
-    let mut tracks = search_plan::two_tracks();
-    let mut spots = search_plan::two_spots();
+    let mut tracks = swaps::search_plan::two_tracks();
+    let mut spots = swaps::search_plan::two_spots();
     let mut order = [0usize; 4096];
     let n = copy_order::copy_order(rows, areas, kinds, &mut order);
-    let r = search_plan::search(
+    let r = swaps::search_plan::search(
         tables,
         h.seed,
         rounds,
@@ -161,11 +161,11 @@ fn answer(room: &[u8], n: usize) -> bool {
 
 // Whether there was one more record; its label and the answer are printed.
 fn replay(room: &mut [u8]) -> bool {
-    let Part::Bytes(n) = records::read_label(room) else {
+    let Part::Bytes(n) = replay::records::read_label(room) else {
         return false;
     };
-    records::print_label(room, n);
-    let Part::Bytes(m) = records::read_job(room) else {
+    replay::records::print_label(room, n);
+    let Part::Bytes(m) = replay::records::read_job(room) else {
         return false;
     };
     answer(room, m)

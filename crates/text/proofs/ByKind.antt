@@ -16,14 +16,14 @@ use Rattle.kinds.specs.Kinds.{Kind}
 use Rattle.job.specs.Jobs.{Job}
 use Rattle.filling.specs.declared.Plan.{Plan}
 use Rattle.filling.specs.State.{orientationCounts}
-use Rattle.tables.specs.Tabled.{Tabled}
+use Rattle.accounts.specs.tables.inner.Tabled.{Tabled}
 use Rattle.nesting.specs.CopyOrder.{numbered}
 use Rattle.nesting.specs.Text.{decimal, hex, line, putWord, leftWord, fillWord, lookWord, rightWord, areaWord, offcutWord, planLine, putLine, positionAt, putLines, leftLine, leftLines, fillLine, fillLines, lookLine, lookLines, lastLines, planText}
-use Rattle.lines.specs.Writing.{Wrote}
+use Rattle.lines.specs.inner.Writing.{Wrote}
 use Rattle.lines.proofs.Appending.{wrote-none, wrote-both, wrote-same}
 use Rattle.lines.proofs.Digits.{decimal-length, hex-length}
 use Rattle.lines.proofs.Lines.{line-one, line-two, line-three, line-five}
-use Rattle.text.specs.Tables.{fillAt, putsTo, leftsTo, fillsTo, lookAt, looksOf, looksTo}
+use Rattle.text.specs.inner.Tables.{fillAt, putsTo, leftsTo, fillsTo, lookAt, looksOf, looksTo}
 
 -- ---- one line more
 

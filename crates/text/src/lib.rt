@@ -1,6 +1,8 @@
 // The text of a reply (document 01, "The printed plan") as bytes in a lent buffer. Every function
 // answers where it ended. Only crates of ours call them: the tables must be an accepted job's, and
 // the buffer must be long enough; 524,288 bytes are for every plan.
+pub mod printed;
+
 ghost use Prim.Native.Nat.{ℕ, _+_, _*_, _≤_, _<_};
 ghost use mathlib.Core.Path.{_≡_};
 ghost use mathlib.Core.List.{List, [], _∷_};
@@ -10,10 +12,10 @@ ghost use Rattle.job.specs.Jobs.{Job};
 ghost use Rattle.filling.specs.declared.Plan.{Plan};
 ghost use Rattle.filling.specs.declared.Verdict.the-variants.{Accepted};
 ghost use Rattle.filling.specs.Rooms.{Lent};
-ghost use Rattle.tables.specs.Tabled.{Tabled};
+ghost use Rattle.accounts.specs.tables.inner.Tabled.{Tabled};
 ghost use Rattle.nesting.specs.Text.{decimal, line, lookWord, positionAt, putLine, leftLine, fillLine, lastLines, planText, refusalText, replyText};
-ghost use Rattle.lines.specs.Writing.{Wrote};
-ghost use Rattle.text.specs.Tables.{fillAt, putsTo, leftsTo, fillsTo, looksOf, looksTo};
+ghost use Rattle.lines.specs.inner.Writing.{Wrote};
+ghost use Rattle.text.specs.inner.Tables.{fillAt, putsTo, leftsTo, fillsTo, looksOf, looksTo};
 use filling::Refusal;
 use filling::Verdict;
 
@@ -137,8 +139,10 @@ fn looks_of(out: &mut [u8], at: usize, k: usize, n: usize, look_counts: &[usize]
 
 // The look lines of all kinds.
 fn look_lines(out: &mut [u8], at: usize, rows: &[u64], kinds: usize, look_counts: &[usize]) -> usize
-    requires { ⌜ (at + 1088 * kinds ≤ length (now out)) × (4 * kinds ≤ length (now rows)) × (16 * kinds ≤ length (now «look_counts»)) × ((k : ℕ) → k < kinds → getD (now rows) (4 * k + 3) 0 ≤ 16) ⌝ }
-    ensures { λ r. ⌜ Wrote (now (out .entry)) at (looksTo (now (rows .entry)) (now («look_counts» .entry)) kinds) (now (out .exit)) r × (r ≤ at + 1088 * kinds) ⌝ }
+    requires { ⌜ (at + 1088 * kinds ≤ length (now out)) × (4 * kinds ≤ length (now rows)) × (16 * kinds ≤ length (now «look_counts»))
+        × ((k : ℕ) → k < kinds → getD (now rows) (4 * k + 3) 0 ≤ 16) ⌝ }
+    ensures { λ r. ⌜ Wrote (now (out .entry)) at (looksTo (now (rows .entry)) (now («look_counts» .entry)) kinds) (now (out .exit)) r
+        × (r ≤ at + 1088 * kinds) ⌝ }
 {
     let mut end = at;
     let mut k = 0;
@@ -153,7 +157,8 @@ fn look_lines(out: &mut [u8], at: usize, rows: &[u64], kinds: usize, look_counts
 // Right, unplaced area and offcut.
 fn last_lines(out: &mut [u8], at: usize, right: f64, unplaced_area: f64, offcut: f64) -> usize
     requires { ⌜ at + 69 ≤ length (now out) ⌝ }
-    ensures { λ r. ⌜ ((p : Plan) → p .right ≡ right → p .«unplaced_area» ≡ «unplaced_area» → p .offcut ≡ offcut → Wrote (now (out .entry)) at (lastLines p) (now (out .exit)) r) × (r ≤ at + 69) ⌝ }
+    ensures { λ r. ⌜ ((p : Plan) → p .right ≡ right → p .«unplaced_area» ≡ «unplaced_area» → p .offcut ≡ offcut
+        → Wrote (now (out .entry)) at (lastLines p) (now (out .exit)) r) × (r ≤ at + 69) ⌝ }
 {
     let end = lines::double_line(out, at, b"right", right);
     let end = lines::double_line(out, end, b"area", unplaced_area);
@@ -177,9 +182,20 @@ pub fn plan_text(
     offcut: f64,
 ) -> usize
     requires { ⌜ (524288 ≤ length (now out)) × (kinds ≤ 64) × (4 * kinds ≤ length (now rows)) × ((k : ℕ) → k < kinds → getD (now rows) (4 * k + 3) 0 ≤ 16)
-        × (placed ≤ 4096) × (5 * placed ≤ length (now room)) × (kinds ≤ length (now «placed_of»)) × (kinds ≤ length (now «unplaced_of»)) × (16 * kinds ≤ length (now «look_counts»)) ⌝ }
+        × (placed ≤ 4096) × (5 * placed ≤ length (now room)) × (kinds ≤ length (now «placed_of»)) × (kinds ≤ length (now «unplaced_of»))
+        × (16 * kinds ≤ length (now «look_counts»)) ⌝ }
     ensures { λ r. ⌜ (r ≤ 524288) × ((j : Job) (areas : List Float) → Tabled j (now (rows .entry)) areas → length (j .kinds) ≡ kinds
-        → take r (now (out .exit)) ≡ planText j (record { placed = placed; unplaced = unplaced; improvements = improvements; «placed_of» = now («placed_of» .entry); «unplaced_of» = now («unplaced_of» .entry); «look_counts» = now («look_counts» .entry); right = right; «unplaced_area» = «unplaced_area»; offcut = offcut }) (now (room .entry))) ⌝ }
+        → take r (now (out .exit)) ≡ planText j (record {
+          placed = placed;
+          unplaced = unplaced;
+          improvements = improvements;
+          «placed_of» = now («placed_of» .entry);
+          «unplaced_of» = now («unplaced_of» .entry);
+          «look_counts» = now («look_counts» .entry);
+          right = right;
+          «unplaced_area» = «unplaced_area»;
+          offcut = offcut;
+        }) (now (room .entry))) ⌝ }
 {
     let end = lines::triple_line(out, 0, b"plan", placed, unplaced, improvements);
     let end = put_lines(out, end, room, placed);
@@ -194,7 +210,7 @@ pub fn refusal_text(out: &mut [u8], r: Refusal) -> usize
     requires { ⌜ 24 ≤ length (now out) ⌝ }
     ensures { λ n. ⌜ (n ≤ 24) × (take n (now (out .exit)) ≡ refusalText r) ⌝ }
 {
-    let number = verdicts::refusal_number(r) as usize;
+    let number = accounts::verdicts::refusal_number(r) as usize;
     lines::count_line(out, 0, b"no", number)
 }
 
@@ -216,9 +232,26 @@ pub fn reply_text(
     offcut: f64,
 ) -> usize
     requires { ⌜ (524288 ≤ length (now out)) × (kinds ≤ 64) × (4 * kinds ≤ length (now rows)) × ((k : ℕ) → k < kinds → getD (now rows) (4 * k + 3) 0 ≤ 16)
-        × (placed ≤ 4096) × (5 * placed ≤ length (now room)) × (kinds ≤ length (now «placed_of»)) × (kinds ≤ length (now «unplaced_of»)) × (16 * kinds ≤ length (now «look_counts»)) ⌝ }
-    ensures { λ r. ⌜ (r ≤ 524288) × ((j : Job) (areas : List Float) (l : Lent) → (verdict ≡ Accepted → Tabled j (now (rows .entry)) areas × (length (j .kinds) ≡ kinds)) → l .positions ≡ now (room .entry)
-        → take r (now (out .exit)) ≡ replyText j (record { verdict = verdict; plan = record { placed = placed; unplaced = unplaced; improvements = improvements; «placed_of» = now («placed_of» .entry); «unplaced_of» = now («unplaced_of» .entry); «look_counts» = now («look_counts» .entry); right = right; «unplaced_area» = «unplaced_area»; offcut = offcut }; lent = l }) verdict) ⌝ }
+        × (placed ≤ 4096) × (5 * placed ≤ length (now room)) × (kinds ≤ length (now «placed_of»)) × (kinds ≤ length (now «unplaced_of»))
+        × (16 * kinds ≤ length (now «look_counts»)) ⌝ }
+    ensures { λ r. ⌜ (r ≤ 524288) × ((j : Job) (areas : List Float) (l : Lent) → (verdict ≡ Accepted → Tabled j (now (rows .entry)) areas
+        × (length (j .kinds) ≡ kinds)) → l .positions ≡ now (room .entry)
+        → take r (now (out .exit)) ≡ replyText j
+        (record {
+          verdict = verdict;
+          plan = record {
+            placed = placed;
+            unplaced = unplaced;
+            improvements = improvements;
+            «placed_of» = now («placed_of» .entry);
+            «unplaced_of» = now («unplaced_of» .entry);
+            «look_counts» = now («look_counts» .entry);
+            right = right;
+            «unplaced_area» = «unplaced_area»;
+            offcut = offcut;
+          };
+          lent = l;
+        }) verdict) ⌝ }
 {
     match verdict {
         Verdict::Accepted => plan_text(

@@ -8,7 +8,7 @@ use lib.Seq.{sets, sets-eq, drop-set-lt, take-at, length-take-le}
 use lib.Ieee.{Float}
 use Rattle.trapezoid.specs.declared.Trapezoid.{Trapezoid}
 use Rattle.trapezoid.specs.Strip.{capacity}
-use Rattle.trapezoid.specs.Writing.{setStrip}
+use Rattle.trapezoid.specs.inner.Writing.{setStrip}
 
 -- a strip that the room's capacity counts lies in the room
 pub strip-in-room : (r : List Float) (n cap : ℕ) → cap ≡ capacity r → n < cap → 6 * n + 6 ≤ length r

@@ -5,7 +5,7 @@ ghost use mathlib.Core.Bool.{cond};
 ghost use Prim.Native.Nat.{_+_, _*_, _≤_};
 ghost use lib.ListN.{length};
 ghost use Rattle.trapezoid.specs.Strip.{stripAt, capacity, heightsAt, movedBy, partOf};
-ghost use Rattle.trapezoid.specs.Writing.{setStrip};
+ghost use Rattle.trapezoid.specs.inner.Writing.{setStrip};
 
 // A strip (document 01): between x0 and x1, from the low side to the high side, each given by its
 // height at x0 and at x1.

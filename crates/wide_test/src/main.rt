@@ -7,9 +7,9 @@
 ghost use mathlib.Core.Path.{_≡_};
 ghost use Prim.Native.Nat.{_≤_};
 ghost use lib.ListN.{length};
-use filling_script::show;
 use index::Entry;
-use records::Part;
+use replay::records::Part;
+use replay::show;
 
 // Rooms. The `ensures` gives the length, which lending them needs.
 fn entry_room() -> [Entry; 132000]
@@ -58,7 +58,7 @@ fn print_with(
     let mut placed_entries = entry_room();
     let mut intervals = interval_room();
     let mut positions = position_room();
-    let mut out = print_plan::buffer();
+    let mut out = program::print_plan::buffer();
     let m = at_most(entries, 132000);
     let n = plan_exports::panel_nest(
         bytes,
@@ -71,7 +71,7 @@ fn print_with(
         &mut positions,
         &mut out,
     );
-    print_plan::write_from(&out, n);
+    program::print_plan::write_from(&out, n);
 }
 
 // Prints the number of a filling of so many copies of kind 0, at most eight, and what it leaves in room for
@@ -136,19 +136,19 @@ fn answer(room: &[u8], n: usize, long: &mut [f64]) -> bool {
     if n < 9 {
         return false;
     }
-    let slots = records::number(room[1], room[2], room[3], room[4]);
-    let entries = records::number(room[5], room[6], room[7], room[8]);
+    let slots = replay::records::number(room[1], room[2], room[3], room[4]);
+    let entries = replay::records::number(room[5], room[6], room[7], room[8]);
     print_in(room[0], slots, entries, &room[9..n], long);
     true
 }
 
 // Whether there was one more record; its label and the job's plan are printed.
 fn replay(room: &mut [u8], long: &mut [f64]) -> bool {
-    let Part::Bytes(n) = records::read_label(room) else {
+    let Part::Bytes(n) = replay::records::read_label(room) else {
         return false;
     };
-    records::print_label(room, n);
-    let Part::Bytes(m) = records::read_job(room) else {
+    replay::records::print_label(room, n);
+    let Part::Bytes(m) = replay::records::read_job(room) else {
         return false;
     };
     answer(room, m, long)

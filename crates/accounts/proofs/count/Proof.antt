@@ -3,7 +3,7 @@ use Prim.Native.Nat.{ℕ, _+_, _-_, _≤_}
 use mathlib.Core.Path.{_≡_, refl, sym, ap, ap₂, _∙_}
 use native.Mathlib.Omega.{arith}
 use lib.ListN.{length, length-set, getD}
-use Rattle.accounts.specs.Counting.{stands, sumTo, kindTo, standsIn, missesIn, byKind}
+use Rattle.accounts.specs.inner.Counting.{stands, sumTo, kindTo, standsIn, missesIn, byKind}
 use Rattle.accounts.proofs.Counts.{stands-most, misses-rest, misses-most, sum-none, sum-next, sum-few, Counted, counted-none, counted-next, counted-most, counted-table}
 use borrow.Author.Needs.{needs}
 use Rattle.accounts.proofs.count.Statement.{statement}

@@ -3,8 +3,8 @@ use Prim.Native.Nat.{ℕ, _-_, _≤_}
 use mathlib.Core.Path.{_≡_, refl, subst, _∙_}
 use native.Mathlib.Omega.{arith}
 use lib.ListN.{length}
-use Rattle.accounts.specs.Counting.{standsIn}
-use Rattle.accounts.specs.Laying.{stateOf}
+use Rattle.accounts.specs.inner.Counting.{standsIn}
+use Rattle.accounts.specs.inner.Laying.{stateOf}
 use Rattle.accounts.proofs.Counts.{Counted, counted-none}
 use Rattle.accounts.proofs.ByKind.{Filled, filled-none, filled-end}
 use Rattle.accounts.proofs.Turns.{put-fits, put-counted, put-filled}

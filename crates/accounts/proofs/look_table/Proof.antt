@@ -4,7 +4,7 @@ use mathlib.Core.Path.{_≡_, sym, _∙_}
 use native.Mathlib.Omega.{arith}
 use lib.ListN.{length, length-set, getD}
 use Rattle.numbers.proofs.Truth.{not-below-zero}
-use Rattle.accounts.specs.Counting.{lookIn}
+use Rattle.accounts.specs.inner.Counting.{lookIn}
 use Rattle.accounts.proofs.Looks.{table-next, table-end}
 use Rattle.accounts.proofs.look_table.Statement.{statement}
 use Rattle.accounts.proofs.look_table.Tie as tie

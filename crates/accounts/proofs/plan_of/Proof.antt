@@ -2,7 +2,7 @@
 use mathlib.Core.Path.{refl, _∙_}
 use native.Mathlib.Omega.{arith}
 use lib.ListN.{getD}
-use Rattle.accounts.specs.Counting.{standsIn}
+use Rattle.accounts.specs.inner.Counting.{standsIn}
 use Rattle.accounts.proofs.Counts.{stands-most, sum-few}
 use Rattle.accounts.proofs.Turns.{sums-few, starts-are}
 use Rattle.accounts.proofs.Plans.{plan-is, positions-are}

@@ -1,7 +1,7 @@
 -- `accounts::store_position` meets its contract. Assumes nothing.
 use native.Mathlib.Omega.{arith}
 use lib.ListN.{length-set}
-use Rattle.accounts.specs.Laying.{setPosition}
+use Rattle.accounts.specs.inner.Laying.{setPosition}
 use borrow.Author.Needs.{needs}
 use Rattle.accounts.proofs.store_position.Statement.{statement}
 use Rattle.accounts.proofs.store_position.Tie as tie

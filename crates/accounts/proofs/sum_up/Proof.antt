@@ -4,7 +4,7 @@ use mathlib.Core.Path.{_≡_, sym, ap, _∙_}
 use native.Mathlib.Omega.{arith}
 use lib.ListN.{length, length-set, getD}
 use Rattle.numbers.proofs.Truth.{not-below-zero}
-use Rattle.accounts.specs.Counting.{sumTo}
+use Rattle.accounts.specs.inner.Counting.{sumTo}
 use Rattle.accounts.proofs.Counts.{sum-none, sum-next, starts-next, starts-table}
 use Rattle.accounts.proofs.sum_up.Statement.{statement}
 use Rattle.accounts.proofs.sum_up.Tie as tie

@@ -1,6 +1,6 @@
 -- `bench_exports::height_or` meets its contract. Assumes nothing.
 use mathlib.Core.Path.{sym, ap}
-use Rattle.bench_exports.specs.Answers.{heightTold}
+use Rattle.bench_exports.specs.inner.Answers.{heightTold}
 use borrow.Author.Needs.{needs}
 use Rattle.bench_exports.proofs.height_or.Statement.{statement}
 use Rattle.bench_exports.proofs.height_or.Tie as tie

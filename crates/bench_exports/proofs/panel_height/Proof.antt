@@ -1,6 +1,6 @@
 -- `bench_exports::panel_height` meets its contract. Assumes nothing.
 use mathlib.Core.Path.{ap, _∙_}
-use Rattle.bench_exports.specs.Answers.{heightTold}
+use Rattle.bench_exports.specs.inner.Answers.{heightTold}
 use borrow.Author.Needs.{needs}
 use Rattle.bench_exports.proofs.panel_height.Statement.{statement}
 use Rattle.bench_exports.proofs.panel_height.Tie as tie

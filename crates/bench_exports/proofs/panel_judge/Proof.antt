@@ -1,6 +1,6 @@
 -- `bench_exports::panel_judge` meets its contract. Assumes nothing.
 use mathlib.Core.Path.{sym, ap, _∙_}
-use Rattle.bench_exports.specs.Answers.{verdictNumber}
+use Rattle.bench_exports.specs.inner.Answers.{verdictNumber}
 use borrow.Author.Needs.{needs}
 use Rattle.bench_exports.proofs.panel_judge.Statement.{statement}
 use Rattle.bench_exports.proofs.panel_judge.Tie as tie

@@ -1,6 +1,6 @@
 -- `bench_exports::panel_look` meets its contract. Assumes nothing.
 use mathlib.Core.Path.{sym, ap, _∙_}
-use Rattle.bench_exports.specs.Answers.{lookTold}
+use Rattle.bench_exports.specs.inner.Answers.{lookTold}
 use borrow.Author.Needs.{needs}
 use Rattle.bench_exports.proofs.panel_look.Statement.{statement}
 use Rattle.bench_exports.proofs.panel_look.Tie as tie

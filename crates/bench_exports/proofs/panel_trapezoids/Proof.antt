@@ -1,7 +1,7 @@
 -- `bench_exports::panel_trapezoids` meets its contract. Assumes nothing.
 use denote.Ref.{now}
 use Rattle.strips.specs.Strips.{trapezoids}
-use Rattle.strips.specs.Tables.{stored}
+use Rattle.strips.specs.inner.Tables.{stripsStored}
 use Rattle.bench_exports.proofs.Told.{told-count, told-none}
 use borrow.Author.Needs.{needs}
 use Rattle.bench_exports.proofs.panel_trapezoids.Statement.{statement}
@@ -37,7 +37,7 @@ returns c =
     let c11 = c1 .before .before .before .before .before .before .before .before .before .before in
     let c22 = c11 .before .before .before .before .before .before .before .before .before .before .before in
     let a = c22 .args in let g = c11 .trapezoids in
-    told-count (stored (trapezoids (now (a .points)) (a .n) (now (a .ends)) (a .sheet)) (now (a .room)) 0) (g .result) (now (a .room))
+    told-count (stripsStored (trapezoids (now (a .points)) (a .n) (now (a .ends)) (a .sheet)) (now (a .room)) 0) (g .result) (now (a .room))
     (g .last .1 .1 .1 .1 .1 .1 .1 .0) (c1 .stored .given .0 .0) (g .ensures) (c1 .stored .given .1)
 
 same-length-5 : tie.Need-same-length-5
@@ -57,7 +57,7 @@ returns-2 c =
     let c10 = c .before .before .before .before .before .before .before .before .before .before in
     let c21 = c10 .before .before .before .before .before .before .before .before .before .before .before in
     let a = c21 .args in let g = c10 .trapezoids in
-    told-none (stored (trapezoids (now (a .points)) (a .n) (now (a .ends)) (a .sheet)) (now (a .room)) 0) (g .result) (now (a .room))
+    told-none (stripsStored (trapezoids (now (a .points)) (a .n) (now (a .ends)) (a .sheet)) (now (a .room)) 0) (g .result) (now (a .room))
     (g .last .1 .1 .1 .1 .1 .1 .1 .0) (g .ensures) (g .kept .1 .1 .1 .1 .1 .1 .1 .0) (c .enum-told .given .1)
 
 pub panel-trapezoids-spec : {M : Type 1} → statement M

@@ -7,7 +7,7 @@ use Rattle.bits.proofs.Judging.{count-most, points-over, points-in, poi
 use borrow.Author.Needs.{needs}
 use Rattle.bits.proofs.judge_points.Statement.{statement}
 use Rattle.bits.proofs.judge_points.Tie as tie
-use Rattle.bits.specs.Answers.{countOf}
+use Rattle.bits.specs.inner.Answers.{countOf}
 
 judge-count-requires : tie.Need-judge-count-requires
 judge-count-requires c κs = search needs

@@ -42,7 +42,7 @@ use denote.Triple.Walked.{says, needs, Stays, stay-none, stay-none-slice, walkOf
 use denote.Exit.{yes}
 use denote.Triple.Clauses.{ensured, lasts}
 use Rattle.bits.specs.Reading.{bits}
-use Rattle.bits.specs.Answers.{past, taken}
+use Rattle.bits.specs.inner.Answers.{past, taken}
 use Rattle.bits.specs.declared.BitReader.{BitReader}
 use Rattle.bits.specs.declared.Taken.{Taken}
 use Rattle.bits.proofs.Lending.{Said, Take, Loan, to-take, lends, comes-back}

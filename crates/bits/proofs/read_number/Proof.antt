@@ -6,7 +6,7 @@ use Rattle.bits.proofs.Judging.{number-is, number-end}
 use borrow.Author.Needs.{needs}
 use Rattle.bits.proofs.read_number.Statement.{statement}
 use Rattle.bits.proofs.read_number.Tie as tie
-use Rattle.bits.specs.Answers.{taken}
+use Rattle.bits.specs.inner.Answers.{taken}
 
 read-field-requires : tie.Need-read-field-requires
 read-field-requires c κs = search needs

@@ -45,7 +45,7 @@ use denote.Triple.Walked.{says, needs, Stays, stay-none, stay-none-slice, walkOf
 use denote.Exit.{yes}
 use denote.Triple.Clauses.{ensured, lasts}
 use Rattle.bits.specs.Reading.{bits}
-use Rattle.bits.specs.Answers.{taken, past, pointRead}
+use Rattle.bits.specs.inner.Answers.{taken, past, pointRead}
 use Rattle.bits.specs.Fields.{point}
 use Rattle.bits.specs.declared.BitReader.{BitReader}
 use Rattle.bits.specs.declared.PointRead.{PointRead}

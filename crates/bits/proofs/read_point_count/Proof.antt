@@ -8,7 +8,7 @@ use Rattle.bits.proofs.Judging.{point-count-is, point-count-end, points
 use borrow.Author.Needs.{needs}
 use Rattle.bits.proofs.read_point_count.Statement.{statement}
 use Rattle.bits.proofs.read_point_count.Tie as tie
-use Rattle.bits.specs.Answers.{countOf, taken}
+use Rattle.bits.specs.inner.Answers.{countOf, taken}
 
 read-field-requires : tie.Need-read-field-requires
 read-field-requires c κs = search needs

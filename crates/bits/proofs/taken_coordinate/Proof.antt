@@ -1,7 +1,7 @@
 -- `bits::taken_coordinate` meets its contract. Assumes nothing.
 use mathlib.Core.Path.{ap, _∙_}
 use Rattle.bits.specs.declared.Taken.{Taken}
-use Rattle.bits.specs.Answers.{taken}
+use Rattle.bits.specs.inner.Answers.{taken}
 use Rattle.bits.specs.Fields.{coordinateRange}
 use Rattle.bits.proofs.Judging.{number-is, number-end}
 use borrow.Author.Needs.{needs}

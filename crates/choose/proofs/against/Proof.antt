@@ -1,4 +1,4 @@
-use Rattle.choose.specs.Choosing.{againstOf}
+use Rattle.choose.specs.inner.Choosing.{againstOf}
 use mathlib.Core.Path.{_≡_, sym, ap, _∙_, refl, subst}
 use borrow.Author.Needs.{needs}
 use Rattle.choose.proofs.against.Statement.{statement}

@@ -1,4 +1,4 @@
-use Rattle.choose.specs.Choosing.{betterOf}
+use Rattle.choose.specs.inner.Choosing.{betterOf}
 use Rattle.choose.specs.declared.Winner.{Winner}
 use mathlib.Core.Path.{_≡_, sym, ap, _∙_, refl, subst}
 use borrow.Author.Needs.{needs}

@@ -1,5 +1,5 @@
 -- `choose::bounds_at` meets its contract. Assumes nothing.
-use Rattle.choose.specs.Choosing.{boundsAt}
+use Rattle.choose.specs.inner.Choosing.{boundsAt}
 use borrow.Author.Needs.{needs}
 use Rattle.choose.proofs.bounds_at.Statement.{statement}
 use Rattle.choose.proofs.bounds_at.Tie as tie

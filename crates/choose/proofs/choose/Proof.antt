@@ -2,8 +2,8 @@
 use mathlib.Core.Path.{sym, refl, subst, subst⁻¹}
 use native.Mathlib.Omega.{arith}
 use Prim.Native.Nat.{ℕ, _/_, _+_, _-_, _≤_, _<_, _^_}
-use Rattle.tracks.specs.Tracks.{slotNumbers}
-use Rattle.choose.specs.Choosing.{worldIn, Ready}
+use Rattle.rooms.specs.tracks.inner.Tracks.{slotNumbers}
+use Rattle.choose.specs.inner.Choosing.{surroundingsIn, Ready}
 use Rattle.choose.proofs.Turns.{Picks, at-first, at-next, at-last}
 use borrow.Author.Needs.{needs}
 use Rattle.choose.proofs.choose.Statement.{statement}
@@ -42,7 +42,7 @@ orientation-requires c κs =
     let l = c .before .before .before .loop in
     let v = l .inv in
     let h = c .before .before .loop-test .taken in (
-      subst⁻¹ (λ (m : ℕ). Ready (a .g .index) (worldIn (m / 2) (a .g) (a .inset-bounds .now) (a .parts .now) (a .shapes .now) (a .sheet .now) (a .placed .now))
+      subst⁻¹ (λ (m : ℕ). Ready (a .g .index) (surroundingsIn (m / 2) (a .g) (a .inset-bounds .now) (a .parts .now) (a .shapes .now) (a .sheet .now) (a .placed .now))
           (a .sheet-entries .now) (a .sheet-starts .now) (a .placed-entries .now) (a .placed-starts .now) (a .slot + l .o)) (v .wide) (p .0 (l .o) h),
       sum-fits (a .slot) (l .o) (a .n) h (p .1) .2,
       subst (λ (m : ℕ). slotNumbers ≤ m) (sym (v .long)) (p .2),

@@ -1,7 +1,7 @@
 -- `orientation`: the search of one orientation, out of the tables by slot. Assumes nothing.
 use Rattle.choose.proofs.Turns.{ready-parts, ready-few, orient-is}
-use Rattle.choose.specs.Choosing.{worldIn}
-use Rattle.tracks.specs.Tracks.{nextColumns, lookCounts}
+use Rattle.choose.specs.inner.Choosing.{surroundingsIn}
+use Rattle.rooms.specs.tracks.inner.Tracks.{nextColumns, lookCounts}
 use lib.ListN.{length}
 use Prim.Native.Nat.{_/_, _-_}
 use borrow.Author.Needs.{needs}
@@ -9,7 +9,7 @@ use Rattle.choose.proofs.orientation.Statement.{statement}
 use Rattle.choose.proofs.orientation.Tie as tie
 use Rattle.choose.proofs.orientation.Reads as reads
 use Rattle.choose.proofs.orientation.Lts as lts
-use Rattle.columns.proofs.Columns.new.Reads as new-reads
+use Rattle.search.proofs.columns.Columns.new.Reads as new-reads
 use Rattle.choose.proofs.bounds_at.Reads as bounds-at-reads
 use Rattle.choose.proofs.winner_of.Reads as winner-of-reads
 use Rattle.choose.proofs.search_part.Reads as search-part-reads
@@ -32,7 +32,7 @@ search-part-requires c κs =
     let c16 = c4 .before .before .before .before .before .before .before .before .before .before .before .before in
     let a = c16 .args in
     let p = c16 .pre in
-    let r = ready-parts (a .g .index) (worldIn (length (a .room .now) / 2) (a .g) (a .inset-bounds .now) (a .parts .now) (a .shapes .now) (a .sheet .now)
+    let r = ready-parts (a .g .index) (surroundingsIn (length (a .room .now) / 2) (a .g) (a .inset-bounds .now) (a .parts .now) (a .shapes .now) (a .sheet .now)
     (a .placed .now))
     (a .sheet-entries .now) (a .sheet-starts .now) (a .placed-entries .now) (a .placed-starts .now) (a .slot) (c4 .bounds-at .result)
     (c3 .part-at .result) (c2 .new .result)
@@ -45,7 +45,7 @@ winner-of-requires c κs =
     let c9 = c7 .before .before in
     let c21 = c9 .before .before .before .before .before .before .before .before .before .before .before .before in
     let a = c21 .args in
-    ready-few (a .g .index) (worldIn (length (a .room .now) / 2) (a .g) (a .inset-bounds .now) (a .parts .now) (a .shapes .now) (a .sheet .now)
+    ready-few (a .g .index) (surroundingsIn (length (a .room .now) / 2) (a .g) (a .inset-bounds .now) (a .parts .now) (a .shapes .now) (a .sheet .now)
     (a .placed .now))
     (a .sheet-entries .now) (a .sheet-starts .now) (a .placed-entries .now) (a .placed-starts .now) (a .slot) (c9 .bounds-at .result) (c7 .new .result)
     (c21 .pre .0) (c9 .bounds-at .ensures) (c7 .new .ensures)
@@ -64,7 +64,7 @@ returns c =
     let c10 = c9 .before in
     let c22 = c10 .before .before .before .before .before .before .before .before .before .before .before .before in
     let a = c22 .args in
-    orient-is (worldIn (length (a .room .now) / 2) (a .g) (a .inset-bounds .now) (a .parts .now) (a .shapes .now) (a .sheet .now) (a .placed .now)) (a .slot)
+    orient-is (surroundingsIn (length (a .room .now) / 2) (a .g) (a .inset-bounds .now) (a .parts .now) (a .shapes .now) (a .sheet .now) (a .placed .now)) (a .slot)
     (a .o)
     (lookCounts (a .tracks .now)) (nextColumns (a .tracks .now)) _ _ (c10 .bounds-at .result) (c9 .part-at .result) (c8 .new .result) (c5 .search-part .result)
     (c .winner-of .result)

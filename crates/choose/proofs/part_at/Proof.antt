@@ -1,5 +1,5 @@
 -- `choose::part_at` meets its contract. Assumes nothing.
-use Rattle.choose.specs.Choosing.{partAt}
+use Rattle.choose.specs.inner.Choosing.{partAt}
 use borrow.Author.Needs.{needs}
 use Rattle.choose.proofs.part_at.Statement.{statement}
 use Rattle.choose.proofs.part_at.Tie as tie

@@ -5,12 +5,12 @@ use Prim.Native.Nat.{_*_, _-_, _/_}
 use lib.Ieee.{Float}
 use lib.ListN.{length, drop}
 use lib.Seq.{length-take-le}
-use Rattle.tracks.specs.Tracks.{nextColumns, lookCounts}
-use Rattle.look.specs.Ready.{Lookable}
-use Rattle.columns.specs.Stands.{xOf}
-use Rattle.search.specs.Searching.{answerAt, searchOf}
-use Rattle.choose.specs.Choosing.{insetPart}
-use Rattle.tracks.proofs.Parts.{rest-is}
+use Rattle.rooms.specs.tracks.inner.Tracks.{nextColumns, lookCounts}
+use Rattle.look.specs.inner.Ready.{Lookable}
+use Rattle.search.specs.columns.inner.Stands.{columnX}
+use Rattle.search.specs.inner.Searching.{answerAt, searchOf}
+use Rattle.choose.specs.inner.Choosing.{insetPart}
+use Rattle.rooms.proofs.tracks.Parts.{rest-is}
 use borrow.Author.Needs.{needs}
 use Rattle.choose.proofs.search_part.Statement.{statement}
 use Rattle.choose.proofs.search_part.Tie as tie
@@ -72,10 +72,10 @@ search-requires c κs =
     let s = a .shapes .now in
     let ei = c .before .before .before .before .before .strips-of .ensures ∙ ap (insetPart (a .p)) (rest-is n s) in (
       (λ d h.
-          subst⁻¹ (λ (z : List Float). Lookable (a .g .index) (xOf (a .k) d) (a .k .«y_low») (a .k .«y_high») z (c2 .strips-of2 .result .now) (a .sheet .now)
+          subst⁻¹ (λ (z : List Float). Lookable (a .g .index) (columnX (a .k) d) (a .k .«y_low») (a .k .«y_high») z (c2 .strips-of2 .result .now) (a .sheet .now)
           (a .placed .now)
           (a .sheet-entries .now) (a .sheet-starts .now) (a .placed-entries .now) (a .placed-starts .now)) ei
-          (subst⁻¹ (λ (z : List Float). Lookable (a .g .index) (xOf (a .k) d) (a .k .«y_low») (a .k .«y_high») (insetPart (a .p) (drop n s)) z (a .sheet .now)
+          (subst⁻¹ (λ (z : List Float). Lookable (a .g .index) (columnX (a .k) d) (a .k .«y_low») (a .k .«y_high») (insetPart (a .p) (drop n s)) z (a .sheet .now)
           (a .placed .now)
           (a .sheet-entries .now) (a .sheet-starts .now) (a .placed-entries .now) (a .placed-starts .now)) (c2 .strips-of2 .ensures) (p .0 d h))),
       p .1,

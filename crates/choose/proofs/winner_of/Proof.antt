@@ -4,7 +4,7 @@ use Rattle.choose.proofs.winner_of.Statement.{statement}
 use Rattle.choose.proofs.winner_of.Tie as tie
 use Rattle.choose.proofs.winner_of.Reads as reads
 use Rattle.choose.proofs.winner_of.Lts as lts
-use Rattle.columns.proofs.Columns.x.Reads as x-reads
+use Rattle.search.proofs.columns.Columns.x.Reads as x-reads
 
 enum-known-found : tie.Need-enum-known-found
 enum-known-found c = search needs

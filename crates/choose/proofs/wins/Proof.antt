@@ -1,4 +1,4 @@
-use Rattle.choose.specs.Choosing.{winsOf}
+use Rattle.choose.specs.inner.Choosing.{winsOf}
 use Rattle.choose.proofs.wins.Statement.{statement}
 use Rattle.choose.proofs.wins.Tie as tie
 use Rattle.choose.proofs.wins.Reads as reads

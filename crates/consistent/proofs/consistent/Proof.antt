@@ -1,9 +1,9 @@
 -- `consistent::consistent` meets its contract. Assumes nothing.
 use native.Mathlib.Nat.{le-trans}
 use mathlib.Core.Path.{sym, _∙_}
-use Rattle.consistent.specs.Tests.{stateOf, roomsOf}
+use Rattle.consistent.specs.inner.Tests.{stateOf, roomsOf}
 use Rattle.consistent.proofs.SameTests.{consistent-is}
-use Rattle.strip_tests.proofs.Bounding.{never}
+use Rattle.consistent.proofs.strip_tests.Bounding.{never}
 use Rattle.consistent.proofs.Cases.{both-yes, both-no}
 use borrow.Author.Needs.{needs}
 use Rattle.consistent.proofs.consistent.Statement.{statement}

@@ -1,6 +1,6 @@
 -- `consistent::entries_lie` meets its contract. Assumes nothing.
 use native.Mathlib.Omega.{arith}
-use Rattle.strip_tests.proofs.Bounding.{never}
+use Rattle.consistent.proofs.strip_tests.Bounding.{never}
 use Rattle.consistent.proofs.Cases.{room-for, walked-at, walked-wrong, walked-laid}
 use borrow.Author.Needs.{needs}
 use Rattle.consistent.proofs.entries_lie.Statement.{statement}

@@ -5,8 +5,8 @@ use mathlib.Core.Path.{sym, _∙_}
 use lib.ListN.{take}
 use lib.Seq.{length-take-le}
 use borrow.Author.Tests.{not-false}
-use Rattle.consistent.specs.Tests.{slotsOf, countsTest, standingTest}
-use Rattle.strip_tests.proofs.Bounding.{never, passed, failed}
+use Rattle.consistent.specs.inner.Tests.{slotsOf, countsTest, standingTest}
+use Rattle.consistent.proofs.strip_tests.Bounding.{never, passed, failed}
 use Rattle.consistent.proofs.Cases.{rooms-counts, rooms-slots, rooms-stands}
 use borrow.Author.Needs.{needs}
 use Rattle.consistent.proofs.rooms_fit.Statement.{statement}

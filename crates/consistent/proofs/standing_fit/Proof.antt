@@ -1,7 +1,7 @@
 -- `consistent::standing_fit` meets its contract. Assumes nothing.
 use mathlib.Core.Path.{sym, _∙_}
 use borrow.Author.Tests.{not-false}
-use Rattle.strip_tests.proofs.Bounding.{never, passed, failed}
+use Rattle.consistent.proofs.strip_tests.Bounding.{never, passed, failed}
 use Rattle.consistent.proofs.Cases.{standing-sheet, standing-placed, standing-entries, standing-all, laid-there}
 use borrow.Author.Needs.{needs}
 use Rattle.consistent.proofs.standing_fit.Statement.{statement}

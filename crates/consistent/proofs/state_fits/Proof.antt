@@ -4,7 +4,7 @@ use lib.ListN.{take}
 use lib.Seq.{length-take-le}
 use borrow.Author.Tests.{leb-true, not-false}
 use Rattle.filling.specs.Order.{rearranged}
-use Rattle.strip_tests.proofs.Bounding.{never, passed, failed}
+use Rattle.consistent.proofs.strip_tests.Bounding.{never, passed, failed}
 use Rattle.consistent.proofs.Cases.{state-taken, state-resolution, state-bounds, state-layout, state-order}
 use borrow.Author.Needs.{needs}
 use Rattle.consistent.proofs.state_fits.Statement.{statement}

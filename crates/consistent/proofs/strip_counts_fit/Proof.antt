@@ -6,7 +6,7 @@ use lib.Dec.{leb}
 use borrow.Author.Tests.{leb-true}
 use Rattle.trapezoid.specs.Strip.{capacity}
 use Rattle.index.specs.Buckets.{standingCapacity}
-use Rattle.strip_tests.proofs.Bounding.{never}
+use Rattle.consistent.proofs.strip_tests.Bounding.{never}
 use Rattle.index.proofs.Standing.{standing-within}
 use Rattle.consistent.proofs.Cases.{counts-sheet, counts-apart, counts-placed, room-for}
 use borrow.Author.Needs.{needs}

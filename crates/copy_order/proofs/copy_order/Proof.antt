@@ -5,10 +5,10 @@ use mathlib.Core.Path.{_≡_, ap, _∙_}
 use mathlib.Core.List.{List, flatMap}
 use denote.Ref.{now}
 use native.Mathlib.Omega.{arith}
-use Rattle.slab.specs.Tables.{down}
+use Rattle.slab.specs.inner.Tables.{down}
 use Rattle.job.specs.Jobs.{Job}
 use Rattle.filling.specs.Rooms.{laid}
-use Rattle.copy_order.specs.KindTables.{copiesAt, copiesIn}
+use Rattle.copy_order.specs.inner.KindTables.{copiesAt, copiesIn}
 use Rattle.copy_order.proofs.Lines.{at}
 use Rattle.copy_order.proofs.Tabling.{line-length, line-order}
 use borrow.Author.Needs.{needs}

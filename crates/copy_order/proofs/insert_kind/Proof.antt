@@ -7,9 +7,9 @@ use denote.Ref.{now}
 use native.Mathlib.Omega.{arith}
 use Rattle.slab.proofs.Sorting.{over, over-start}
 use Rattle.slab.specs.Slab.{insert}
-use Rattle.slab.specs.Tables.{down}
+use Rattle.slab.specs.inner.Tables.{down}
 use Rattle.nesting.specs.CopyOrder.{ahead}
-use Rattle.copy_order.specs.KindTables.{numberedAt}
+use Rattle.copy_order.specs.inner.KindTables.{numberedAt}
 use Rattle.copy_order.proofs.Lines.{at, insert-number, insert-number-last, put-under}
 use Rattle.copy_order.proofs.insert_kind.Statement.{statement}
 use Rattle.copy_order.proofs.insert_kind.Tie as tie

@@ -3,31 +3,24 @@ use borrow.Author.Needs.{needs}
 use Rattle.copy_order.proofs.larger_first.Statement.{statement}
 use Rattle.copy_order.proofs.larger_first.Tie as tie
 
--- src/lib.rt:45:13
 mul-x : tie.Need-mul-x
 mul-x c = search needs
 
--- src/lib.rt:45:13
 shared-slice-read-x : tie.Need-shared-slice-read-x
 shared-slice-read-x c = search needs
 
--- src/lib.rt:46:13
 mul-y : tie.Need-mul-y
 mul-y c = search needs
 
--- src/lib.rt:46:13
 shared-slice-read-y : tie.Need-shared-slice-read-y
 shared-slice-read-y c = search needs
 
--- src/lib.rt:48:9
 returns : tie.Need-returns
 returns c = rw (c .if1 .taken)
 
--- src/lib.rt:51:9
 returns-2 : tie.Need-returns-2
 returns-2 c = rw (c .before .if1 .left, c .if2 .taken)
 
--- src/lib.rt:41:1
 returns-3 : tie.Need-returns-3
 returns-3 c = rw (c .before .if1 .left, c .if2 .left)
 

@@ -5,27 +5,21 @@ use borrow.Author.Needs.{needs}
 use Rattle.copy_order.proofs.priority_at.Statement.{statement}
 use Rattle.copy_order.proofs.priority_at.Tie as tie
 
--- src/lib.rt:25:18
 mul-p : tie.Need-mul-p
 mul-p c = search needs
 
--- src/lib.rt:25:18
 add-p : tie.Need-add-p
 add-p c = search needs
 
--- src/lib.rt:25:13
 mul-p-2 : tie.Need-mul-p-2
 mul-p-2 c = search needs
 
--- src/lib.rt:25:13
 shared-slice-read-p : tie.Need-shared-slice-read-p
 shared-slice-read-p c = search needs
 
--- src/lib.rt:27:9
 returns : tie.Need-returns
 returns c = search needs
 
--- src/lib.rt:21:1
 returns-2 : tie.Need-returns-2
 returns-2 c = (omega arith, past-bits _ (omega arith))
 

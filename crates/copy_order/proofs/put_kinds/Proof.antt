@@ -4,7 +4,7 @@ use lib.ListN.{getD}
 use mathlib.Core.Path.{_≡_, subst}
 use denote.Ref.{now}
 use native.Mathlib.Omega.{arith}
-use Rattle.copy_order.specs.KindTables.{copiesAt}
+use Rattle.copy_order.specs.inner.KindTables.{copiesAt}
 use Rattle.copy_order.proofs.Laying.{Laid, laying-start, laying-end, copies-fit, copies-on}
 use Rattle.copy_order.proofs.put_kinds.Statement.{statement}
 use Rattle.copy_order.proofs.put_kinds.Tie as tie

@@ -5,9 +5,9 @@ use mathlib.Core.Path.{_≡_, refl, _∙_}
 use denote.Ref.{now}
 use native.Mathlib.Omega.{arith}
 use Rattle.slab.specs.Slab.{up, sort}
-use Rattle.slab.specs.Tables.{down}
+use Rattle.slab.specs.inner.Tables.{down}
 use Rattle.nesting.specs.CopyOrder.{ahead}
-use Rattle.copy_order.specs.KindTables.{numberedAt}
+use Rattle.copy_order.specs.inner.KindTables.{numberedAt}
 use Rattle.copy_order.proofs.Lines.{at, sorted-none, sorted-more, sorted-all}
 use Rattle.copy_order.proofs.sort_kinds.Statement.{statement}
 use Rattle.copy_order.proofs.sort_kinds.Tie as tie

@@ -2,9 +2,9 @@ use mathlib.Core.Path.{_≡_, subst}
 use mathlib.Core.Bool.{true}
 use Prim.Native.Nat.{ℕ, _+_}
 use native.Mathlib.Omega.{arith}
-use Rattle.index.specs.Listing.{Laid}
-use Rattle.enter.specs.Gaps.{rooms, entering}
-use Rattle.enter.specs.EntryRoom.{enterOf}
+use Rattle.index.specs.inner.Listing.{Laid}
+use Rattle.enter.specs.inner.Gaps.{rooms, entering}
+use Rattle.enter.specs.inner.EntryRoom.{enterOf}
 use Rattle.enter.proofs.enter_copy.Statement.{statement}
 use Rattle.enter.proofs.enter_copy.Tie as tie
 use Rattle.enter.proofs.enter_copy.Reads as reads

@@ -4,7 +4,7 @@ use Prim.Native.Nat.{ℕ, _+_, _-_, _≤_}
 use native.Mathlib.Omega.{arith}
 use lib.ListN.{length, getD}
 use Rattle.index.specs.Buckets.{buckets}
-use Rattle.gaps.specs.OpenGaps.{before}
+use Rattle.gaps.specs.inner.OpenGaps.{before}
 use lib.ListN.{length-replicate}
 use Rattle.enter.proofs.Marks.{gainsOf, gains-counted, marked-copy, copy-more}
 use Rattle.enter.proofs.GapFilling.{all-entries, copy-blocks, copy-laid, copy-entered, copy-refused}
@@ -13,7 +13,7 @@ use Rattle.enter.proofs.enter_many.Tie as tie
 use Rattle.enter.proofs.enter_many.Reads as reads
 use Rattle.enter.proofs.enter_many.Lts as lts
 use Rattle.enter.proofs.measure.Reads as measure-reads
-use Rattle.marks.proofs.mark_all.Reads as mark-all-reads
+use Rattle.enter.proofs.span_marks.mark_all.Reads as mark-all-reads
 use Rattle.gaps.proofs.open_all.Reads as open-all-reads
 use Rattle.enter.proofs.fill.Reads as fill-reads
 

@@ -13,8 +13,8 @@ use Rattle.enter.proofs.enter_one.Statement.{statement}
 use Rattle.enter.proofs.enter_one.Tie as tie
 use Rattle.enter.proofs.enter_one.Reads as reads
 use Rattle.enter.proofs.enter_one.Lts as lts
-use Rattle.marks.proofs.span_of.Reads as span-of-reads
-use Rattle.marks.proofs.width_of.Reads as width-of-reads
+use Rattle.enter.proofs.span_marks.span_of.Reads as span-of-reads
+use Rattle.enter.proofs.span_marks.width_of.Reads as width-of-reads
 use Rattle.moves.proofs.move_block.Reads as move-block-reads
 use Rattle.gaps.proofs.insert.Reads as insert-reads
 use Rattle.gaps.proofs.step_up.Reads as step-up-reads

@@ -5,19 +5,19 @@ use lib.ListN.{length, getD}
 use Rattle.trapezoid.specs.Strip.{stripAt}
 use Rattle.index.specs.Buckets.{buckets}
 use Rattle.index.proofs.Steps.{bucket-top}
-use Rattle.index.specs.Listing.{entered}
-use Rattle.enter.specs.Gaps.{Blocks}
-use Rattle.enter.specs.EntryRoom.{startOf}
+use Rattle.index.specs.inner.Listing.{enteredFrom}
+use Rattle.enter.specs.inner.Gaps.{Blocks}
+use Rattle.enter.specs.inner.EntryRoom.{startOf}
 use Rattle.enter.proofs.GapFilling.{strip-room, fill-turn}
 use Rattle.enter.proofs.fill.Statement.{statement}
 use Rattle.enter.proofs.fill.Tie as tie
 use Rattle.enter.proofs.fill.Reads as reads
 use Rattle.enter.proofs.fill.Lts as lts
-use Rattle.marks.proofs.kept_span.Reads as kept-span-reads
+use Rattle.enter.proofs.span_marks.kept_span.Reads as kept-span-reads
 use Rattle.enter.proofs.fill_strip.Reads as fill-strip-reads
 
 abbrev Inv-loop : tie.InvT-loop
-Inv-loop ix standing from to firsts lasts entries₀ starts₀ i₀ entries starts i = (from ≤ i) × (i ≤ to) × (length entries ≡ length entries₀) × (length starts ≡ length starts₀) × Blocks (startOf ix standing to) (entered ix standing i) entries starts × ((j : ℕ) → startOf ix standing to buckets ≤ j → getD entries j 0 ≡ getD entries₀ j 0)
+Inv-loop ix standing from to firsts lasts entries₀ starts₀ i₀ entries starts i = (from ≤ i) × (i ≤ to) × (length entries ≡ length entries₀) × (length starts ≡ length starts₀) × Blocks (startOf ix standing to) (enteredFrom ix standing i) entries starts × ((j : ℕ) → startOf ix standing to buckets ≤ j → getD entries j 0 ≡ getD entries₀ j 0)
 
 abbrev μ-loop : tie.MeasureT-loop
 μ-loop ix standing from to firsts lasts entries₀ starts₀ i₀ entries starts i = to - i
@@ -63,7 +63,7 @@ returns : tie.Need-returns Inv-loop μ-loop
 returns c = let l = c .before .loop in
     let g = c .before .before .before .before .before .before .before .args in
     let e : l .i ≡ g .to = omega (arith, l .inv .1) in
-    (subst (λ (k : ℕ). Blocks (startOf (g .ix) (g .standing .now) (g .to)) (entered (g .ix) (g .standing .now) k) (l .entries) (l .starts)) e (l .inv .4), l .inv .5)
+    (subst (λ (k : ℕ). Blocks (startOf (g .ix) (g .standing .now) (g .to)) (enteredFrom (g .ix) (g .standing .now) k) (l .entries) (l .starts)) e (l .inv .4), l .inv .5)
 
 pub fill-spec : {M : Type 1} → statement M
 fill-spec =

@@ -4,7 +4,7 @@ use Prim.Native.Nat.{ℕ, _+_, _-_, _≤_}
 use native.Mathlib.Omega.{arith}
 use lib.ListN.{length, getD, set, length-set}
 use lib.Seq.{getD-set-other}
-use Rattle.enter.specs.Gaps.{filled, rooms}
+use Rattle.enter.specs.inner.Gaps.{filled, rooms}
 use Rattle.enter.proofs.GapFilling.{filled-on, filled-end}
 use Rattle.enter.proofs.fill_strip.Statement.{statement}
 use Rattle.enter.proofs.fill_strip.Tie as tie

@@ -6,19 +6,19 @@ use lib.ListN.{length}
 use Rattle.trapezoid.specs.Strip.{stripAt}
 use Rattle.index.specs.Buckets.{buckets}
 use Rattle.index.proofs.Steps.{bucket-top}
-use Rattle.marks.specs.NewEntries.{Within, Kept}
-use Rattle.enter.specs.EntryRoom.{startOf}
-use Rattle.marks.proofs.Spans.{within-none, within-turn, kept-none, kept-turn}
+use Rattle.enter.specs.span_marks.inner.NewEntries.{Within, Kept}
+use Rattle.enter.specs.inner.EntryRoom.{startOf}
+use Rattle.enter.proofs.span_marks.Spans.{within-none, within-turn, kept-none, kept-turn}
 use Rattle.enter.proofs.Marks.{start-strip, start-over}
 use Rattle.enter.proofs.measure.Statement.{statement}
 use Rattle.enter.proofs.measure.Tie as tie
 use Rattle.enter.proofs.measure.Reads as reads
 use Rattle.enter.proofs.measure.Lts as lts
-use Rattle.marks.proofs.span_of.Reads as span-of-reads
-use Rattle.marks.proofs.width_of.Reads as width-of-reads
+use Rattle.enter.proofs.span_marks.span_of.Reads as span-of-reads
+use Rattle.enter.proofs.span_marks.width_of.Reads as width-of-reads
 use Rattle.enter.proofs.sooner.Reads as sooner-reads
 use Rattle.enter.proofs.later.Reads as later-reads
-use Rattle.marks.proofs.keep.Reads as keep-reads
+use Rattle.enter.proofs.span_marks.keep.Reads as keep-reads
 
 abbrev Inv-loop : tie.InvT-loop
 Inv-loop ix standing from to left firsts₀ lasts₀ more₀ first₀ end₀ i₀ firsts lasts more first end i = (from ≤ i) × (i ≤ to) × (length firsts ≡ 64) × (length lasts ≡ 64) × (startOf ix standing i buckets ≡ startOf ix standing from buckets + more) × (more ≤ left) × (end ≤ buckets) × Within ix standing from i first end × Kept ix standing from (i - from) firsts lasts

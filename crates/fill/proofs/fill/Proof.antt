@@ -3,7 +3,7 @@ use mathlib.Core.Path.{_∙_}
 use Rattle.numbers.specs.Numbers.{posZero}
 use Rattle.filling.specs.Fill.{fillOf}
 use Rattle.filling.specs.Rooms.{lentOf}
-use Rattle.readied.proofs.Left.{zeros-after, together}
+use Rattle.report.proofs.readied.Left.{zeros-after, together}
 use Rattle.fill.proofs.Whole.{fill-zero}
 use Rattle.fill.proofs.fill.Statement.{statement}
 use Rattle.fill.proofs.fill.Tie as tie

@@ -6,9 +6,9 @@ use lib.Dec.{T}
 use lib.Ieee.{ofBits}
 use native.Mathlib.Nat.{lt-of-lt-of-le}
 use Rattle.filling_laws.proofs.ReadyStrips.{take-fit, drop-fit}
-use Rattle.fill_laws.specs.Prepared.{givenIn}
-use Rattle.fill_laws.proofs.Between.{kind-below}
-use Rattle.fill_laws.proofs.Copies.{Going, going-first, going-last, going-next, ready-next, after-less}
+use Rattle.filling_laws.specs.fill_laws.inner.Prepared.{givenIn}
+use Rattle.filling_laws.proofs.fill_laws.Between.{kind-below}
+use Rattle.filling_laws.proofs.fill_laws.Copies.{Going, going-first, going-last, going-next, ready-next, after-less}
 use Rattle.fill_order.proofs.fill_copies.Statement.{statement}
 use Rattle.fill_order.proofs.fill_copies.Tie as tie
 use Rattle.fill_order.proofs.fill_copies.Lts as lts

@@ -1,7 +1,7 @@
 -- `fill_order`: the tracks are reset, then every copy. Assumes nothing.
 use Prim.Native.Nat.{ℕ, _≤_}
 use mathlib.Core.Path.{sym, subst}
-use Rattle.tracks.specs.Tracks.{trackNumbers}
+use Rattle.rooms.specs.tracks.inner.Tracks.{trackNumbers}
 use borrow.Author.Needs.{needs}
 use Rattle.fill_order.proofs.fill_order.Statement.{statement}
 use Rattle.fill_order.proofs.fill_order.Tie as tie
@@ -10,7 +10,7 @@ use Rattle.fill_order.proofs.fill_order.Lts as lts
 use Rattle.fill_order.proofs.fill_copies.Reads as fill-copies-reads
 use Rattle.fill_order.proofs.no_starts.Reads as no-starts-reads
 use Rattle.fill_order.proofs.no_gains.Reads as no-gains-reads
-use Rattle.tracks.proofs.reset.Reads as reset-reads
+use Rattle.rooms.proofs.tracks.reset.Reads as reset-reads
 
 reset-requires : tie.Need-reset-requires
 reset-requires c κs = search needs

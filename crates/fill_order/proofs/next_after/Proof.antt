@@ -1,6 +1,6 @@
 use mathlib.Core.Path.{sym, ap}
 use Rattle.filling.specs.declared.Verdict.{Verdict}
-use Rattle.fill_laws.specs.Prepared.{nextAfter}
+use Rattle.filling_laws.specs.fill_laws.inner.Prepared.{nextAfter}
 use borrow.Author.Needs.{needs}
 use Rattle.fill_order.proofs.next_after.Statement.{statement}
 use Rattle.fill_order.proofs.next_after.Tie as tie

@@ -4,7 +4,7 @@ use Rattle.filling_test.proofs.call.Statement.{statement}
 use Rattle.filling_test.proofs.call.Tie as tie
 
 start-requires : tie.Need-start-requires
-start-requires c κs = search needs
+start-requires c κs = tt
 
 same-length : tie.Need-same-length
 same-length c = c .before .before .before .before .before .before .before .before .before .before .before .before .before .before .start .kept .1 .1 .1 .0
@@ -31,7 +31,7 @@ returns : tie.Need-returns
 returns c = search needs
 
 next-copy-requires : tie.Need-next-copy-requires
-next-copy-requires c κs = search needs
+next-copy-requires c κs = tt
 
 same-length-8 : tie.Need-same-length-8
 same-length-8 c = search needs
@@ -55,7 +55,7 @@ returns-2 : tie.Need-returns-2
 returns-2 c = search needs
 
 fill-requires : tie.Need-fill-requires
-fill-requires c κs = search needs
+fill-requires c κs = tt
 
 same-length-14 : tie.Need-same-length-14
 same-length-14 c = c .before .before .before .before .before .before .before .before .before .before .before .before .before .before .fill .kept .1 .1 .1 .0

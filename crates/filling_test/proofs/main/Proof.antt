@@ -17,13 +17,13 @@ abbrev μ-loop : tie.MeasureT-loop
     left
 
 zero-state-requires : tie.Need-zero-state-requires Inv-loop μ-loop
-zero-state-requires c κs = search needs
+zero-state-requires c κs = tt
 
 loop-holds : tie.Need-loop-holds Inv-loop μ-loop
 loop-holds c = search needs
 
 next-requires : tie.Need-next-requires Inv-loop μ-loop
-next-requires c κs = search needs
+next-requires c κs = tt
 
 turns-left-requires : tie.Need-turns-left-requires Inv-loop μ-loop
 turns-left-requires c κs = search needs
@@ -41,7 +41,7 @@ load-requires : tie.Need-load-requires Inv-loop μ-loop
 load-requires c κs = search needs
 
 is-of-state-requires : tie.Need-is-of-state-requires Inv-loop μ-loop
-is-of-state-requires c κs = search needs
+is-of-state-requires c κs = tt
 
 slice-aggregate-revise : tie.Need-slice-aggregate-revise Inv-loop μ-loop
 slice-aggregate-revise c = search needs
@@ -53,7 +53,7 @@ slice-aggregate-revise-3 : tie.Need-slice-aggregate-revise-3 Inv-loop μ-loop
 slice-aggregate-revise-3 c = search needs
 
 revise-requires : tie.Need-revise-requires Inv-loop μ-loop
-revise-requires c κs = search needs
+revise-requires c κs = tt
 
 loop-less : tie.Need-loop-less Inv-loop μ-loop
 loop-less c =
@@ -69,7 +69,7 @@ loop-again c =
     (i .0 ∙ sym (l .1 .1 .1 .0), i .1 ∙ sym (l .1 .0), i .2 ∙ sym (l .1 .1 .0), i .3, i .4, i .5, i .6, i .7, i .8, i .9)
 
 is-call-requires : tie.Need-is-call-requires Inv-loop μ-loop
-is-call-requires c κs = search needs
+is-call-requires c κs = tt
 
 slice-aggregate-call : tie.Need-slice-aggregate-call Inv-loop μ-loop
 slice-aggregate-call c = search needs
@@ -102,7 +102,7 @@ slice-aggregate-call-10 : tie.Need-slice-aggregate-call-10 Inv-loop μ-loop
 slice-aggregate-call-10 c = search needs
 
 call-requires : tie.Need-call-requires Inv-loop μ-loop
-call-requires c κs = search needs
+call-requires c κs = tt
 
 loop-less-2 : tie.Need-loop-less-2 Inv-loop μ-loop
 loop-less-2 c =
@@ -156,7 +156,7 @@ slice-aggregate-touch-rooms-8 : tie.Need-slice-aggregate-touch-rooms-8 Inv-loop 
 slice-aggregate-touch-rooms-8 c = search needs
 
 touch-rooms-requires : tie.Need-touch-rooms-requires Inv-loop μ-loop
-touch-rooms-requires c κs = search needs
+touch-rooms-requires c κs = tt
 
 loop-less-3 : tie.Need-loop-less-3 Inv-loop μ-loop
 loop-less-3 c =

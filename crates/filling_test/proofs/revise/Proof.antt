@@ -6,16 +6,16 @@ use Rattle.filling_test.proofs.revise.Statement.{statement}
 use Rattle.filling_test.proofs.revise.Tie as tie
 
 edit-requires : tie.Need-edit-requires
-edit-requires c κs = search needs
+edit-requires c κs = tt
 
 returns : tie.Need-returns
 returns c = search needs
 
 lent-requires : tie.Need-lent-requires
-lent-requires c κs = search needs
+lent-requires c κs = tt
 
 lent-requires-2 : tie.Need-lent-requires-2
-lent-requires-2 c κs = search needs
+lent-requires-2 c κs = tt
 
 slice-aggregate-leaf : tie.Need-slice-aggregate-leaf
 slice-aggregate-leaf c = simp length-take (omega arith)
@@ -24,7 +24,7 @@ slice-aggregate-leaf-2 : tie.Need-slice-aggregate-leaf-2
 slice-aggregate-leaf-2 c = simp length-take (omega arith)
 
 leaf-requires : tie.Need-leaf-requires
-leaf-requires c κs = search needs
+leaf-requires c κs = tt
 
 returns-2 : tie.Need-returns-2
 returns-2 c = search needs

@@ -2,7 +2,7 @@ use mathlib.Core.Path.{_≡_, sym, subst}
 use mathlib.Core.List.{List}
 use Prim.Native.Nat.{ℕ, _+_, _-_, _≤_}
 use native.Mathlib.Omega.{arith}
-use Rattle.gaps.specs.OpenGaps.{Inserted}
+use Rattle.gaps.specs.inner.OpenGaps.{Inserted}
 use Rattle.gaps.proofs.Inserting.{inserted-start, inserted-step}
 use Rattle.gaps.proofs.insert.Statement.{statement}
 use Rattle.gaps.proofs.insert.Tie as tie

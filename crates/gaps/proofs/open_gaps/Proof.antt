@@ -3,7 +3,7 @@ use mathlib.Core.List.{List}
 use Prim.Native.Nat.{ℕ, _+_, _-_, _≤_}
 use native.Mathlib.Omega.{arith}
 use lib.ListN.{getD}
-use Rattle.gaps.specs.OpenGaps.{before, Opened, Marked}
+use Rattle.gaps.specs.inner.OpenGaps.{before, Opened, Marked}
 use Rattle.gaps.proofs.Before.{before-rise}
 use Rattle.gaps.proofs.Opening.{opened-start, opened-turn, opened-end, marks-tell}
 use Rattle.gaps.proofs.open_gaps.Statement.{statement}

@@ -1,7 +1,7 @@
 use mathlib.Core.Path.{_≡_, subst}
 use Prim.Native.Nat.{ℕ, _+_, _-_, _≤_}
 use native.Mathlib.Omega.{arith}
-use Rattle.gaps.specs.OpenGaps.{Stepped}
+use Rattle.gaps.specs.inner.OpenGaps.{Stepped}
 use Rattle.gaps.proofs.Inserting.{stepped-start, stepped-step}
 use Rattle.gaps.proofs.step_up.Statement.{statement}
 use Rattle.gaps.proofs.step_up.Tie as tie

@@ -15,24 +15,21 @@ use Rattle.index.specs.declared.Meeting.{Meeting}
 use Rattle.index.specs.declared.Meeting.the-variants.{Apart, Forbidden}
 use Rattle.index.specs.Buckets.{buckets, upFrom, indexOf, bucketIn}
 use Rattle.index.specs.Intervals.{intervalOf, countsOf}
-use Rattle.index.specs.Listing.{movingOf, heightsOf, meetingAt, pairOf, Collected, collected, push, pushAll, metIn, entryOf, listEntries, listBucket, listMoving, listed, Usable}
+use Rattle.index.specs.inner.Listing.{movingOf, heightsOf, meetingAt, pairOf, Collected, collected, push, pushAll, metIn, entryOf, listEntries, listBucket, listMoving, listed, Usable}
 use Rattle.index.proofs.Steps.{meeting-apart, meeting-over, pair-none, pair-counts, pair-counts-not, pushAll-one, pushAll-none, entry-true, entry-false, push-true, push-false, kept-length, over-end, turn, bucket-top}
 use Rattle.index.proofs.counts.Statement.{statement}
 use Rattle.index.proofs.counts.Tie as tie
 use Rattle.index.proofs.counts.Reads as reads
 use Rattle.index.proofs.counts.Lts as lts
 
--- src/lib.rt:136:13
 returns : tie.Need-returns
 unfolding countsOf
 returns c = rw (c .before .before .before .if1 .taken, c .before .if2 .taken)
 
--- src/lib.rt:131:1
 returns-2 : tie.Need-returns-2
 unfolding countsOf
 returns-2 c = rw (c .before .before .if1 .taken, c .if2 .left)
 
--- src/lib.rt:131:1
 returns-3 : tie.Need-returns-3
 unfolding countsOf
 returns-3 c = rw (c .if1 .left)

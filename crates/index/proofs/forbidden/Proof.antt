@@ -15,7 +15,7 @@ use Rattle.index.specs.declared.Meeting.{Meeting}
 use Rattle.index.specs.declared.Meeting.the-variants.{Apart, Forbidden}
 use Rattle.index.specs.Buckets.{buckets, upFrom, indexOf, bucketIn}
 use Rattle.index.specs.Intervals.{intervalOf, countsOf}
-use Rattle.index.specs.Listing.{movingOf, heightsOf, meetingAt, pairOf, Collected, collected, push, pushAll, metIn, entryOf, listEntries, listBucket, listMoving, listed, Usable}
+use Rattle.index.specs.inner.Listing.{movingOf, heightsOf, meetingAt, pairOf, Collected, collected, push, pushAll, metIn, entryOf, listEntries, listBucket, listMoving, listed, Usable}
 use Rattle.index.proofs.Steps.{meeting-apart, meeting-over, pair-none, pair-counts, pair-counts-not, pushAll-one, pushAll-none, entry-true, entry-false, push-true, push-false, kept-length, over-end, turn, bucket-top}
 use borrow.Author.Needs.{needs}
 use Rattle.index.proofs.forbidden.Statement.{statement}
@@ -29,26 +29,21 @@ use Rattle.numbers.proofs.smaller.Reads as smaller-reads
 ap2 : {A B C : Type 0} (f : A → B → C) {a a' : A} {b b' : B} → a ≡ a' → b ≡ b' → f a b ≡ f a' b'
 ap2 f p q = rw (p, q)
 
--- src/lib.rt:122:9
 larger-requires : tie.Need-larger-requires
 larger-requires c κs = search needs
 
--- src/lib.rt:123:9
 smaller-requires : tie.Need-smaller-requires
 smaller-requires c κs = search needs
 
--- src/lib.rt:125:35
 heights-requires : tie.Need-heights-requires
 heights-requires c κs = search needs
 
--- src/lib.rt:125:9
 returns : tie.Need-returns
 returns c = let g = c .before .before .before .before .args in
     let L = c .before .before .before .larger .ensures in
     let S = c .before .before .smaller .ensures in
     ap Forbidden (c .heights .ensures ∙ ap2 (heightsOf (g .p) (g .m)) L S) ∙ sym (meeting-over (g .m) (g .p) (ap2 lt (sym L) (sym S) ∙ c .before .if1 .taken))
 
--- src/lib.rt:119:1
 returns-2 : tie.Need-returns-2
 returns-2 c = let g = c .before .before .before .args in
     sym (meeting-apart (g .m) (g .p) (ap2 lt (sym (c .before .before .larger .ensures)) (sym (c .before .smaller .ensures)) ∙ c .if1 .left))

@@ -15,7 +15,7 @@ use Rattle.index.specs.declared.Meeting.{Meeting}
 use Rattle.index.specs.declared.Meeting.the-variants.{Apart, Forbidden}
 use Rattle.index.specs.Buckets.{buckets, upFrom, indexOf, bucketIn}
 use Rattle.index.specs.Intervals.{intervalOf, countsOf}
-use Rattle.index.specs.Listing.{movingOf, heightsOf, meetingAt, pairOf, Collected, collected, push, pushAll, metIn, entryOf, listEntries, listBucket, listMoving, listed, Usable}
+use Rattle.index.specs.inner.Listing.{movingOf, heightsOf, meetingAt, pairOf, Collected, collected, push, pushAll, metIn, entryOf, listEntries, listBucket, listMoving, listed, Usable}
 use Rattle.index.proofs.Steps.{meeting-apart, meeting-over, pair-none, pair-counts, pair-counts-not, pushAll-one, pushAll-none, entry-true, entry-false, push-true, push-false, kept-length, over-end, turn, bucket-top}
 use borrow.Author.Needs.{needs}
 use Rattle.index.proofs.list_entries.Statement.{statement}
@@ -32,30 +32,24 @@ Inv-loop ix m first b standing entries from to room₀ start n₀ e₀ room n e 
 abbrev μ-loop : tie.MeasureT-loop
 μ-loop ix m first b standing entries from to room₀ start n₀ e₀ room n e = to - e
 
--- src/lib.rt:127:5
 loop-holds : tie.Need-loop-holds Inv-loop μ-loop
 loop-holds c = (omega arith, refl, refl)
 
 entry-requires : tie.Need-entry-requires Inv-loop μ-loop
 entry-requires c κs = omega arith
 
--- src/lib.rt:128:13
 load-requires : tie.Need-load-requires Inv-loop μ-loop
 load-requires c κs = subst (λ (i : ℕ). 6 * i + 6 ≤ length (c .before .before .before .before .before .before .args .standing .now)) (sym (c .entry .ensures)) (c .before .before .before .before .before .before .pre .1 (c .before .before .loop .e) (c .before .before .loop .inv .0) (omega arith))
 
--- src/lib.rt:129:9
 meet-once-requires : tie.Need-meet-once-requires Inv-loop μ-loop
 meet-once-requires c κs = search needs
 
--- src/lib.rt:130:9
 add-e : tie.Need-add-e Inv-loop μ-loop
 add-e c = omega arith
 
--- src/lib.rt:127:5
 loop-less : tie.Need-loop-less Inv-loop μ-loop
 loop-less c = omega arith
 
--- src/lib.rt:127:5
 loop-again : tie.Need-loop-again Inv-loop μ-loop
 unfolding listEntries
 loop-again c = let l = c .before .before .before .before .before .before .before in
@@ -67,11 +61,9 @@ loop-again c = let l = c .before .before .before .before .before .before .before
       turn (λ j. entryOf (g .ix) (g .m) (g .first) (g .b) (stripAt (g .standing .now) (getD (g .entries .now) j 0))) (l .loop .room) _ (l .loop .n) _ (g .to) (l .loop .e) _ (omega arith) E (l .loop .inv .2),
     )
 
--- src/lib.rt:121:1
 same-length : tie.Need-same-length Inv-loop μ-loop
 same-length c = c .before .loop .inv .1
 
--- src/lib.rt:121:1
 returns : tie.Need-returns Inv-loop μ-loop
 unfolding listEntries
 returns c = let l = c .before in

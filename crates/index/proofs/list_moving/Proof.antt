@@ -15,7 +15,7 @@ use Rattle.index.specs.declared.Meeting.{Meeting}
 use Rattle.index.specs.declared.Meeting.the-variants.{Apart, Forbidden}
 use Rattle.index.specs.Buckets.{buckets, upFrom, indexOf, bucketIn}
 use Rattle.index.specs.Intervals.{intervalOf, countsOf}
-use Rattle.index.specs.Listing.{movingOf, heightsOf, meetingAt, pairOf, Collected, collected, push, pushAll, metIn, entryOf, listEntries, listBucket, listMoving, listed, Usable}
+use Rattle.index.specs.inner.Listing.{movingOf, heightsOf, meetingAt, pairOf, Collected, collected, push, pushAll, metIn, entryOf, listEntries, listBucket, listMoving, listed, Usable}
 use Rattle.index.proofs.Steps.{meeting-apart, meeting-over, pair-none, pair-counts, pair-counts-not, pushAll-one, pushAll-none, entry-true, entry-false, push-true, push-false, kept-length, over-end, turn, bucket-top}
 use borrow.Author.Needs.{needs}
 use Rattle.index.proofs.list_moving.Statement.{statement}
@@ -31,53 +31,41 @@ Inv-loop ix m standing entries starts room₀ start n₀ first last b₀ room n 
 abbrev μ-loop : tie.MeasureT-loop
 μ-loop ix m standing entries starts room₀ start n₀ first last b₀ room n b = last + 1 - b
 
--- src/lib.rt:146:9
 bucket-requires : tie.Need-bucket-requires Inv-loop μ-loop
 bucket-requires c κs = search needs
 
--- src/lib.rt:147:9
 bucket-requires-2 : tie.Need-bucket-requires-2 Inv-loop μ-loop
 bucket-requires-2 c κs = search needs
 
--- src/lib.rt:149:5
 loop-holds : tie.Need-loop-holds Inv-loop μ-loop
 loop-holds c = (refl, refl)
 
--- src/lib.rt:150:20
 mul-from : tie.Need-mul-from Inv-loop μ-loop
 mul-from c = let t = bucket-top (c .before .before .before .before .before .before .before .before .args .ix) (c .before .before .before .before .before .before .before .before .args .m .x1) in omega (arith, c .before .before .bucket2 .ensures, c .before .before .before .before .before .before .before .before .pre .table)
 
--- src/lib.rt:150:20
 shared-slice-read-from : tie.Need-shared-slice-read-from Inv-loop μ-loop
 shared-slice-read-from c = let t = bucket-top (c .before .before .before .before .before .before .before .before .before .args .ix) (c .before .before .before .before .before .before .before .before .before .args .m .x1) in omega (arith, c .before .before .before .bucket2 .ensures, c .before .before .before .before .before .before .before .before .before .pre .table)
 
--- src/lib.rt:151:25
 add-to : tie.Need-add-to Inv-loop μ-loop
 add-to c = let t = bucket-top (c .before .before .before .before .before .before .before .before .before .args .ix) (c .before .before .before .before .before .before .before .before .before .args .m .x1) in omega (arith, c .before .before .before .bucket2 .ensures)
 
--- src/lib.rt:151:18
 mul-to : tie.Need-mul-to Inv-loop μ-loop
 mul-to c = let t = bucket-top (c .before .before .before .before .before .before .before .before .before .args .ix) (c .before .before .before .before .before .before .before .before .before .args .m .x1) in omega (arith, c .before .before .before .bucket2 .ensures, c .before .before .before .before .before .before .before .before .before .pre .table)
 
--- src/lib.rt:151:18
 shared-slice-read-to : tie.Need-shared-slice-read-to Inv-loop μ-loop
 shared-slice-read-to c = let t = bucket-top (c .before .before .before .before .before .before .before .before .before .before .args .ix) (c .before .before .before .before .before .before .before .before .before .before .args .m .x1) in omega (arith, c .before .before .before .before .bucket2 .ensures, c .before .before .before .before .before .before .before .before .before .before .pre .table)
 
--- src/lib.rt:152:9
 list-entries-requires : tie.Need-list-entries-requires Inv-loop μ-loop
 list-entries-requires c κs = let t = bucket-top (c .before .before .before .before .before .before .before .before .before .before .before .args .ix) (c .before .before .before .before .before .before .before .before .before .before .before .args .m .x1) in
     let k : c .before .before .before .before .loop .b < 512 = omega (arith, c .before .before .before .before .before .bucket2 .ensures) in
     (c .before .before .before .before .before .before .before .before .before .before .before .pre .within (c .before .before .before .before .loop .b + 1) (omega arith), c .before .before .before .before .before .before .before .before .before .before .before .pre .strips (c .before .before .before .before .loop .b) k)
 
--- src/lib.rt:153:9
 add-b : tie.Need-add-b Inv-loop μ-loop
 add-b c = let t = bucket-top (c .before .before .before .before .before .before .before .before .before .before .before .before .before .before .args .ix) (c .before .before .before .before .before .before .before .before .before .before .before .before .before .before .args .m .x1) in omega (arith, c .before .before .before .before .before .before .before .before .bucket2 .ensures)
 
--- src/lib.rt:149:5
 loop-less : tie.Need-loop-less Inv-loop μ-loop
 loop-less c = omega arith
 
--- src/lib.rt:149:5
 loop-again : tie.Need-loop-again Inv-loop μ-loop
 unfolding listBucket
 loop-again c = let l = c .before .before .before .before .before .before .before in
@@ -87,11 +75,9 @@ loop-again c = let l = c .before .before .before .before .before .before .before
       turn (listBucket (g .ix) (g .m) (c .before .before .before .before .before .before .before .before .before .bucket .result) (g .standing .now) (g .entries .now) (g .starts .now)) (l .loop .room) _ (l .loop .n) _ (c .before .before .before .before .before .before .before .before .bucket2 .result + 1) (l .loop .b) _ (omega arith) E (l .loop .inv .1),
     )
 
--- src/lib.rt:141:1
 same-length : tie.Need-same-length Inv-loop μ-loop
 same-length c = c .before .loop .inv .0
 
--- src/lib.rt:141:1
 returns : tie.Need-returns Inv-loop μ-loop
 unfolding listMoving
 returns c = let l = c .before in

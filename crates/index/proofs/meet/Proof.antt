@@ -15,7 +15,7 @@ use Rattle.index.specs.declared.Meeting.{Meeting}
 use Rattle.index.specs.declared.Meeting.the-variants.{Apart, Forbidden}
 use Rattle.index.specs.Buckets.{buckets, upFrom, indexOf, bucketIn}
 use Rattle.index.specs.Intervals.{intervalOf, countsOf}
-use Rattle.index.specs.Listing.{movingOf, heightsOf, meetingAt, pairOf, Collected, collected, push, pushAll, metIn, entryOf, listEntries, listBucket, listMoving, listed, Usable}
+use Rattle.index.specs.inner.Listing.{movingOf, heightsOf, meetingAt, pairOf, Collected, collected, push, pushAll, metIn, entryOf, listEntries, listBucket, listMoving, listed, Usable}
 use Rattle.index.proofs.Steps.{meeting-apart, meeting-over, pair-none, pair-counts, pair-counts-not, pushAll-one, pushAll-none, entry-true, entry-false, push-true, push-false, kept-length, over-end, turn, bucket-top}
 use borrow.Author.Needs.{needs}
 use Rattle.index.proofs.meet.Statement.{statement}
@@ -26,42 +26,33 @@ use Rattle.index.proofs.counts.Reads as counts-reads
 use Rattle.index.proofs.forbidden.Reads as forbidden-reads
 use Rattle.index.proofs.push.Reads as push-reads
 
--- src/lib.rt:159:33
 forbidden-requires : tie.Need-forbidden-requires
 forbidden-requires c κs = search needs
 
--- src/lib.rt:159:28
 enum-known-i : tie.Need-enum-known-i
 enum-known-i c = search needs
 
--- src/lib.rt:160:9
 enum-told : tie.Need-enum-told
 enum-told c = search needs
 
--- src/lib.rt:160:9
 returns : tie.Need-returns
 returns c = let g = c .before .before .before .before .args in
     sym (ap (pushAll (collected (g .room .now) (g .n))) (pair-none (g .m) (g .p) (sym (c .before .before .forbidden .ensures) ∙ c .enum-told .given .1)) ∙ pushAll-none (collected (g .room .now) (g .n)))
 
--- src/lib.rt:162:8
 counts-requires : tie.Need-counts-requires
 counts-requires c κs = search needs
 
--- src/lib.rt:163:9
 push-requires : tie.Need-push-requires
 push-requires c κs = search needs
 
--- src/lib.rt:163:9
 same-length : tie.Need-same-length
 same-length c = search needs
 
--- src/lib.rt:163:9
 returns-2 : tie.Need-returns-2
 returns-2 c = let g = c .before .before .before .before .before .before .before .before .before .before .before .args in
     let i = c .before .before .before .before .before .before .before .i .given .0 .0 in
     c .before .before .push .ensures ∙ sym (ap (pushAll (collected (g .room .now) (g .n))) (pair-counts (g .m) (g .p) i (sym (c .before .before .before .before .before .before .before .before .before .forbidden .ensures) ∙ c .before .before .before .before .before .before .before .i .given .1) (sym (c .before .before .before .before .before .counts .ensures) ∙ c .before .before .before .before .if1 .taken)) ∙ pushAll-one (collected (g .room .now) (g .n)) i)
 
--- src/lib.rt:156:1
 returns-3 : tie.Need-returns-3
 returns-3 c = let g = c .before .before .before .before .before .before .before .args in
     let i = c .before .before .before .i .given .0 .0 in

@@ -15,7 +15,7 @@ use Rattle.index.specs.declared.Meeting.{Meeting}
 use Rattle.index.specs.declared.Meeting.the-variants.{Apart, Forbidden}
 use Rattle.index.specs.Buckets.{buckets, upFrom, indexOf, bucketIn}
 use Rattle.index.specs.Intervals.{intervalOf, countsOf}
-use Rattle.index.specs.Listing.{movingOf, heightsOf, meetingAt, pairOf, Collected, collected, push, pushAll, metIn, entryOf, listEntries, listBucket, listMoving, listed, Usable}
+use Rattle.index.specs.inner.Listing.{movingOf, heightsOf, meetingAt, pairOf, Collected, collected, push, pushAll, metIn, entryOf, listEntries, listBucket, listMoving, listed, Usable}
 use Rattle.index.proofs.Steps.{meeting-apart, meeting-over, pair-none, pair-counts, pair-counts-not, pushAll-one, pushAll-none, entry-true, entry-false, push-true, push-false, kept-length, over-end, turn, bucket-top}
 use borrow.Author.Needs.{needs}
 use borrow.Author.Tests.{eq-eqb, ne-eqb}
@@ -26,40 +26,32 @@ use Rattle.index.proofs.meet_once.Lts as lts
 use Rattle.index.proofs.Index.bucket.Reads as bucket-reads
 use Rattle.index.proofs.meet.Reads as meet-reads
 
--- src/lib.rt:112:9
 meet-requires : tie.Need-meet-requires
 meet-requires c κs = search needs
 
--- src/lib.rt:112:9
 same-length : tie.Need-same-length
 same-length c = search needs
 
--- src/lib.rt:112:9
 returns : tie.Need-returns
 unfolding metIn
 returns c = let g = c .before .before .before .before .before .before .args in
     c .before .before .meet .ensures ∙ sym (ap (pushAll (collected (g .room .now) (g .n))) (entry-true (g .ix) (g .m) (g .first) (g .b) (g .p) (rw (eq-eqb (g .b) (g .first) (c .before .before .before .before .if1 .taken)))))
 
--- src/lib.rt:114:8
 bucket-requires : tie.Need-bucket-requires
 bucket-requires c κs = search needs
 
--- src/lib.rt:115:9
 meet-requires-2 : tie.Need-meet-requires-2
 meet-requires-2 c κs = search needs
 
--- src/lib.rt:115:9
 same-length-2 : tie.Need-same-length-2
 same-length-2 c = search needs
 
--- src/lib.rt:115:9
 returns-2 : tie.Need-returns-2
 unfolding metIn
 returns-2 c = let g = c .before .before .before .before .before .before .before .before .args in
     let e = ne-eqb (g .b) (g .first) (c .before .before .before .before .before .before .if1 .left) in
     c .before .before .meet2 .ensures ∙ sym (ap (pushAll (collected (g .room .now) (g .n))) (entry-true (g .ix) (g .m) (g .first) (g .b) (g .p) (rw (e, eq-eqb (bucketIn (g .ix) (g .p .x0)) (g .b) (sym (c .before .before .before .before .before .bucket .ensures) ∙ c .before .before .before .before .if2 .taken)))))
 
--- src/lib.rt:108:1
 returns-3 : tie.Need-returns-3
 unfolding metIn
 returns-3 c = let g = c .before .before .before .before .args in

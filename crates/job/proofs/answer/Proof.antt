@@ -1,7 +1,7 @@
 -- `job::answer` meets its contract. Assumes nothing.
 use mathlib.Core.Path.{sym, ap}
 use Rattle.job.specs.declared.Judged.{Judged}
-use Rattle.job.specs.Meaning.{answered}
+use Rattle.job.specs.inner.Meaning.{answered}
 use borrow.Author.Needs.{needs}
 use Rattle.job.proofs.answer.Statement.{statement}
 use Rattle.job.proofs.answer.Tie as tie

@@ -2,7 +2,7 @@
 use mathlib.Core.Path.{ap, _∙_}
 use Prim.Native.Nat.{_+_, _-_, _*_, _/_}
 use Rattle.bits.specs.declared.Taken.{Taken}
-use Rattle.bits.specs.Answers.{taken}
+use Rattle.bits.specs.inner.Answers.{taken}
 use Rattle.job.proofs.Whole.{ended-more, ended-less, ended-same, ended-never}
 use borrow.Author.Needs.{needs}
 use Rattle.job.proofs.fills_last_byte.Statement.{statement}

@@ -7,7 +7,7 @@ use Rattle.bits.specs.declared.Taken.{Taken}
 use Rattle.bits.specs.declared.Counted.{Counted}
 use Rattle.bits.specs.declared.Measured.{Measured}
 use Rattle.bits.specs.Fields.{counted, measured}
-use Rattle.bits.specs.Answers.{countOf, taken}
+use Rattle.bits.specs.inner.Answers.{countOf, taken}
 use Rattle.job.proofs.Headers.{front-1, front-2, front-3, front-4, front-in}
 use borrow.Author.Needs.{needs}
 use Rattle.job.proofs.read_front.Statement.{statement}

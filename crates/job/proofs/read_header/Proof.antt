@@ -1,7 +1,7 @@
 -- `job::read_header` meets its contract. Assumes nothing.
 use mathlib.Core.Path.{ap, _∙_}
 use Rattle.bits.specs.declared.Taken.{Taken}
-use Rattle.bits.specs.Answers.{taken}
+use Rattle.bits.specs.inner.Answers.{taken}
 use Rattle.job.proofs.Headers.{header-end, header-one, header-other}
 use borrow.Author.Needs.{needs}
 use Rattle.job.proofs.read_header.Statement.{statement}

@@ -5,19 +5,19 @@ use native.Mathlib.Omega.{arith}
 use mathlib.Core.Path.{ap, _∙_, subst}
 use Prim.Native.Nat.{_+_, _-_, _*_}
 use lib.ListN.{take}
-use Rattle.sets.specs.declared.SetRead.{SetRead}
+use Rattle.kinds.specs.declared.sets.SetRead.{SetRead}
 use Rattle.job.specs.declared.HeaderRead.{HeaderRead}
 use Rattle.kinds.specs.declared.KindsRead.{KindsRead}
-use Rattle.sets.specs.Answers.{setRead, setFits}
-use Rattle.kinds.specs.Tables.{kindsRead, kindsFit}
-use Rattle.job.specs.Meaning.{headerRead, headerFits}
+use Rattle.kinds.specs.sets.inner.Answers.{setRead, setFits}
+use Rattle.kinds.specs.inner.Tables.{kindsRead, kindsFit}
+use Rattle.job.specs.inner.Meaning.{headerRead, headerFits}
 use Rattle.kinds.proofs.Tables.{found-is}
 use borrow.Author.Needs.{needs}
 use Rattle.job.proofs.read_job.Statement.{statement}
 use Rattle.job.proofs.read_job.Tie as tie
 
 read-header-requires : tie.Need-read-header-requires
-read-header-requires c κs = search needs
+read-header-requires c κs = tt
 
 enum-known-h : tie.Need-enum-known-h
 enum-known-h c = search needs
@@ -78,7 +78,7 @@ judge-end-requires c κs =
     omega (arith, b .0, b .1, d .2, k .1)
 
 answer-requires : tie.Need-answer-requires
-answer-requires c κs = search needs
+answer-requires c κs = tt
 
 enum-known-k : tie.Need-enum-known-k
 enum-known-k c = search needs

@@ -6,7 +6,7 @@ use Rattle.bits.specs.declared.Taken.{Taken}
 use Rattle.bits.specs.declared.Counted.{Counted}
 use Rattle.bits.specs.declared.Measured.{Measured}
 use Rattle.bits.specs.Fields.{counted, measured}
-use Rattle.bits.specs.Answers.{countOf, taken}
+use Rattle.bits.specs.inner.Answers.{countOf, taken}
 use Rattle.kinds.proofs.Heads.{head-1, head-2, head-3, head-4, head-5, head-in}
 use borrow.Author.Needs.{needs}
 use Rattle.kinds.proofs.read_head.Statement.{statement}

@@ -2,10 +2,10 @@
 use native.Mathlib.Omega.{arith}
 use mathlib.Core.Path.{refl, ap, _∙_, subst}
 use Prim.Native.Nat.{_+_, _-_, _*_, _≤_}
-use Rattle.sets.specs.declared.Run.{Run}
+use Rattle.kinds.specs.declared.sets.Run.{Run}
 use Rattle.kinds.specs.declared.HeadRead.{HeadRead}
-use Rattle.sets.specs.Answers.{runRead, runFits}
-use Rattle.kinds.specs.Tables.{headRead, headFits, orientationsOf}
+use Rattle.kinds.specs.sets.inner.Answers.{runRead, runFits}
+use Rattle.kinds.specs.inner.Tables.{headRead, headFits, orientationsOf}
 use Rattle.kinds.proofs.Tables.{kind-head, kind-sets, kind-in}
 use borrow.Author.Needs.{needs}
 use Rattle.kinds.proofs.read_kind.Statement.{statement}

@@ -4,7 +4,7 @@ use native.Mathlib.Omega.{arith}
 use mathlib.Core.Path.{ap, _∙_, subst}
 use Prim.Native.Nat.{_+_, _-_}
 use Rattle.kinds.specs.declared.KindRead.{KindRead}
-use Rattle.kinds.specs.Tables.{kindRead, kindFits}
+use Rattle.kinds.specs.inner.Tables.{kindRead, kindFits}
 use Rattle.kinds.proofs.Rows.{KindsTo, kinds-start, kinds-on, kinds-end, kinds-all}
 use Rattle.kinds.proofs.read_kinds.Statement.{statement}
 use Rattle.kinds.proofs.read_kinds.Tie as tie

@@ -3,8 +3,8 @@ use native.Mathlib.Omega.{arith}
 use mathlib.Core.Path.{refl, ap, _∙_, subst}
 use Prim.Native.Nat.{_+_, _-_, _*_, _≤_}
 use lib.ListN.{length-set}
-use Rattle.sets.specs.declared.SetRead.{SetRead}
-use Rattle.sets.specs.Answers.{setRead, setFits}
+use Rattle.kinds.specs.declared.sets.SetRead.{SetRead}
+use Rattle.kinds.specs.sets.inner.Answers.{setRead, setFits}
 use Rattle.kinds.proofs.Tables.{orientation-apart, orientation-inset, orientation-in, below-kept}
 use borrow.Author.Needs.{needs}
 use Rattle.kinds.proofs.read_orientation.Statement.{statement}

@@ -3,9 +3,9 @@ use borrow.Author.Needs.{needs}
 use native.Mathlib.Omega.{arith}
 use mathlib.Core.Path.{ap, _∙_, subst}
 use Prim.Native.Nat.{_+_, _-_, _*_}
-use Rattle.sets.specs.declared.Run.{Run}
-use Rattle.sets.specs.Answers.{runRead, runFits}
-use Rattle.kinds.specs.Tables.{orientationAt}
+use Rattle.kinds.specs.declared.sets.Run.{Run}
+use Rattle.kinds.specs.sets.inner.Answers.{runRead, runFits}
+use Rattle.kinds.specs.inner.Tables.{orientationAt}
 use Rattle.kinds.proofs.Tables.{take-less, OrientationsTo, orientations-start, orientations-on, orientations-end, orientations-all}
 use Rattle.kinds.proofs.read_orientations.Statement.{statement}
 use Rattle.kinds.proofs.read_orientations.Tie as tie

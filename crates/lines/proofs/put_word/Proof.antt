@@ -3,7 +3,7 @@ use Prim.Native.Nat.{_-_, _≤_}
 use native.Mathlib.Omega.{arith}
 use lib.ListN.{length, take}
 use lib.Seq.{length-take-le}
-use Rattle.lines.specs.Writing.{Wrote}
+use Rattle.lines.specs.inner.Writing.{Wrote}
 use Rattle.lines.proofs.Appending.{wrote-none, word-next, word-end}
 use Rattle.lines.proofs.put_word.Statement.{statement}
 use Rattle.lines.proofs.put_word.Tie as tie

@@ -5,7 +5,7 @@ use native.Mathlib.Omega.{arith}
 use lib.ListN.{length, getD}
 use Rattle.index.proofs.Steps.{kept-length}
 use Rattle.look.specs.Looking.{countedIn}
-use Rattle.look.specs.Ready.{Lookable, answerOf, lookOf}
+use Rattle.look.specs.inner.Ready.{Lookable, answerOf, lookOf}
 use Rattle.look.proofs.Answering.{lists, holds-finite, refused, seen, look-perm, look-finite, sheet-usable, placed-usable, both-pushed}
 use borrow.Author.Needs.{needs}
 use Rattle.look.proofs.look_at.Statement.{statement}
@@ -13,7 +13,7 @@ use Rattle.look.proofs.look_at.Tie as tie
 use Rattle.look.proofs.look_at.Reads as reads
 use Rattle.look.proofs.look_at.Lts as lts
 use Rattle.index.proofs.Index.forbidden.Reads as forbidden-reads
-use Rattle.height.proofs.height.Reads as height-reads
+use Rattle.look.proofs.height.height.Reads as height-reads
 
 forbidden-requires : tie.Need-forbidden-requires
 forbidden-requires c κs =

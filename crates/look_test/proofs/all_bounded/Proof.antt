@@ -3,7 +3,7 @@ use Prim.Native.Nat.{ℕ, _-_, _≤_, _<_}
 use native.Mathlib.Omega.{arith}
 use lib.ListN.{length, getD}
 use lib.Ieee.{nan}
-use Rattle.index.specs.Listing.{Bounded}
+use Rattle.index.specs.inner.Listing.{Bounded}
 use mathlib.Core.Path.{sym, subst}
 use lib.Dec.{T}
 use Rattle.look_test.proofs.Tested.{one-more, all-strips}

@@ -2,7 +2,7 @@ use mathlib.Core.Path.{_≡_, refl, subst}
 use Prim.Native.Nat.{ℕ, _+_, _-_, _≤_}
 use native.Mathlib.Omega.{arith}
 use lib.ListN.{length, length-set}
-use Rattle.moves.specs.Moves.{Moved}
+use Rattle.moves.specs.inner.Moves.{Moved}
 use Rattle.moves.proofs.MovedUp.{moved-start, moved-four}
 use Rattle.moves.proofs.move_fours.Statement.{statement}
 use Rattle.moves.proofs.move_fours.Tie as tie

@@ -1,7 +1,7 @@
 use mathlib.Core.Path.{_≡_, subst}
 use Prim.Native.Nat.{ℕ, _+_, _-_, _≤_}
 use native.Mathlib.Omega.{arith}
-use Rattle.moves.specs.Moves.{Moved}
+use Rattle.moves.specs.inner.Moves.{Moved}
 use Rattle.moves.proofs.MovedUp.{moved-start, moved-step}
 use Rattle.moves.proofs.move_ones.Statement.{statement}
 use Rattle.moves.proofs.move_ones.Tie as tie

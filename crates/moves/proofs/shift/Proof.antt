@@ -2,7 +2,7 @@ use mathlib.Core.Path.{_≡_, refl, subst}
 use Prim.Native.Nat.{ℕ, _-_, _≤_}
 use native.Mathlib.Omega.{arith}
 use lib.ListN.{length}
-use Rattle.moves.specs.Moves.{Shifted}
+use Rattle.moves.specs.inner.Moves.{Shifted}
 use Rattle.moves.proofs.MovedUp.{shifted-start, shifted-step}
 use Rattle.moves.proofs.shift.Statement.{statement}
 use Rattle.moves.proofs.shift.Tie as tie

@@ -2,7 +2,7 @@
 use mathlib.Core.Path.{_∙_}
 use Rattle.numbers.specs.Numbers.{posZero}
 use Rattle.nesting.specs.Nest.{nestOf}
-use Rattle.readied.proofs.Left.{zeros-after, together}
+use Rattle.report.proofs.readied.Left.{zeros-after, together}
 use Rattle.nest.proofs.Whole.{nest-zero}
 use Rattle.nest.proofs.nest.Statement.{statement}
 use Rattle.nest.proofs.nest.Tie as tie

@@ -2,8 +2,8 @@
 use native.Mathlib.Nat.{le-of-eq}
 use mathlib.Core.Path.{sym, _∙_}
 use Rattle.job.proofs.Whole.{read-as}
-use Rattle.step.specs.Going.{rooms}
-use Rattle.step_job.proofs.Opening.{read-refused, read-accepted, opened}
+use Rattle.step.specs.inner.Going.{rooms}
+use Rattle.step.proofs.step_job.Opening.{read-refused, read-accepted, opened}
 use Rattle.next_copy.proofs.next_copy.Statement.{statement}
 use Rattle.next_copy.proofs.next_copy.Tie as tie
 

@@ -3,8 +3,8 @@ use mathlib.Core.Path.{refl}
 use native.Mathlib.Omega.{arith}
 use Prim.Native.Nat.{_/_, _+_, _-_, _*_}
 use lib.ListN.{length, take}
-use Rattle.tracks.specs.Tracks.{nextColumns, lookCounts}
-use Rattle.choose.specs.Choosing.{worldIn}
+use Rattle.rooms.specs.tracks.inner.Tracks.{nextColumns, lookCounts}
+use Rattle.choose.specs.inner.Choosing.{surroundingsIn}
 use Rattle.place.proofs.Readying.{ready-of}
 use Rattle.place.proofs.Putting.{chosen-among, settled-under, place-is, prefix-length}
 use borrow.Author.Needs.{needs}
@@ -38,7 +38,7 @@ choose-requires c κs =
     let c17 = c16 .before in
     let a = c17 .args in
     let p = c17 .pre in
-    let w = worldIn (length (a .room .now) / 2) (a .g) (a .inset-bounds .now) (a .parts .now) (a .shapes .now) (a .sheet .now)
+    let w = surroundingsIn (length (a .room .now) / 2) (a .g) (a .inset-bounds .now) (a .parts .now) (a .shapes .now) (a .sheet .now)
     (take (6 * a .t .«placed_strips») (a .placed .now)) in (
       (λ o h. ready-of (a .g .index) (a .placed .now) (a .t .«placed_strips») (a .entries .now) (a .starts .now) (p .4) w (a .sheet-entries .now)
           (a .sheet-starts .now)
@@ -56,7 +56,7 @@ settle-requires c κs =
     let c26 = c24 .before .before in
     let a = c26 .args in
     let p = c26 .pre in
-    let w = worldIn (length (a .room .now) / 2) (a .g) (a .inset-bounds .now) (a .parts .now) (a .shapes .now) (a .sheet .now)
+    let w = surroundingsIn (length (a .room .now) / 2) (a .g) (a .inset-bounds .now) (a .parts .now) (a .shapes .now) (a .sheet .now)
     (take (6 * a .t .«placed_strips») (a .placed .now)) in (
       p .4 .laid,
       p .5,
@@ -92,7 +92,7 @@ returns c =
     let c33 = c17 .before .before .before .before .before .before .before .before .before .before .before .before .before .before .before .before in
     let c35 = c33 .before .before in
     let a = c35 .args in
-    let w = worldIn (length (a .room .now) / 2) (a .g) (a .inset-bounds .now) (a .parts .now) (a .shapes .now) (a .sheet .now)
+    let w = surroundingsIn (length (a .room .now) / 2) (a .g) (a .inset-bounds .now) (a .parts .now) (a .shapes .now) (a .sheet .now)
     (take (6 * a .t .«placed_strips») (a .placed .now)) in
     let C = c17 .choose .ensures in
     let E = c8 .settle .ensures in (

@@ -36,10 +36,10 @@ part-strips-of-end : tie.Need-part-strips-of-end
 part-strips-of-end c = search needs
 
 strips-of-requires : tie.Need-strips-of-requires
-strips-of-requires c κs = search needs
+strips-of-requires c κs = tt
 
 capacity-requires : tie.Need-capacity-requires
-capacity-requires c κs = search needs
+capacity-requires c κs = tt
 
 store-copy-requires : tie.Need-store-copy-requires
 store-copy-requires c κs =

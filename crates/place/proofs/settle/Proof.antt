@@ -4,7 +4,7 @@ use Prim.Native.Nat.{_-_, _*_}
 use lib.ListN.{take}
 use Rattle.choose.specs.declared.Winner.{Winner}
 use Rattle.place.specs.declared.Step.{Step}
-use Rattle.place.specs.Placing.{put, settleOf}
+use Rattle.place.specs.inner.Placing.{put, settleOf}
 use Rattle.place.proofs.Putting.{slot-fits, among-at, settle-at, without-laid}
 use borrow.Author.Needs.{needs}
 use Rattle.place.proofs.settle.Statement.{statement}
@@ -44,7 +44,7 @@ enum-told : tie.Need-enum-told
 enum-told c = search needs
 
 without-requires : tie.Need-without-requires
-without-requires c κs = search needs
+without-requires c κs = tt
 
 enum-told-2 : tie.Need-enum-told-2
 enum-told-2 c = search needs

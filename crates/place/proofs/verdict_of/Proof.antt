@@ -1,5 +1,5 @@
 use mathlib.Core.Path.{sym, ap}
-use Rattle.place.specs.Placing.{verdictOf}
+use Rattle.place.specs.inner.Placing.{verdictOf}
 use borrow.Author.Needs.{needs}
 use Rattle.place.proofs.verdict_of.Statement.{statement}
 use Rattle.place.proofs.verdict_of.Tie as tie

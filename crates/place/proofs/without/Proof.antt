@@ -1,5 +1,5 @@
 use borrow.Author.Needs.{needs}
-use Rattle.place.specs.Placing.{withoutOf}
+use Rattle.place.specs.inner.Placing.{withoutOf}
 use Rattle.place.proofs.without.Statement.{statement}
 use Rattle.place.proofs.without.Tie as tie
 use Rattle.place.proofs.without.Reads as reads

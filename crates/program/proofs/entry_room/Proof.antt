@@ -1,6 +1,6 @@
 -- `program::entry_room`: zeros, as many as the definition has. Assumes nothing.
 use mathlib.Core.Path.{refl}
-use Rattle.panel.specs.Program.{entryRoom}
+use Rattle.plan_text.specs.Program.{entryRoom}
 use Rattle.program.proofs.entry_room.Statement.{statement}
 use Rattle.program.proofs.entry_room.Tie as tie
 

@@ -1,7 +1,7 @@
 -- `program::interval_room`: zeros, as many as the definition has. Assumes nothing.
 use mathlib.Core.Path.{refl}
 use lib.Ieee.{ofBits}
-use Rattle.panel.specs.Program.{intervalRoom}
+use Rattle.plan_text.specs.Program.{intervalRoom}
 use Rattle.program.proofs.interval_room.Statement.{statement}
 use Rattle.program.proofs.interval_room.Tie as tie
 

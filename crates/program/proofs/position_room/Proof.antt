@@ -1,7 +1,7 @@
 -- `program::position_room`: zeros, as many as the definition has. Assumes nothing.
 use mathlib.Core.Path.{refl}
 use lib.Ieee.{ofBits}
-use Rattle.panel.specs.Program.{positionRoom}
+use Rattle.plan_text.specs.Program.{positionRoom}
 use Rattle.program.proofs.position_room.Statement.{statement}
 use Rattle.program.proofs.position_room.Tie as tie
 

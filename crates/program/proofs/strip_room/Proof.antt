@@ -1,7 +1,7 @@
 -- `program::strip_room`: zeros, as many as the definition has. Assumes nothing.
 use mathlib.Core.Path.{refl}
 use lib.Ieee.{ofBits}
-use Rattle.panel.specs.Program.{stripRoom}
+use Rattle.plan_text.specs.Program.{stripRoom}
 use Rattle.program.proofs.strip_room.Statement.{statement}
 use Rattle.program.proofs.strip_room.Tie as tie
 

@@ -4,7 +4,7 @@ use Rattle.search.proofs.Turns.{Goes, at-end, at-overflow, at-free, at-
 use native.Mathlib.Omega.{arith}
 use Prim.Native.Nat.{ℕ, _+_, _-_, _≤_, _<_, _^_}
 use mathlib.Core.Path.{sym, _∙_, refl, subst}
-use Rattle.tracks.specs.Tracks.{slotNumbers}
+use Rattle.rooms.specs.tracks.inner.Tracks.{slotNumbers}
 use Rattle.search.proofs.column_search.Statement.{statement}
 use Rattle.search.proofs.column_search.Tie as tie
 use Rattle.search.proofs.column_search.Reads as reads

@@ -1,8 +1,8 @@
 -- `column_step`: one look, and one more in its orientation's look count. Assumes nothing.
-use Rattle.search.specs.Searching.{answerAt}
+use Rattle.search.specs.inner.Searching.{answerAt}
 use Rattle.search.proofs.Turns.{counted-in}
-use Rattle.tracks.proofs.Fields.{field-at, first-kept}
-use Rattle.look.specs.Ready.{Lookable, lookOf}
+use Rattle.rooms.proofs.tracks.Fields.{field-at, first-kept}
+use Rattle.look.specs.inner.Ready.{Lookable, lookOf}
 use lib.Ieee.{Float}
 use lib.ListN.{length}
 use Prim.Native.Nat.{ℕ, _/_, _+_, _<_, _^_}
@@ -12,7 +12,7 @@ use Rattle.search.proofs.column_step.Statement.{statement}
 use Rattle.search.proofs.column_step.Tie as tie
 use Rattle.search.proofs.column_step.Reads as reads
 use Rattle.search.proofs.column_step.Lts as lts
-use Rattle.columns.proofs.Columns.x.Reads as x-reads
+use Rattle.search.proofs.columns.Columns.x.Reads as x-reads
 use Rattle.look.proofs.look_at.Reads as look-at-reads
 
 mul-row : tie.Need-mul-row

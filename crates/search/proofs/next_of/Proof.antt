@@ -1,5 +1,5 @@
 use Prim.Native.Nat.{_≤_}
-use Rattle.search.specs.Searching.{Within}
+use Rattle.search.specs.inner.Searching.{Within}
 use Rattle.search.specs.declared.Found.{Found}
 use native.Mathlib.Omega.{arith}
 use mathlib.Core.Path.{_≡_, sym, ap, _∙_, refl, subst}

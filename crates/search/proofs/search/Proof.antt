@@ -1,7 +1,7 @@
 -- `search`: one orientation, from its remembered column. Assumes nothing.
 use Rattle.search.proofs.Turns.{search-in}
-use Rattle.search.specs.Searching.{answerAt}
-use Rattle.tracks.specs.Tracks.{slotNumbers}
+use Rattle.search.specs.inner.Searching.{answerAt}
+use Rattle.rooms.specs.tracks.inner.Tracks.{slotNumbers}
 use lib.ListN.{length}
 use native.Mathlib.Omega.{arith}
 use Prim.Native.Nat.{ℕ, _/_, _+_, _-_, _≤_, _<_, _^_}
@@ -11,8 +11,8 @@ use Rattle.search.proofs.search.Statement.{statement}
 use Rattle.search.proofs.search.Tie as tie
 use Rattle.search.proofs.search.Reads as reads
 use Rattle.search.proofs.search.Lts as lts
-use Rattle.columns.proofs.Columns.last.Reads as last-reads
-use Rattle.columns.proofs.Columns.start.Reads as start-reads
+use Rattle.search.proofs.columns.Columns.last.Reads as last-reads
+use Rattle.search.proofs.columns.Columns.start.Reads as start-reads
 use Rattle.search.proofs.column_search.Reads as column-search-reads
 use Rattle.search.proofs.next_of.Reads as next-of-reads
 

@@ -10,8 +10,8 @@ use Rattle.shapes.proofs.lay_shapes.Statement.{statement}
 use Rattle.shapes.proofs.lay_shapes.Tie as tie
 use Rattle.shapes.proofs.lay_shapes.Reads as reads
 use Rattle.shapes.proofs.lay_shapes.Lts as lts
-use Rattle.slots.proofs.lay_bounds.Reads as lay-bounds-reads
-use Rattle.slots.proofs.lay_slots.Reads as lay-slots-reads
+use Rattle.shapes.proofs.slots.lay_bounds.Reads as lay-bounds-reads
+use Rattle.shapes.proofs.slots.lay_slots.Reads as lay-slots-reads
 
 slice-aggregate-lay-slots : tie.Need-slice-aggregate-lay-slots
 slice-aggregate-lay-slots c = search needs

@@ -1,6 +1,6 @@
 -- `slab::ahead` meets its contract. Assumes nothing.
 use Rattle.slab.specs.Slab.{ahead, positive}
-use Rattle.slab.specs.Tables.{crossingOf}
+use Rattle.slab.specs.inner.Tables.{crossingOf}
 use Rattle.slab.proofs.ahead.Statement.{statement}
 use Rattle.slab.proofs.ahead.Tie as tie
 

@@ -1,6 +1,6 @@
 -- `slab::before` meets its contract. Assumes nothing.
 use Rattle.slab.specs.Slab.{before}
-use Rattle.slab.specs.Tables.{crossingOf}
+use Rattle.slab.specs.inner.Tables.{crossingOf}
 use borrow.Author.Needs.{needs}
 use Rattle.slab.proofs.before.Statement.{statement}
 use Rattle.slab.proofs.before.Tie as tie

@@ -2,7 +2,7 @@
 use mathlib.Core.Path.{sym, _∙_}
 use borrow.Author.Needs.{needs}
 use Rattle.slab.proofs.Forward.{stays, goes}
-use Rattle.slab.specs.Tables.{crossingOf}
+use Rattle.slab.specs.inner.Tables.{crossingOf}
 use Rattle.slab.proofs.behind.Statement.{statement}
 use Rattle.slab.proofs.behind.Tie as tie
 

@@ -1,5 +1,5 @@
 -- `slab::edge_at` meets its contract. Assumes nothing.
-use Rattle.slab.specs.Tables.{edgeAt}
+use Rattle.slab.specs.inner.Tables.{edgeAt}
 use borrow.Author.Needs.{needs}
 use Rattle.slab.proofs.edge_at.Statement.{statement}
 use Rattle.slab.proofs.edge_at.Tie as tie

@@ -5,7 +5,7 @@ use mathlib.Core.Path.{_≡_, refl, _∙_}
 use denote.Ref.{now}
 use native.Mathlib.Omega.{arith}
 use Rattle.slab.proofs.Forward.{Gathered, forward-none, forward-on, forward-off, forward-all}
-use Rattle.slab.specs.Tables.{crossingAt, edgeAt}
+use Rattle.slab.specs.inner.Tables.{crossingAt, edgeAt}
 use borrow.Author.Needs.{needs}
 use Rattle.slab.proofs.gather_up.Statement.{statement}
 use Rattle.slab.proofs.gather_up.Tie as tie

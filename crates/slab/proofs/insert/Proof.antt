@@ -8,7 +8,7 @@ use native.Mathlib.Omega.{arith}
 use Rattle.slab.proofs.Rows.{insert-row, insert-row-last, stops}
 use Rattle.slab.proofs.Sorting.{over, over-start}
 use Rattle.slab.specs.Slab.{before, insert}
-use Rattle.slab.specs.Tables.{down, crossingOf, crossingAt}
+use Rattle.slab.specs.inner.Tables.{down, crossingOf, crossingAt}
 use borrow.Author.Needs.{needs}
 use Rattle.slab.proofs.insert.Statement.{statement}
 use Rattle.slab.proofs.insert.Tie as tie

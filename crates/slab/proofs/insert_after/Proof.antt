@@ -8,7 +8,7 @@ use native.Mathlib.Omega.{arith}
 use Rattle.slab.proofs.Forward.{after-row, after-row-last, after-stops}
 use Rattle.slab.proofs.Sorting.{over, over-start}
 use Rattle.slab.specs.Slab.{insert}
-use Rattle.slab.specs.Tables.{down, behind, crossingOf, crossingAt}
+use Rattle.slab.specs.inner.Tables.{down, behind, crossingOf, crossingAt}
 use borrow.Author.Needs.{needs}
 use Rattle.slab.proofs.insert_after.Statement.{statement}
 use Rattle.slab.proofs.insert_after.Tie as tie

@@ -4,7 +4,7 @@ use mathlib.Core.List.{List}
 use denote.Ref.{now}
 use lib.IntN.{pos}
 use Rattle.slab.specs.Slab.{walk, slab, Crossing}
-use Rattle.slab.specs.Tables.{hold}
+use Rattle.slab.specs.inner.Tables.{hold}
 use borrow.Author.Needs.{needs}
 use Rattle.slab.proofs.one_slab.Statement.{statement}
 use Rattle.slab.proofs.one_slab.Tie as tie

@@ -2,7 +2,7 @@
 use lib.ListN.{length-set}
 use mathlib.Core.Path.{refl}
 use native.Mathlib.Omega.{arith}
-use Rattle.slab.specs.Tables.{setRow}
+use Rattle.slab.specs.inner.Tables.{setRow}
 use borrow.Author.Needs.{needs}
 use Rattle.slab.proofs.put_row.Statement.{statement}
 use Rattle.slab.proofs.put_row.Tie as tie

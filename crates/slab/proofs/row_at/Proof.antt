@@ -1,5 +1,5 @@
 -- `slab::row_at` meets its contract. Assumes nothing.
-use Rattle.slab.specs.Tables.{rowAt}
+use Rattle.slab.specs.inner.Tables.{rowAt}
 use borrow.Author.Needs.{needs}
 use Rattle.slab.proofs.row_at.Statement.{statement}
 use Rattle.slab.proofs.row_at.Tie as tie

@@ -9,7 +9,7 @@ use mathlib.Core.Bool.{Bool, _&&_}
 use lib.IntN.{ℤ, pos, _-ℤ_, +ℤ-invr}
 use Rattle.slab.proofs.Walks.{wind-step, wind-last, turned-low, turned-high}
 use Rattle.slab.specs.Slab.{walk}
-use Rattle.slab.specs.Tables.{hold, down, crossingAt, zeroBits}
+use Rattle.slab.specs.inner.Tables.{hold, down, crossingAt, zeroBits}
 use borrow.Author.Needs.{needs}
 use Rattle.slab.proofs.wind.Statement.{statement}
 use Rattle.slab.proofs.wind.Tie as tie

@@ -6,9 +6,9 @@ use lib.ListN.{length, take, length-replicate}
 use lib.Seq.{length-take-le}
 use lib.Dec.{T}
 use borrow.Author.Needs.{length-unmapped}
-use Rattle.tracks.specs.Tracks.{nextColumns, lookCounts}
+use Rattle.rooms.specs.tracks.inner.Tracks.{nextColumns, lookCounts}
 use Rattle.filling_laws.proofs.Ready.{InDoubles}
-use Rattle.step.specs.Going.{rooms}
+use Rattle.step.specs.inner.Going.{rooms}
 use Rattle.step.proofs.After.{below}
 use Rattle.step.proofs.Allowed.{field-fit, six, kind-few, taken-few, sheet-within, apart-within, slots-few, turns-few}
 use Rattle.step.proofs.Allowed.{allowed-counts, allowed-fixed, allowed-standing}

@@ -8,10 +8,10 @@ use Rattle.step.proofs.taken.Statement.{statement}
 use Rattle.step.proofs.taken.Tie as tie
 use Rattle.step.proofs.taken.Reads as reads
 use Rattle.step.proofs.taken.Lts as lts
-use Rattle.next.proofs.number_of.Reads as number-of-reads
-use Rattle.next.proofs.x_of.Reads as x-of-reads
-use Rattle.next.proofs.y_of.Reads as y-of-reads
-use Rattle.tracks.proofs.read_numbers.Reads as read-numbers-reads
+use Rattle.place.proofs.next.number_of.Reads as number-of-reads
+use Rattle.place.proofs.next.x_of.Reads as x-of-reads
+use Rattle.place.proofs.next.y_of.Reads as y-of-reads
+use Rattle.rooms.proofs.tracks.read_numbers.Reads as read-numbers-reads
 
 slice-aggregate-read-numbers : tie.Need-slice-aggregate-read-numbers
 slice-aggregate-read-numbers c =

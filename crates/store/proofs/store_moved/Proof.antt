@@ -4,7 +4,7 @@ use borrow.Author.Needs.{needs}
 use Prim.Native.Nat.{ℕ, _/_, _+_, _-_, _*_, _≤_, _<_, _^_}
 use lib.ListN.{length, getD}
 use Rattle.trapezoid.specs.Strip.{capacity}
-use Rattle.store.specs.Storing.{movedTo}
+use Rattle.store.specs.inner.Storing.{movedTo}
 use Rattle.store.proofs.Whole.{moved-start, moved-next, moved-length, moved-end}
 use Rattle.store.proofs.store_moved.Statement.{statement}
 use Rattle.store.proofs.store_moved.Tie as tie

@@ -11,27 +11,21 @@ use Rattle.store.proofs.width_at.Reads as reads
 use Rattle.store.proofs.width_at.Lts as lts
 use Rattle.index.proofs.Index.bucket.Reads as bucket-reads
 
--- src/lib.rt:39:9
 bucket-requires : tie.Need-bucket-requires
 bucket-requires c κs = search needs
 
--- src/lib.rt:40:9
 bucket-requires-2 : tie.Need-bucket-requires-2
 bucket-requires-2 c κs = search needs
 
--- src/lib.rt:42:9
 returns : tie.Need-returns
 returns c = width-none (c .before .before .before .before .before .args .ix) (c .before .before .before .before .before .args .q) (c .before .before .before .before .before .args .x) _ _ (c .before .before .before .bucket .ensures) (c .before .bucket2 .ensures) (c .if1 .taken)
 
--- src/lib.rt:44:5
 add-result : tie.Need-add-result
 add-result c = record { fits = bucket-next (c .before .before .before .before .before .args .ix) _ _ (c .before .bucket2 .ensures) }
 
--- src/lib.rt:44:5
 sub-result : tie.Need-sub-result
 sub-result c = search needs
 
--- src/lib.rt:36:1
 returns-2 : tie.Need-returns-2
 returns-2 c = width-some (c .before .before .before .before .before .args .ix) (c .before .before .before .before .before .args .q) (c .before .before .before .before .before .args .x) _ _ (c .before .before .before .bucket .ensures) (c .before .bucket2 .ensures)
 

@@ -3,7 +3,7 @@ use mathlib.Core.Path.{ap, _∙_}
 use mathlib.Core.List.{List}
 use denote.Ref.{now}
 use Rattle.trapezoid.specs.declared.Trapezoid.{Trapezoid}
-use Rattle.slab.specs.Tables.{hold}
+use Rattle.slab.specs.inner.Tables.{hold}
 use Rattle.strips.proofs.SlabWalk.{strips-held}
 use borrow.Author.Needs.{needs}
 use Rattle.strips.proofs.add_strips.Statement.{statement}

@@ -4,7 +4,7 @@ use mathlib.Core.List.{List}
 use denote.Ref.{now}
 use Rattle.trapezoid.specs.declared.Trapezoid.{Trapezoid}
 use Rattle.slab.specs.Slab.{up}
-use Rattle.slab.specs.Tables.{edgeAt, hold}
+use Rattle.slab.specs.inner.Tables.{edgeAt, hold}
 use Rattle.strips.proofs.SlabWalk.{between-yes, between-no}
 use borrow.Author.Needs.{needs}
 use Rattle.strips.proofs.between.Statement.{statement}

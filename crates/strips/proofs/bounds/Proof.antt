@@ -47,7 +47,7 @@ shared-slice-read-py c = omega arith
 
 widened-requires : tie.Need-widened-requires Inv-loop μ-loop
 widened-requires c κs =
-    search needs
+    tt
 
 add-i : tie.Need-add-i Inv-loop μ-loop
 add-i c = omega arith

@@ -8,8 +8,8 @@ use denote.Ref.{now}
 use native.Mathlib.Omega.{arith}
 use Rattle.slab.specs.declared.Edge.{Edge}
 use Rattle.slab.specs.Slab.{up}
-use Rattle.slab.specs.Tables.{edgeAt}
-use Rattle.strips.specs.Tables.{slanted}
+use Rattle.slab.specs.inner.Tables.{edgeAt}
+use Rattle.strips.specs.inner.Tables.{slanted}
 use Rattle.strips.proofs.Slanted.{past-vertical, moved-slanted, rest-kept}
 use Rattle.strips.proofs.drop_vertical.Statement.{statement}
 use Rattle.strips.proofs.drop_vertical.Tie as tie

@@ -6,13 +6,13 @@ use mathlib.Core.List.{_++_}
 use denote.Ref.{now}
 use native.Mathlib.Omega.{arith}
 use Rattle.slab.specs.Slab.{up}
-use Rattle.slab.specs.Tables.{edgeAt}
+use Rattle.slab.specs.inner.Tables.{edgeAt}
 use Rattle.strips.proofs.EdgeTable.{loops-next, edges-next, loops-end, edges-end}
 use Rattle.strips.specs.Strips.{edges}
 use borrow.Author.Needs.{needs}
 use Rattle.strips.proofs.edges.Statement.{statement}
 use Rattle.strips.proofs.edges.Tie as tie
-use Rattle.strips.specs.Tables.{Loops}
+use Rattle.strips.specs.inner.Tables.{Loops}
 
 abbrev Inv-loop : tie.InvT-loop
 Inv-loop points n ends es₀ first₀ i₀ es first i =

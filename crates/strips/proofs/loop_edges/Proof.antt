@@ -7,7 +7,7 @@ use mathlib.Core.List.{List, _++_}
 use denote.Ref.{now}
 use native.Mathlib.Omega.{arith}
 use Rattle.slab.specs.Slab.{up}
-use Rattle.slab.specs.Tables.{edgeAt}
+use Rattle.slab.specs.inner.Tables.{edgeAt}
 use Rattle.strips.proofs.EdgeTable.{edge-step, loop-done, after-in}
 use Rattle.strips.specs.Strips.{loopEdges, edge}
 use borrow.Author.Needs.{needs}

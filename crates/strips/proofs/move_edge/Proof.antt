@@ -4,7 +4,7 @@ use mathlib.Core.Path.{refl}
 use lib.ListN.{getD}
 use lib.Dec.{lit≤}
 use lib.Ieee.{nan}
-use Rattle.slab.specs.Tables.{edgeAt, setEdge}
+use Rattle.slab.specs.inner.Tables.{edgeAt, setEdge}
 use Rattle.strips.proofs.Slots.{place-fits, byte-fits, first-of-six, one-of-six, all-stored, after-first, after-second, after-third, after-fourth, after-fifth}
 use Rattle.strips.proofs.move_edge.Statement.{statement}
 use Rattle.strips.proofs.move_edge.Tie as tie

@@ -3,7 +3,7 @@ use Prim.Native.Nat.{_+_, _*_}
 use lib.ListN.{getD}
 use lib.Dec.{lit≤}
 use lib.Ieee.{nan}
-use Rattle.slab.specs.Tables.{setEdge}
+use Rattle.slab.specs.inner.Tables.{setEdge}
 use Rattle.strips.specs.Strips.{edge, xOf, yOf}
 use Rattle.strips.proofs.Slots.{place-fits, byte-fits, first-of-six, one-of-six, all-stored, after-first, after-second, after-third, after-fourth, after-fifth, first-of-two, second-of-two}
 use Rattle.strips.proofs.put_edge.Statement.{statement}

@@ -4,11 +4,10 @@ use lib.ListN.{length}
 use mathlib.Core.Path.{_≡_, refl, ap, sym, _∙_}
 use denote.Ref.{now}
 use native.Mathlib.Omega.{arith}
-use borrow.Author.Needs.{needs}
 use Rattle.slab.specs.Slab.{up}
-use Rattle.slab.specs.Tables.{down, edgeAt, Held, hold}
-use Rattle.strips.specs.Strips.{distinct, slabs, between}
-use Rattle.sorting.proofs.Lines.{at}
+use Rattle.slab.specs.inner.Tables.{down, edgeAt, Held, hold}
+use Rattle.strips.specs.Strips.{distinct, slabs, stripsBetween}
+use Rattle.slab.proofs.xs.Lines.{at}
 use Rattle.strips.proofs.SlabWalk.{to-come, walk-start, walk-on, walk-past, walk-end}
 use Rattle.strips.proofs.slabs.Statement.{statement}
 use Rattle.strips.proofs.slabs.Tie as tie
@@ -44,7 +43,7 @@ shared-slice-read-xb c = omega arith
 
 apart-requires : tie.Need-apart-requires Inv-loop μ-loop
 apart-requires c κs =
-    search needs
+    tt
 
 between-requires : tie.Need-between-requires Inv-loop μ-loop
 between-requires c κs = omega arith

@@ -1,11 +1,11 @@
 -- `strips::slants` meets its contract. Assumes nothing.
-use Rattle.slab.specs.Tables.{edgeAt}
+use Rattle.slab.specs.inner.Tables.{edgeAt}
 use borrow.Author.Needs.{needs}
 use Rattle.strips.proofs.slants.Statement.{statement}
 use Rattle.strips.proofs.slants.Tie as tie
 
 apart-requires : tie.Need-apart-requires
-apart-requires c κs = search needs
+apart-requires c κs = tt
 
 returns : tie.Need-returns
 unfolding edgeAt

@@ -10,7 +10,7 @@ add-strips-requires : tie.Need-add-strips-requires
 add-strips-requires c κs = search needs
 
 capacity-requires : tie.Need-capacity-requires
-capacity-requires c κs = search needs
+capacity-requires c κs = tt
 
 sub-t24 : tie.Need-sub-t24
 sub-t24 c =

@@ -1,20 +1,19 @@
 -- `strips::widened` meets its contract. Assumes nothing.
 use Rattle.strips.specs.Strips.{widened}
-use borrow.Author.Needs.{needs}
 use Rattle.strips.proofs.widened.Statement.{statement}
 use Rattle.strips.proofs.widened.Tie as tie
 
 smaller-requires : tie.Need-smaller-requires
-smaller-requires c κs = search needs
+smaller-requires c κs = tt
 
 smaller-requires-2 : tie.Need-smaller-requires-2
-smaller-requires-2 c κs = search needs
+smaller-requires-2 c κs = tt
 
 larger-requires : tie.Need-larger-requires
-larger-requires c κs = search needs
+larger-requires c κs = tt
 
 larger-requires-2 : tie.Need-larger-requires-2
-larger-requires-2 c κs = search needs
+larger-requires-2 c κs = tt
 
 returns : tie.Need-returns
 unfolding widened

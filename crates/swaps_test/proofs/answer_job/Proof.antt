@@ -1,7 +1,7 @@
 -- `swaps_test::answer_job`: the job is read, then prepared; or its number. Assumes nothing.
 use native.Mathlib.Nat.{le-of-eq}
 use mathlib.Core.Path.{sym}
-use Rattle.readied.proofs.Reading.{read-into}
+use Rattle.report.proofs.readied.Reading.{read-into}
 use Rattle.swaps_test.proofs.answer_job.Statement.{statement}
 use Rattle.swaps_test.proofs.answer_job.Tie as tie
 

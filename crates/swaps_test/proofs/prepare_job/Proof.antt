@@ -1,6 +1,6 @@
 -- `swaps_test::prepare_job`: prepared in rooms that are zero, then searched; or the refusal. Assumes nothing.
 use mathlib.Core.Path.{refl, sym}
-use Rattle.readied.proofs.Preparing.{ready-given, ready-sheet, ready-shapes}
+use Rattle.report.proofs.readied.Preparing.{ready-given, ready-sheet, ready-shapes}
 use Rattle.swaps_test.proofs.Lent.{rooms-zero}
 use borrow.Author.Needs.{length-unmapped}
 use Rattle.swaps_test.proofs.prepare_job.Statement.{statement}

@@ -5,7 +5,7 @@ use mathlib.Core.Path.{_≡_, refl, sym, subst, _∙_}
 use lib.ListN.{length}
 use lib.Seq.{length-front}
 use Rattle.nesting.specs.CopyOrder.{copyOrder}
-use Rattle.search_plan.proofs.Ordered.{copies-upto, few-rounds, copies-arranged, order-within, order-count, order-arranged}
+use Rattle.swaps.proofs.search_plan.Ordered.{copies-upto, few-rounds, copies-arranged, order-within, order-count, order-arranged}
 use Rattle.swaps_test.proofs.search.Statement.{statement}
 use Rattle.swaps_test.proofs.search.Tie as tie
 

@@ -6,10 +6,10 @@ use mathlib.Core.Bool.{Bool}
 use mathlib.Core.List.{flatMap}
 use lib.ListN.{getD}
 use Rattle.index.specs.Buckets.{upFrom}
-use Rattle.lines.specs.Writing.{Wrote}
+use Rattle.lines.specs.inner.Writing.{Wrote}
 use Rattle.lines.proofs.Appending.{wrote-same}
 use Rattle.nesting.specs.Text.{fillLine}
-use Rattle.text.specs.Tables.{fillAt, fillsTo}
+use Rattle.text.specs.inner.Tables.{fillAt, fillsTo}
 use Rattle.text.proofs.ByKind.{lines-none, lines-next, fill-most}
 use Rattle.text.proofs.fill_lines.Statement.{statement}
 use Rattle.text.proofs.fill_lines.Tie as tie

@@ -3,7 +3,7 @@ use native.Mathlib.Omega.{arith}
 use mathlib.Core.List.{[], _∷_}
 use borrow.Author.Needs.{needs}
 use Rattle.nesting.specs.Text.{hex, line, rightWord, areaWord, offcutWord}
-use Rattle.lines.specs.Writing.{Wrote}
+use Rattle.lines.specs.inner.Writing.{Wrote}
 use Rattle.lines.proofs.Appending.{wrote-both, wrote-same}
 use Rattle.text.proofs.ByKind.{double-length, last-is}
 use Rattle.text.proofs.last_lines.Statement.{statement}

@@ -5,9 +5,9 @@ use mathlib.Core.Path.{_≡_, ap}
 use mathlib.Core.List.{flatMap}
 use lib.ListN.{getD}
 use Rattle.index.specs.Buckets.{upFrom}
-use Rattle.lines.specs.Writing.{Wrote}
+use Rattle.lines.specs.inner.Writing.{Wrote}
 use Rattle.lines.proofs.Appending.{wrote-same}
-use Rattle.text.specs.Tables.{looksOf, looksTo}
+use Rattle.text.specs.inner.Tables.{looksOf, looksTo}
 use Rattle.text.proofs.ByKind.{lines-none, lines-next}
 use Rattle.text.proofs.look_lines.Statement.{statement}
 use Rattle.text.proofs.look_lines.Tie as tie

@@ -5,10 +5,10 @@ use mathlib.Core.Path.{_≡_, ap}
 use mathlib.Core.List.{flatMap}
 use lib.ListN.{getD}
 use Rattle.index.specs.Buckets.{upFrom}
-use Rattle.lines.specs.Writing.{Wrote}
+use Rattle.lines.specs.inner.Writing.{Wrote}
 use Rattle.lines.proofs.Appending.{wrote-same}
 use Rattle.nesting.specs.Text.{lookWord}
-use Rattle.text.specs.Tables.{lookAt, looksOf}
+use Rattle.text.specs.inner.Tables.{lookAt, looksOf}
 use Rattle.text.proofs.ByKind.{lines-none, lines-next, triple-most}
 use Rattle.text.proofs.looks_of.Statement.{statement}
 use Rattle.text.proofs.looks_of.Tie as tie

@@ -5,7 +5,7 @@ use mathlib.Core.List.{[], _∷_}
 use borrow.Author.Needs.{needs}
 use Rattle.filling.specs.declared.Plan.{Plan}
 use Rattle.nesting.specs.Text.{decimal, line, planWord, planLine}
-use Rattle.lines.specs.Writing.{Wrote}
+use Rattle.lines.specs.inner.Writing.{Wrote}
 use Rattle.lines.proofs.Appending.{wrote-both}
 use Rattle.text.proofs.ByKind.{triple-most, text-is}
 use Rattle.text.proofs.plan_text.Statement.{statement}

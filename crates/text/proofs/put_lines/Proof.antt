@@ -4,10 +4,10 @@ use native.Mathlib.Omega.{arith}
 use mathlib.Core.Path.{_≡_, ap}
 use mathlib.Core.List.{flatMap}
 use Rattle.index.specs.Buckets.{upFrom}
-use Rattle.lines.specs.Writing.{Wrote}
+use Rattle.lines.specs.inner.Writing.{Wrote}
 use Rattle.lines.proofs.Appending.{wrote-same}
 use Rattle.nesting.specs.Text.{putLine, positionAt}
-use Rattle.text.specs.Tables.{putsTo}
+use Rattle.text.specs.inner.Tables.{putsTo}
 use Rattle.text.proofs.ByKind.{lines-none, lines-next, put-most}
 use Rattle.text.proofs.put_lines.Statement.{statement}
 use Rattle.text.proofs.put_lines.Tie as tie

@@ -4,7 +4,7 @@ use mathlib.Core.Path.{ap, _∙_}
 use mathlib.Core.List.{[], _∷_}
 use native.Mathlib.Omega.{arith}
 use Rattle.nesting.specs.Text.{decimal, line, noWord, refusalText}
-use Rattle.lines.specs.Writing.{Wrote}
+use Rattle.lines.specs.inner.Writing.{Wrote}
 use Rattle.text.proofs.ByKind.{count-most}
 use borrow.Author.Needs.{needs}
 use Rattle.text.proofs.refusal_text.Statement.{statement}

@@ -4,7 +4,7 @@ use lib.ListN.{length-set}
 use borrow.Author.Needs.{needs}
 use Rattle.trapezoid.proofs.store.Statement.{statement}
 use Rattle.trapezoid.proofs.store.Tie as tie
-use Rattle.trapezoid.specs.Writing.{setStrip}
+use Rattle.trapezoid.specs.inner.Writing.{setStrip}
 
 returns : tie.Need-returns
 unfolding setStrip

@@ -64,7 +64,7 @@ use Rattle.bits.proofs.BitReader.take.Key.{name as #bits·take}
 use Rattle.bits.proofs.BitReader.take as take
 use Rattle.bits.proofs.BitReader.take.Statement as stated
 use Rattle.bits.proofs.BitReader.take.Code as code
-use Rattle.bits.specs.Answers.{taken}
+use Rattle.bits.specs.inner.Answers.{taken}
 
 -- 'a, and the reader's type at it
 abbrev α : Lft → NamedLft

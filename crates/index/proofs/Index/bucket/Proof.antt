@@ -15,7 +15,7 @@ use Rattle.index.specs.declared.Meeting.{Meeting}
 use Rattle.index.specs.declared.Meeting.the-variants.{Apart, Forbidden}
 use Rattle.index.specs.Buckets.{buckets, upFrom, indexOf, bucketIn}
 use Rattle.index.specs.Intervals.{intervalOf, countsOf}
-use Rattle.index.specs.Listing.{movingOf, heightsOf, meetingAt, pairOf, Collected, collected, push, pushAll, metIn, entryOf, listEntries, listBucket, listMoving, listed, Usable}
+use Rattle.index.specs.inner.Listing.{movingOf, heightsOf, meetingAt, pairOf, Collected, collected, push, pushAll, metIn, entryOf, listEntries, listBucket, listMoving, listed, Usable}
 use Rattle.index.proofs.Steps.{meeting-apart, meeting-over, pair-none, pair-counts, pair-counts-not, pushAll-one, pushAll-none, entry-true, entry-false, push-true, push-false, kept-length, over-end, turn, bucket-top}
 use borrow.Author.Needs.{needs}
 use Rattle.index.proofs.Index.bucket.Statement.{statement}
@@ -24,20 +24,16 @@ use Rattle.index.proofs.Index.bucket.Reads as reads
 use Rattle.index.proofs.Index.bucket.Lts as lts
 use Rattle.numbers.proofs.floor.Reads as floor-reads
 
--- src/lib.rt:60:17
 floor-requires : tie.Need-floor-requires
 floor-requires c κs = search needs
 
--- src/lib.rt:62:13
 returns : tie.Need-returns
 unfolding bucketIn
 returns c = omega (arith, c .if1 .taken, c .before .floor .ensures)
 
--- src/lib.rt:64:9
 sub-result : tie.Need-sub-result
 sub-result c = search needs
 
--- src/lib.rt:57:5
 returns-2 : tie.Need-returns-2
 unfolding bucketIn
 returns-2 c = omega (arith, c .if1 .left, c .before .floor .ensures)

@@ -15,7 +15,7 @@ use Rattle.index.specs.declared.Meeting.{Meeting}
 use Rattle.index.specs.declared.Meeting.the-variants.{Apart, Forbidden}
 use Rattle.index.specs.Buckets.{buckets, upFrom, indexOf, bucketIn}
 use Rattle.index.specs.Intervals.{intervalOf, countsOf}
-use Rattle.index.specs.Listing.{movingOf, heightsOf, meetingAt, pairOf, Collected, collected, push, pushAll, metIn, entryOf, listEntries, listBucket, listMoving, listed, Usable}
+use Rattle.index.specs.inner.Listing.{movingOf, heightsOf, meetingAt, pairOf, Collected, collected, push, pushAll, metIn, entryOf, listEntries, listBucket, listMoving, listed, Usable}
 use Rattle.index.proofs.Steps.{meeting-apart, meeting-over, pair-none, pair-counts, pair-counts-not, pushAll-one, pushAll-none, entry-true, entry-false, push-true, push-false, kept-length, over-end, turn, bucket-top}
 use borrow.Author.Needs.{needs}
 use Rattle.index.proofs.Index.new.Statement.{statement}
@@ -24,16 +24,13 @@ use Rattle.index.proofs.Index.new.Reads as reads
 use Rattle.index.proofs.Index.new.Lts as lts
 use Rattle.numbers.proofs.larger.Reads as larger-reads
 
--- src/lib.rt:51:34
 int-to-float-share : tie.Need-int-to-float-share
 unfolding lib.Ieee.inFloat
 int-to-float-share c = search needs
 
--- src/lib.rt:52:13
 larger-requires : tie.Need-larger-requires
 larger-requires c κs = search needs
 
--- src/lib.rt:48:5
 returns : tie.Need-returns
 unfolding indexOf larger
 returns c = rw (c .larger .ensures)

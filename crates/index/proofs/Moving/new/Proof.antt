@@ -15,14 +15,13 @@ use Rattle.index.specs.declared.Meeting.{Meeting}
 use Rattle.index.specs.declared.Meeting.the-variants.{Apart, Forbidden}
 use Rattle.index.specs.Buckets.{buckets, upFrom, indexOf, bucketIn}
 use Rattle.index.specs.Intervals.{intervalOf, countsOf}
-use Rattle.index.specs.Listing.{movingOf, heightsOf, meetingAt, pairOf, Collected, collected, push, pushAll, metIn, entryOf, listEntries, listBucket, listMoving, listed, Usable}
+use Rattle.index.specs.inner.Listing.{movingOf, heightsOf, meetingAt, pairOf, Collected, collected, push, pushAll, metIn, entryOf, listEntries, listBucket, listMoving, listed, Usable}
 use Rattle.index.proofs.Steps.{meeting-apart, meeting-over, pair-none, pair-counts, pair-counts-not, pushAll-one, pushAll-none, entry-true, entry-false, push-true, push-false, kept-length, over-end, turn, bucket-top}
 use Rattle.index.proofs.Moving.new.Statement.{statement}
 use Rattle.index.proofs.Moving.new.Tie as tie
 use Rattle.index.proofs.Moving.new.Reads as reads
 use Rattle.index.proofs.Moving.new.Lts as lts
 
--- src/lib.rt:88:5
 returns : tie.Need-returns
 unfolding movingOf
 returns c = refl

@@ -1,0 +1,96 @@
+-- `accounts::verdicts::refusal_number` meets its contract. Assumes nothing.
+use mathlib.Core.Path.{sym, ap, _∙_}
+use Rattle.filling.specs.Refusals.{numberOf}
+use borrow.Author.Needs.{needs}
+use Rattle.accounts.proofs.verdicts.refusal_number.Statement.{statement}
+use Rattle.accounts.proofs.verdicts.refusal_number.Tie as tie
+
+enum-known-r : tie.Need-enum-known-r
+enum-known-r c = search needs
+
+refusal-number-requires : tie.Need-refusal-number-requires
+refusal-number-requires c κs = search needs
+
+enum-told : tie.Need-enum-told
+enum-told c = search needs
+
+enum-told-2 : tie.Need-enum-told-2
+enum-told-2 c = search needs
+
+enum-told-3 : tie.Need-enum-told-3
+enum-told-3 c = search needs
+
+enum-told-4 : tie.Need-enum-told-4
+enum-told-4 c = search needs
+
+enum-told-5 : tie.Need-enum-told-5
+enum-told-5 c = search needs
+
+enum-told-6 : tie.Need-enum-told-6
+enum-told-6 c = search needs
+
+enum-told-7 : tie.Need-enum-told-7
+enum-told-7 c = search needs
+
+enum-told-8 : tie.Need-enum-told-8
+enum-told-8 c = search needs
+
+returns : tie.Need-returns
+unfolding numberOf
+returns c = c .refusal-number .ensures ∙ ap numberOf (sym (c .before .before .r .given .1))
+
+returns-2 : tie.Need-returns-2
+unfolding numberOf
+returns-2 c = ap numberOf (sym (c .enum-told .given .1))
+
+returns-3 : tie.Need-returns-3
+unfolding numberOf
+returns-3 c = ap numberOf (sym (c .enum-told2 .given .1))
+
+returns-4 : tie.Need-returns-4
+unfolding numberOf
+returns-4 c = ap numberOf (sym (c .enum-told3 .given .1))
+
+returns-5 : tie.Need-returns-5
+unfolding numberOf
+returns-5 c = ap numberOf (sym (c .enum-told4 .given .1))
+
+returns-6 : tie.Need-returns-6
+unfolding numberOf
+returns-6 c = ap numberOf (sym (c .enum-told5 .given .1))
+
+returns-7 : tie.Need-returns-7
+unfolding numberOf
+returns-7 c = ap numberOf (sym (c .enum-told6 .given .1))
+
+returns-8 : tie.Need-returns-8
+unfolding numberOf
+returns-8 c = ap numberOf (sym (c .enum-told7 .given .1))
+
+returns-9 : tie.Need-returns-9
+unfolding numberOf
+returns-9 c = ap numberOf (sym (c .enum-told8 .given .1))
+
+pub refusal-number-spec : {M : Type 1} → statement M
+refusal-number-spec =
+    tie.close
+    (tie.spec
+    enum-known-r
+    refusal-number-requires
+    enum-told
+    enum-told-2
+    enum-told-3
+    enum-told-4
+    enum-told-5
+    enum-told-6
+    enum-told-7
+    enum-told-8
+    returns
+    returns-2
+    returns-3
+    returns-4
+    returns-5
+    returns-6
+    returns-7
+    returns-8
+    returns-9)

@@ -1,0 +1,2 @@
+pub mod EntryRoom
+pub mod Gaps

@@ -1,1 +1,0 @@
-// Laws of a filling in a given order, in proofs/ alone.

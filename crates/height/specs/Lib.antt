@@ -1,2 +1,0 @@
-pub mod Smallest
-pub mod Raising

@@ -1,0 +1,6 @@
+-- What a computed claim opens, of the definitions in specs/. Assumes nothing.
+use Rattle.look.specs.height.Smallest.{inside, outside, candidates, least, lowest, heightOf}
+
+unfoldable pub height-computes : Unit {0}
+unfolding inside outside candidates least lowest heightOf
+height-computes = tt

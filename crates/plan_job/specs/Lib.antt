@@ -1,0 +1,1 @@
+pub mod fill_job

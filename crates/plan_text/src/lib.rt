@@ -1,0 +1,62 @@
+// The public operation `plan_text`: the whole plan of a job as its printed text (document 01, "The
+// printed plan").
+ghost use mathlib.Core.Path.{_≡_};
+ghost use Prim.Native.Nat.{_≤_};
+ghost use mathlib.Core.List.{_++_};
+ghost use lib.ListN.{length, take, drop};
+ghost use Rattle.filling.specs.Rooms.{zeros, lentOf};
+ghost use Rattle.plan_text.specs.Told.{textReplyOf};
+use index::Entry;
+
+// Zeros from byte n on.
+pub fn zero_from(out: &mut [u8], n: usize)
+    requires { ⌜ n ≤ length (now out) ⌝ }
+    ensures { λ _. ⌜ now (out .exit) ≡ take n (now (out .entry)) ++ zeros 0 (drop n (now (out .entry))) ⌝ }
+{
+    let mut i = n;
+    while i < out.len() {
+        out[i] = 0;
+        i += 1;
+    }
+}
+
+// The plan of the job that the bytes are, or its refusal, as text in a buffer of at least 524,288
+// bytes: where the text ends. A shorter buffer: 0, and nothing is written anywhere.
+pub fn plan_text(
+    bytes: &[u8],
+    shapes: &mut [f64],
+    sheet: &mut [f64],
+    placed: &mut [f64],
+    sheet_entries: &mut [Entry],
+    placed_entries: &mut [Entry],
+    intervals: &mut [f64],
+    positions: &mut [f64],
+    out: &mut [u8],
+) -> usize
+    ensures { λ r. ⌜ record {
+      end = r;
+      out = now (out .exit);
+      lent = lentOf (now (shapes .exit)) (now (sheet .exit)) (now (placed .exit)) (now («sheet_entries» .exit)) (now («placed_entries» .exit))
+          (now (intervals .exit)) (now (positions .exit));
+    } ≡ textReplyOf (now (bytes .entry)) (now (out .entry)) (lentOf (now (shapes .entry)) (now (sheet .entry)) (now (placed .entry))
+        (now («sheet_entries» .entry)) (now («placed_entries» .entry)) (now (intervals .entry)) (now (positions .entry))) ⌝ }
+{
+    if out.len() < 524288 {
+        return 0;
+    }
+    let r = nest::nest(
+        bytes,
+        shapes,
+        sheet,
+        placed,
+        sheet_entries,
+        placed_entries,
+        intervals,
+        positions,
+    );
+    let verdict = r.verdict;
+    let plan = r.plan;
+    let n = text::printed::print_reply(bytes, verdict, plan, positions, out);
+    zero_from(out, n);
+    n
+}

@@ -1,0 +1,71 @@
+// The sheet's strips and their entries (document 01, "Then come the sheet's strips (20) and
+// entries (21)").
+ghost use mathlib.Core.Path.{_≡_};
+ghost use mathlib.Core.Bool.{true};
+ghost use Prim.Native.Nat.{ℕ, _+_};
+ghost use lib.ListN.{length, getD};
+ghost use Rattle.index.specs.Buckets.{buckets};
+ghost use Rattle.filling.specs.Shapes.{setBounds, setStrips};
+ghost use Rattle.prepare.specs.sheet.inner.SheetRoom.{SheetIs};
+ghost use Rattle.kinds.specs.sets.inner.Answers.{setAt};
+use index::Entry;
+use index::Index;
+use strips::Rect;
+use strips::Stored;
+
+// The sheet's bounds and how many strips it has; or refusal 20 or 21.
+pub enum SheetLaid {
+    Strips(Rect, usize),
+    NoStrips,
+    NoEntries,
+}
+
+// The strips of the set at a bit position and their entries go into the rooms, and the buckets'
+// starts into their table, which is zero. `gains` is a table of work.
+pub fn lay_sheet(
+    bytes: &[u8],
+    at: u32,
+    sheet: &mut [f64],
+    entries: &mut [Entry],
+    starts: &mut [usize],
+    gains: &mut [usize],
+) -> SheetLaid
+    requires { ⌜ (length (now starts) ≡ buckets + 1) × ((b : ℕ) → getD (now starts) b 0 ≡ 0) × (length (now gains) ≡ buckets) ⌝ }
+    ensures { λ r. ⌜ SheetIs r (setBounds (setAt (now (bytes .entry)) at)) (setStrips true (setAt (now (bytes .entry)) at)) (now (sheet .entry))
+        (now (sheet .exit)) (now (entries .entry)) (now (entries .exit)) (now (starts .exit)) ⌝ }
+{
+    let mut points = [0.0; 1024];
+    let mut ends = [0usize; 64];
+    let mut short = [0u16; 64];
+    let mut es = [0.0; 3072];
+    let mut crossings = [0.0; 1536];
+    let mut line = [0.0; 514];
+    let n = match shapes::set_strips::set_strips(
+        bytes,
+        at,
+        true,
+        &mut points,
+        &mut ends,
+        &mut short,
+        &mut es,
+        &mut crossings,
+        &mut line,
+        sheet,
+        0,
+    ) {
+        Stored::Count(n) => n,
+        Stored::NoRoom => {
+            return SheetLaid::NoStrips;
+        }
+    };
+    if n > index::STRIP_NUMBERS {
+        return SheetLaid::NoStrips;
+    }
+    let bounds = shapes::set_strips::set_bounds(bytes, at, &mut points, &mut ends);
+    let ix = Index::new(bounds.left, bounds.right);
+    let end = 6 * n;
+    if enter::enter_copy(ix, &sheet[..end], 0, n, entries, starts, gains) {
+        return SheetLaid::Strips(bounds, n);
+    }
+    SheetLaid::NoEntries
+}

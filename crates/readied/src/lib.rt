@@ -1,2 +1,0 @@
-// Laws: what is prepared in zeroed rooms is what a filling is given, and the rooms that a whole plan
-// leaves; in proofs/ alone.

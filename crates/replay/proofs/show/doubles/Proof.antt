@@ -1,0 +1,59 @@
+-- `replay::show::doubles` meets its contract. Assumes nothing.
+use Prim.Native.Nat.{_-_, _≤_}
+use borrow.Author.Needs.{needs}
+use lib.ListN.{length}
+use Rattle.replay.proofs.show.doubles.Statement.{statement}
+use Rattle.replay.proofs.show.doubles.Tie as tie
+
+abbrev Inv-loop : tie.InvT-loop
+Inv-loop a room i₀ i = i ≤ length room
+
+abbrev μ-loop : tie.MeasureT-loop
+μ-loop a room i₀ i = length room - i
+
+room-name-requires : tie.Need-room-name-requires Inv-loop μ-loop
+room-name-requires c κs = tt
+
+loop-holds : tie.Need-loop-holds Inv-loop μ-loop
+loop-holds c = search needs
+
+mul-double : tie.Need-mul-double Inv-loop μ-loop
+mul-double c = search needs
+
+shared-slice-read-double : tie.Need-shared-slice-read-double Inv-loop μ-loop
+shared-slice-read-double c = search needs
+
+double-requires : tie.Need-double-requires Inv-loop μ-loop
+double-requires c κs = tt
+
+add-i : tie.Need-add-i Inv-loop μ-loop
+add-i c = search needs
+
+loop-less : tie.Need-loop-less Inv-loop μ-loop
+loop-less c = search needs
+
+loop-again : tie.Need-loop-again Inv-loop μ-loop
+loop-again c = search needs
+
+end-requires : tie.Need-end-requires Inv-loop μ-loop
+end-requires c κs = tt
+
+returns : tie.Need-returns Inv-loop μ-loop
+returns c = search needs
+
+pub doubles-spec : {M : Type 1} → statement M
+doubles-spec =
+    tie.close
+    (tie.spec
+    Inv-loop
+    μ-loop
+    room-name-requires
+    loop-holds
+    mul-double
+    shared-slice-read-double
+    double-requires
+    add-i
+    loop-less
+    loop-again
+    end-requires
+    returns)

@@ -1,0 +1,105 @@
+use native.Mathlib.Nat.{le-of-eq}
+use mathlib.Core.Path.{sym}
+use borrow.Author.Needs.{length-unmapped}
+use Rattle.step.proofs.step_job.agree.Statement.{statement}
+use Rattle.step.proofs.step_job.agree.Tie as tie
+use Rattle.step.proofs.step_job.agree.Reads as reads
+use Rattle.step.proofs.step_job.agree.Lts as lts
+use Rattle.consistent.proofs.consistent.Reads as consistent-reads
+
+slice-aggregate-consistent : tie.Need-slice-aggregate-consistent
+slice-aggregate-consistent c =
+    let c16 = c .before .before .before .before .before .before .before .before .before .before .before .before .before .before .before .before in
+    let c17 = c16 .before in
+    let a = c17 .args in
+    let g = c17 .good .1 .1 .1 .0 .1 .1 in
+    let p = c17 .pre in
+    sym (length-unmapped _ (a .state .tables .«inset_bounds») 4096 (g .0 .1 .1 .1 .1 .1 .1 .0 .1 .0 .1))
+
+slice-aggregate-consistent-2 : tie.Need-slice-aggregate-consistent-2
+slice-aggregate-consistent-2 c =
+    let c16 = c .before .before .before .before .before .before .before .before .before .before .before .before .before .before .before .before in
+    let c18 = c16 .before .before in
+    let a = c18 .args in
+    let g = c18 .good .1 .1 .1 .0 .1 .1 in
+    let p = c18 .pre in
+    sym (length-unmapped _ (a .state .tables .parts) 4096 (g .0 .1 .1 .1 .1 .1 .1 .1 .0 .1 .0 .1))
+
+slice-aggregate-consistent-3 : tie.Need-slice-aggregate-consistent-3
+slice-aggregate-consistent-3 c =
+    let c16 = c .before .before .before .before .before .before .before .before .before .before .before .before .before .before .before .before in
+    let c19 = c16 .before .before .before in
+    let a = c19 .args in
+    let g = c19 .good .1 .1 .1 .0 .1 .1 in
+    let p = c19 .pre in
+    sym (length-unmapped _ (a .state .order) 4096 (g .1 .0 .1 .0 .1))
+
+slice-aggregate-consistent-4 : tie.Need-slice-aggregate-consistent-4
+slice-aggregate-consistent-4 c =
+    let c16 = c .before .before .before .before .before .before .before .before .before .before .before .before .before .before .before .before in
+    let c20 = c16 .before .before .before .before in
+    let a = c20 .args in
+    let g = c20 .good .1 .1 .1 .0 .1 .1 in
+    let p = c20 .pre in
+    sym (length-unmapped _ (a .state .«next_column») 1024 (g .1 .1 .1 .0 .1 .0 .1))
+
+slice-aggregate-consistent-5 : tie.Need-slice-aggregate-consistent-5
+slice-aggregate-consistent-5 c =
+    let c16 = c .before .before .before .before .before .before .before .before .before .before .before .before .before .before .before .before in
+    let c21 = c16 .before .before .before .before .before in
+    let a = c21 .args in
+    let g = c21 .good .1 .1 .1 .0 .1 .1 in
+    let p = c21 .pre in
+    sym (length-unmapped _ (a .state .«look_counts») 1024 (g .1 .1 .1 .1 .0 .1 .0 .1))
+
+consistent-requires : tie.Need-consistent-requires
+consistent-requires c κs =
+    let c16 = c .before .before .before .before .before .before .before .before .before .before .before .before .before .before .before .before in
+    let c23 = c16 .before .before .before .before .before .before .before in
+    let a = c23 .args in
+    let g = c23 .good .1 .1 .1 .0 .1 .1 in
+    let p = c23 .pre in (
+      p .0,
+      p .1,
+      p .2,
+      p .3,
+      le-of-eq (sym (length-unmapped _ (a .state .order) 4096 (g .1 .0 .1 .0 .1))),
+      le-of-eq
+          (sym (length-unmapped _ (a .state .tables .«inset_bounds») 4096 (g .0 .1 .1 .1 .1 .1 .1 .0 .1 .0 .1))),
+      le-of-eq
+          (sym (length-unmapped _ (a .state .tables .parts) 4096 (g .0 .1 .1 .1 .1 .1 .1 .1 .0 .1 .0 .1))),
+      le-of-eq
+          (sym (length-unmapped _ (a .state .«next_column») 1024 (g .1 .1 .1 .0 .1 .0 .1))),
+      le-of-eq
+          (sym (length-unmapped _ (a .state .«look_counts») 1024 (g .1 .1 .1 .1 .0 .1 .0 .1))),
+      p .4,
+      p .5,
+    )
+
+same-length : tie.Need-same-length
+same-length c = c .before .before .before .before .consistent .kept .1 .1 .1 .1 .1 .1 .1 .1 .1 .1 .1 .1 .1 .1 .1 .1 .1 .1 .1 .1 .1 .0
+
+same-length-2 : tie.Need-same-length-2
+same-length-2 c = c .before .before .before .before .consistent .kept .1 .1 .1 .1 .1 .1 .1 .1 .1 .1 .1 .1 .1 .1 .1 .1 .1 .1 .1 .1 .1 .1 .0
+
+returns : tie.Need-returns
+returns c =
+    let c16 = c .before .before .before .before .before .before .before .before .before .before .before .before .before .before .before .before in
+    let c28 = c16 .before .before .before .before .before .before .before .before .before .before .before .before in
+    let a = c28 .args in
+    let e = c .before .before .before .before .consistent .ensures in
+    (λ j areas t k n. e .0 j areas (a .state .layout .orientation) (a .state .layout .x) (a .state .layout .y) t k n, e .1)
+
+pub agree-spec : {M : Type 1} → statement M
+agree-spec =
+    tie.close
+    (tie.spec
+    slice-aggregate-consistent
+    slice-aggregate-consistent-2
+    slice-aggregate-consistent-3
+    slice-aggregate-consistent-4
+    slice-aggregate-consistent-5
+    consistent-requires
+    same-length
+    same-length-2
+    returns)
