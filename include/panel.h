@@ -31,6 +31,8 @@
               placed          strip, 6 doubles             1,365      8,190    PANEL_STRIPS       65,520   20
               sheet_entries   entry, 1 uint16_t           16,384     16,384    PANEL_ENTRIES      32,768   21
               placed_entries  entry, 1 uint16_t           16,384     16,384    PANEL_ENTRIES      32,768   21
+              sheet_firsts    number, 1 uint16_t           1,365      1,365    PANEL_FIRSTS        2,730   20
+              placed_firsts   number, 1 uint16_t           1,365      1,365    PANEL_FIRSTS        2,730   20
               intervals       interval, 2 doubles          4,096      8,192    PANEL_INTERVALS    65,536   22
               positions       position, 5 doubles          4,096     20,480    PANEL_POSITIONS   163,840   30
               out             text, 1 uint8_t            524,288    524,288    PANEL_TEXT        524,288   (see panel_nest)
@@ -38,9 +40,10 @@
             PANEL_POSITIONS and PANEL_TEXT are enough for every job. What the others need grows with the outlines' corners: a set
             is cut into strips at the x of each of its corners. `shapes` has the strips of every apart and inset set, `sheet` those
             of what is not sheet inside the sheet's bounding box, `placed` the apart strips of every placed copy; a strip has an
-            entry in each bucket that it touches, of 512 that share the sheet's width; `intervals` has the forbidden heights of one
+            entry in each bucket that it touches, of 512 that share the sheet's width; `sheet_firsts` and `placed_firsts` have the
+            number of the first of them, one for each strip of `sheet` or `placed`; `intervals` has the forbidden heights of one
             column for one orientation. Of `sheet` and `placed` at most 65,536 strips are used (3,145,728 bytes), since an entry
-            has 16 bits; `shapes` has no such limit.
+            has 16 bits, and no more than there are numbers for; `shapes` has no such limit.
 
    REFUSALS Fields are judged as they are read: 1, 3 to 6; after the last 2, 7, 8; then 30; 10; 20 and 21 of the sheet; 20 of the
             shapes; then the copies. The first that is met is given.
@@ -53,8 +56,8 @@
                7  more than 4,096 copies in all
                8  the sheet's width / resolution is above 1,000,000
               10  panel_fill alone: the order is not a rearrangement of the job's copies
-              20  shapes, sheet or placed is too short for the strips, or a strip of the sheet or of the placed copies would be
-                  the 65,537th
+              20  shapes, sheet, placed, sheet_firsts or placed_firsts is too short for the strips, or a strip of the sheet or of
+                  the placed copies would be the 65,537th
               21  sheet_entries or placed_entries is too short
               22  intervals is too short
               30  positions is too short for the job's copies, placed or not
@@ -67,6 +70,7 @@
 
 #define PANEL_STRIPS (6 * 1365)
 #define PANEL_ENTRIES 16384
+#define PANEL_FIRSTS 1365
 #define PANEL_INTERVALS (2 * 4096)
 #define PANEL_POSITIONS (5 * 4096)
 #define PANEL_TEXT 524288
@@ -105,6 +109,8 @@ size_t panel_nest(
     double *placed, size_t placed_length,
     uint16_t *sheet_entries, size_t sheet_entries_length,
     uint16_t *placed_entries, size_t placed_entries_length,
+    uint16_t *sheet_firsts, size_t sheet_firsts_length,
+    uint16_t *placed_firsts, size_t placed_firsts_length,
     double *intervals, size_t intervals_length,
     double *positions, size_t positions_length,
     uint8_t *out, size_t out_length);
@@ -125,6 +131,8 @@ uint64_t panel_fill(
     double *placed, size_t placed_length,
     uint16_t *sheet_entries, size_t sheet_entries_length,
     uint16_t *placed_entries, size_t placed_entries_length,
+    uint16_t *sheet_firsts, size_t sheet_firsts_length,
+    uint16_t *placed_firsts, size_t placed_firsts_length,
     double *intervals, size_t intervals_length,
     double *positions, size_t positions_length);
 
@@ -136,11 +144,13 @@ uint64_t panel_fill(
 
      static double shapes[PANEL_STRIPS], sheet[PANEL_STRIPS], placed[PANEL_STRIPS];
      static uint16_t sheet_entries[PANEL_ENTRIES], placed_entries[PANEL_ENTRIES];
+     static uint16_t sheet_firsts[PANEL_FIRSTS], placed_firsts[PANEL_FIRSTS];
      static double intervals[PANEL_INTERVALS], positions[PANEL_POSITIONS];
      static uint8_t out[PANEL_TEXT];
 
      size_t end = panel_nest(job, job_length, shapes, PANEL_STRIPS, sheet, PANEL_STRIPS, placed, PANEL_STRIPS,
                              sheet_entries, PANEL_ENTRIES, placed_entries, PANEL_ENTRIES,
+                             sheet_firsts, PANEL_FIRSTS, placed_firsts, PANEL_FIRSTS,
                              intervals, PANEL_INTERVALS, positions, PANEL_POSITIONS, out, PANEL_TEXT);
      fwrite(out, 1, end, stdout);
 

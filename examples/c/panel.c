@@ -9,6 +9,7 @@
 static uint8_t job[65537], text[PANEL_TEXT];
 static double shapes[PANEL_STRIPS], sheet[PANEL_STRIPS], placed[PANEL_STRIPS];
 static uint16_t sheet_entries[PANEL_ENTRIES], placed_entries[PANEL_ENTRIES];
+static uint16_t sheet_firsts[PANEL_FIRSTS], placed_firsts[PANEL_FIRSTS];
 static double intervals[PANEL_INTERVALS], positions[PANEL_POSITIONS];
 
 int main(void) {
@@ -18,6 +19,7 @@ int main(void) {
         return 0;
     }
     size_t end = panel_nest(job, n, LENT(shapes), LENT(sheet), LENT(placed), LENT(sheet_entries),
-                            LENT(placed_entries), LENT(intervals), LENT(positions), LENT(text));
+                            LENT(placed_entries), LENT(sheet_firsts), LENT(placed_firsts),
+                            LENT(intervals), LENT(positions), LENT(text));
     return fwrite(text, 1, end, stdout) == end ? 0 : 1;
 }

@@ -3,6 +3,7 @@
 // nothing here tests it. A shop links plan_exports.
 ghost use Prim.Native.Nat.{_+_, _*_, _/_, _≤_, _<_};
 ghost use lib.ListN.{length};
+ghost use mathlib.Core.Bool.{true, false};
 ghost use mathlib.Core.Path.{_≡_};
 ghost use Rattle.trapezoid.specs.Strip.{capacity};
 ghost use Rattle.strips.specs.Strips.{trapezoids};
@@ -12,12 +13,13 @@ ghost use Rattle.bench_exports.specs.inner.Answers.{verdictNumber, told,
 ghost use Rattle.random.specs.SplitMix64.{nextState, mixed};
 ghost use Rattle.numbers.proofs.Doubles.{Finite};
 ghost use Rattle.index.specs.Buckets.{buckets, stripNumbers, indexOf};
-ghost use Rattle.index.specs.inner.Listing.{intervals, Laid};
+ghost use Rattle.index.specs.inner.Listing.{intervals, Laid, FirstBuckets};
 ghost use Rattle.look.specs.height.inner.Raising.{FiniteEnds};
 ghost use Rattle.look.specs.height.Smallest.{heightOf};
 ghost use Rattle.look.specs.inner.Ready.{Lookable, lookOf};
-ghost use Rattle.enter.specs.inner.EntryRoom.{enterOf};
+ghost use Rattle.enter.specs.inner.EntryRoom.{enterOf, FirstsWritten};
 ghost use Rattle.enter.specs.inner.Gaps.{rooms, entering};
+use index::Bucket;
 use index::Entry;
 use index::Index;
 use look::Answer;
@@ -104,9 +106,13 @@ pub extern "C" fn panel_look(
     placed_entries: &[Entry],
     placed_starts: &[usize],
     room: &mut [f64],
+    sheet_firsts: &[Bucket],
+    placed_firsts: &[Bucket],
 ) -> f64
     requires { ⌜ Lookable (record { x0 = x0; width = width }) x «y_low» «y_high» (now inset) (now apart) (now sheet) (now placed) (now «sheet_entries»)
-        (now «sheet_starts») (now «placed_entries») (now «placed_starts») ⌝ }
+        (now «sheet_starts») (now «placed_entries») (now «placed_starts»)
+        × FirstBuckets (record { x0 = x0; width = width }) (now sheet) (capacity (now sheet)) (now «sheet_firsts»)
+        × FirstBuckets (record { x0 = x0; width = width }) (now placed) (capacity (now placed)) (now «placed_firsts») ⌝ }
     ensures { λ r. ⌜ r ≡ lookTold (lookOf (length (now (room .entry)) / 2) x «y_low» «y_high» (now (inset .entry)) (now (apart .entry)) (now (sheet .entry))
         (now (placed .entry))) ⌝ }
 {
@@ -128,6 +134,8 @@ pub extern "C" fn panel_look(
         placed_entries,
         placed_starts,
         room,
+        sheet_firsts,
+        placed_firsts,
     );
     match answer {
         Answer::NoRoom => -1.0e300,
@@ -135,8 +143,8 @@ pub extern "C" fn panel_look(
     }
 }
 
-// Enters the strips from `from` to below `to`, if the room holds their entries too. `gains` is a table
-// of work.
+// Enters the strips from `from` to below `to` and writes their first buckets, if the room holds their
+// entries too. `gains` is a table of work.
 #[no_mangle]
 pub extern "C" fn panel_enter(
     x0: f64,
@@ -147,17 +155,20 @@ pub extern "C" fn panel_enter(
     entries: &mut [Entry],
     starts: &mut [usize],
     gains: &mut [usize],
+    firsts: &mut [Bucket],
 ) -> bool
     requires { ⌜ (from ≤ to) × (6 * to ≤ length (now standing)) × (length (now gains) ≡ buckets) × Laid (record { x0 = x0; width = width }) (now standing) from
-        (now entries) (now starts) × (to ≤ stripNumbers) ⌝ }
-    ensures { λ r. ⌜ entering r (now (entries .exit)) (now (starts .exit)) ≡ enterOf (record { x0 = x0; width = width }) (now (standing .entry)) to
-        (rooms (now (entries .entry)) (now (starts .entry))) ⌝ }
+        (now entries) (now starts) × (to ≤ stripNumbers) × (to ≤ length (now firsts)) ⌝ }
+    ensures { λ r. ⌜ (entering r (now (entries .exit)) (now (starts .exit)) ≡ enterOf (record { x0 = x0; width = width }) (now (standing .entry)) to
+        (rooms (now (entries .entry)) (now (starts .entry))))
+        × (r ≡ true → FirstsWritten (record { x0 = x0; width = width }) (now (standing .entry)) from to (now (firsts .entry)) (now (firsts .exit)))
+        × (r ≡ false → now (firsts .exit) ≡ now (firsts .entry)) ⌝ }
 {
     let ix = Index {
         x0: x0,
         width: width,
     };
-    enter::enter_copy(ix, standing, from, to, entries, starts, gains)
+    enter::enter_copy(ix, standing, from, to, entries, starts, gains, firsts)
 }
 
 // The smallest height in none of the first n intervals of the room; 1e300 where it is full. The

@@ -3,6 +3,8 @@
 ghost use mathlib.Core.Path.{_≡_};
 ghost use Prim.Native.Nat.{ℕ, _+_, _*_, _/_, _≤_, _<_, _^_};
 ghost use lib.ListN.{length, getD, take, drop};
+ghost use Rattle.trapezoid.specs.Strip.{capacity};
+ghost use Rattle.index.specs.inner.Listing.{FirstBuckets};
 ghost use Rattle.look.specs.inner.Ready.{Lookable};
 ghost use Rattle.rooms.specs.tracks.inner.Tracks.{nextColumns, lookCounts, slotNumbers};
 ghost use Rattle.search.specs.columns.inner.Stands.{columnX, lastOf};
@@ -10,6 +12,7 @@ ghost use Rattle.search.specs.inner.Searching.{answerAt, tracked, searchOf};
 ghost use Rattle.choose.specs.inner.Choosing.{boundsAt, partAt, winnerOf, winsOf, firstOf, againstOf, betterOf, insetPart, apartPart, gridOf};
 ghost use Rattle.choose.specs.inner.Choosing.{surroundingsIn, Ready, chosen, orientationOf, chooseFrom};
 use filling::Tables;
+use index::Bucket;
 use index::Entry;
 use index::Index;
 use search::Found;
@@ -170,13 +173,17 @@ fn search_part(
     placed_starts: &[usize],
     room: &mut [f64],
     tracks: &mut [usize],
+    sheet_firsts: &[Bucket],
+    placed_firsts: &[Bucket],
 ) -> Found
     requires { ⌜ ((c : ℕ) → c ≤ lastOf k → Lookable (g .index) (columnX k c) (k .«y_low») (k .«y_high»)
         (insetPart p (drop (6 * g .«apart_strips») (now shapes)))
         (apartPart p (take (6 * g .«apart_strips») (now shapes))) (now sheet) (now placed)
         (now «sheet_entries») (now «sheet_starts») (now «placed_entries») (now «placed_starts»))
         × (k .count ≤ 4000000000) × (slot < 1024) × (slotNumbers ≤ length (now tracks)) × (getD (lookCounts (now tracks)) slot 0 + 4000000002 < 2 ^ 64)
-        × (6 * g .«apart_strips» ≤ length (now shapes)) ⌝ }
+        × (6 * g .«apart_strips» ≤ length (now shapes))
+        × FirstBuckets (g .index) (now sheet) (capacity (now sheet)) (now «sheet_firsts»)
+        × FirstBuckets (g .index) (now placed) (capacity (now placed)) (now «placed_firsts») ⌝ }
     ensures { λ r. ⌜ tracked r (lookCounts (now (tracks .exit))) (nextColumns (now (tracks .exit)))
         ≡ searchOf (answerAt (length (now (room .entry)) / 2) k (insetPart p (drop (6 * g .«apart_strips») (now (shapes .entry))))
         (apartPart p (take (6 * g .«apart_strips») (now (shapes .entry)))) (now (sheet .entry)) (now (placed .entry)))
@@ -211,6 +218,8 @@ fn search_part(
         placed_starts,
         room,
         tracks,
+        sheet_firsts,
+        placed_firsts,
     )
 }
 
@@ -230,11 +239,15 @@ fn orientation(
     placed_starts: &[usize],
     room: &mut [f64],
     tracks: &mut [usize],
+    sheet_firsts: &[Bucket],
+    placed_firsts: &[Bucket],
 ) -> Winner
     requires { ⌜ Ready (g .index) (surroundingsIn (length (now room) / 2) g (now «inset_bounds») (now parts) (now shapes) (now sheet) (now placed))
         (now «sheet_entries») (now «sheet_starts») (now «placed_entries») (now «placed_starts») slot
         × (slot < 1024) × (slotNumbers ≤ length (now tracks)) × (getD (lookCounts (now tracks)) slot 0 + 4000000002 < 2 ^ 64)
-        × (6 * g .«apart_strips» ≤ length (now shapes)) ⌝ }
+        × (6 * g .«apart_strips» ≤ length (now shapes))
+        × FirstBuckets (g .index) (now sheet) (capacity (now sheet)) (now «sheet_firsts»)
+        × FirstBuckets (g .index) (now placed) (capacity (now placed)) (now «placed_firsts») ⌝ }
     ensures { λ r. ⌜ chosen r (lookCounts (now (tracks .exit))) (nextColumns (now (tracks .exit)))
         ≡ orientationOf (surroundingsIn (length (now (room .entry)) / 2) g (now («inset_bounds» .entry)) (now (parts .entry))
         (now (shapes .entry)) (now (sheet .entry))
@@ -257,12 +270,14 @@ fn orientation(
         placed_starts,
         room,
         tracks,
+        sheet_firsts,
+        placed_firsts,
     );
     winner_of(k, b, o, found)
 }
 
 // The winner among the n orientations of a kind, whose slots start at `slot`. Only crates of ours
-// call it: the entries must be those of the strips.
+// call it: the entries must be those of the strips, and the bucket numbers theirs.
 pub fn choose(
     g: Grid,
     slot: usize,
@@ -278,12 +293,16 @@ pub fn choose(
     placed_starts: &[usize],
     room: &mut [f64],
     tracks: &mut [usize],
+    sheet_firsts: &[Bucket],
+    placed_firsts: &[Bucket],
 ) -> Winner
     requires { ⌜ ((o : ℕ) → o < n → Ready (g .index) (surroundingsIn (length (now room) / 2) g (now «inset_bounds») (now parts) (now shapes) (now sheet)
         (now placed))
         (now «sheet_entries») (now «sheet_starts») (now «placed_entries») (now «placed_starts») (slot + o))
         × (slot + n ≤ 1024) × (slotNumbers ≤ length (now tracks)) × ((o : ℕ) → o < n → getD (lookCounts (now tracks)) (slot + o) 0 + 4000000002 < 2 ^ 64)
-        × (6 * g .«apart_strips» ≤ length (now shapes)) ⌝ }
+        × (6 * g .«apart_strips» ≤ length (now shapes))
+        × FirstBuckets (g .index) (now sheet) (capacity (now sheet)) (now «sheet_firsts»)
+        × FirstBuckets (g .index) (now placed) (capacity (now placed)) (now «placed_firsts») ⌝ }
     ensures { λ r. ⌜ chosen r (lookCounts (now (tracks .exit))) (nextColumns (now (tracks .exit)))
         ≡ chooseFrom (surroundingsIn (length (now (room .entry)) / 2) g (now («inset_bounds» .entry)) (now (parts .entry)) (now (shapes .entry))
         (now (sheet .entry))
@@ -307,6 +326,8 @@ pub fn choose(
             placed_starts,
             room,
             tracks,
+            sheet_firsts,
+            placed_firsts,
         );
         best = better(best, next);
         o += 1;

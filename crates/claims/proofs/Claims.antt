@@ -5,11 +5,12 @@ use mathlib.Core.Path.{_≡_}
 use mathlib.Core.Logic.{_⊎_}
 use mathlib.Core.Bool.{true, false, not, _&&_}
 use mathlib.Core.List.{List, [], _∷_, map, List·Memᴰ}
-use lib.ListN.{length, replicate}
+use lib.ListN.{length, getD, replicate}
 use lib.Ieee.{Float, binary64, le, lt, ofBits}
 use lib.Ieee.Scale.{finite}
 use Rattle.numbers.specs.Numbers.{_⊖_, _⊘_, fromInt, plusZero, posZero}
 use Rattle.trapezoid.specs.Strip.{stripAt, capacity}
+use Rattle.index.specs.Buckets.{bucketIn}
 use Rattle.bits.specs.declared.Refusal as Input
 use Rattle.bits.specs.declared.Refusal.the-variants as Wrong
 use Rattle.bits.specs.Bits.{fieldAt}
@@ -23,12 +24,12 @@ use Rattle.filling.specs.declared.Verdict.the-variants.{Accepted, Refused}
 use Rattle.filling.specs.Refusals.{numberOf, verdictNumber}
 use Rattle.filling.specs.RefusalLines.{Line, firstMet, givenLines, startLines, stepLines, fillLines}
 use Rattle.filling.specs.Shapes.{plannerOf, standingStrips}
-use Rattle.filling.specs.Rooms.{Rooms, Lent, zeros}
+use Rattle.filling.specs.Rooms.{Rooms, Lent, laid, zeros}
 use Rattle.filling.specs.Order.{rearranged}
 use Rattle.filling.specs.State.{standingOf}
-use Rattle.filling.specs.Consistent.{every, plannerFits}
+use Rattle.filling.specs.Consistent.{every, plannerFits, sheetIndex, sheetStrips, placedStrips, firstsFor, firstsFit}
 use Rattle.filling.specs.Start.{startVerdict, noStart, goodStart, startOf}
-use Rattle.filling.specs.NextCopy.{nextCopyOf}
+use Rattle.filling.specs.NextCopy.{noStep, nextCopyOf}
 use Rattle.filling.specs.Accounts.{reachOf, notBelowZero, offcutOf}
 use Rattle.filling.specs.Fill.{filled, fillOrder, notPlanned, plannedWith, fillOf}
 use Rattle.filling.specs.Calls.{Call, afterCalls, refusals, stateOutcome, plainAfter}
@@ -36,6 +37,7 @@ use Rattle.filling.specs.Reports.{Reports}
 use Rattle.filling.proofs.Demand3 as Proved3
 use Rattle.filling.proofs.Never31 as ProvedNever
 use Rattle.filling.proofs.Refused as ProvedRefused
+use Rattle.filling.proofs.FirstBuckets as ProvedFirsts
 use Rattle.filling.proofs.WithinBounds.{jobs-within}
 use Rattle.nesting.specs.CopyOrder.{copyOrder}
 use Rattle.nesting.specs.Rounds.{Kept, kept, swapSearch}
@@ -196,6 +198,60 @@ pub demand-3 : (bytes order : List ℕ) (l : Lent) (j : Job) → readJob bytes �
     stateOutcome j (r .state) ≡ plainAfter j order (refusals (r .verdicts)))
     × (fillOf bytes order l .verdict ≡ Accepted → Reports j l (fillOf bytes order l) (plainAfter j order (replicate (length order) false)))
 demand-3 = Proved3.demand-3
+
+-- ---- Document 02, W3: "The strip record gets that bucket number, beside the doubles in a lent room of 16-bit numbers, worked out on entry and true for
+-- ---- every standing strip after every operation that is given true ones. Sheet and placed strips share the record. .. a false bucket number is 31."
+
+-- true numbers: for each strip that the state counts, of the sheet and of the placed copies, the bucket of its x0; so exactly where `firstsFit` holds
+pub firsts-mean : (s : State) (w : Rooms)
+    → let ix = sheetIndex (s .tables .«sheet_bounds») in
+    let sheet = sheetStrips s w in
+    let placed = placedStrips s w in
+    (firstsFit s w ≡ true
+    → ((capacity sheet ≤ length (w .sheet-firsts)) × ((i : ℕ) → i < capacity sheet → getD (w .sheet-firsts) i 0 ≡ bucketIn ix (stripAt sheet i .x0)))
+    × ((capacity placed ≤ length (w .placed-firsts)) × ((i : ℕ) → i < capacity placed → getD (w .placed-firsts) i 0 ≡ bucketIn ix (stripAt placed i .x0))))
+    × ((capacity sheet ≤ length (w .sheet-firsts)) × ((i : ℕ) → i < capacity sheet → getD (w .sheet-firsts) i 0 ≡ bucketIn ix (stripAt sheet i .x0))
+    → (capacity placed ≤ length (w .placed-firsts)) × ((i : ℕ) → i < capacity placed → getD (w .placed-firsts) i 0 ≡ bucketIn ix (stripAt placed i .x0))
+    → firstsFit s w ≡ true)
+firsts-mean s w =
+    let h = ProvedFirsts.firsts-mean s w in (
+      λ t. ((h .0 t .0 .long, h .0 t .0 .right), (h .0 t .1 .long, h .0 t .1 .right)),
+      λ a b. h .1 (record { long = a .0; right = a .1 }) (record { long = b .0; right = b .1 }),
+    )
+
+-- the claim, whatever else an operation is given and whatever it answers: a start, a next copy, every list of calls, with a start before them or not;
+-- a filling and a whole plan leave no standing strip, and zeros in both rooms
+pub firsts-true : (bytes : List ℕ)
+    → ((order : List ℕ) (l : Lent) → firstsFit (startOf bytes order l .state) (startOf bytes order l .lent .rooms) ≡ true)
+    × ((s : State) (w : Rooms) (iv : List Float) → firstsFit s w ≡ true → firstsFit (nextCopyOf bytes s w iv .state) (nextCopyOf bytes s w iv .rooms) ≡ true)
+    × ((calls : List Call) (s : State) (w : Rooms) → firstsFit s w ≡ true
+    → let r = afterCalls bytes calls s w in firstsFit (r .state) (r .rooms) ≡ true)
+    × ((calls : List Call) (order : List ℕ) (l : Lent)
+    → let r = afterCalls bytes calls (startOf bytes order l .state) (startOf bytes order l .lent .rooms) in firstsFit (r .state) (r .rooms) ≡ true)
+    × ((order : List ℕ) (l : Lent)
+    → (fillOf bytes order l .lent .rooms .sheet-firsts ≡ zeros 0 (l .rooms .sheet-firsts))
+    × (fillOf bytes order l .lent .rooms .placed-firsts ≡ zeros 0 (l .rooms .placed-firsts)))
+    × ((l : Lent)
+    → (nestOf bytes l .lent .rooms .sheet-firsts ≡ zeros 0 (l .rooms .sheet-firsts))
+    × (nestOf bytes l .lent .rooms .placed-firsts ≡ zeros 0 (l .rooms .placed-firsts)))
+firsts-true bytes = (
+  ProvedFirsts.start-firsts bytes,
+  ProvedFirsts.next-copy-firsts bytes,
+  ProvedFirsts.calls-firsts bytes,
+  λ calls order l. ProvedFirsts.calls-after-start bytes order l calls,
+  ProvedFirsts.fill-firsts bytes,
+  ProvedReplies.nest-firsts bytes,
+)
+
+-- and an accepted start's are the sheet's numbers, with zeros after them
+pub firsts-started : (bytes order : List ℕ) (l : Lent) (j : Job) → readJob bytes ≡ accepted j → startOf bytes order l .verdict ≡ Accepted
+    → startOf bytes order l .lent .rooms .sheet-firsts ≡ laid (firstsFor (plannerOf j .bounds) (plannerOf j .sheet)) (zeros 0 (l .rooms .sheet-firsts))
+firsts-started = ProvedFirsts.accepted-start-firsts
+
+-- "a false bucket number is 31": of every accepted job, state and rooms unchanged
+pub false-first-refused : (bytes : List ℕ) (j : Job) → readJob bytes ≡ accepted j → (s : State) (w : Rooms) (iv : List Float) → firstsFit s w ≡ false
+    → (nextCopyOf bytes s w iv ≡ noStep Why.Inconsistent s w iv) × (verdictNumber (noStep Why.Inconsistent s w iv .verdict) ≡ 31)
+false-first-refused bytes j e s w iv f = (ProvedFirsts.false-refused bytes j e s w iv f, ProvedFirsts.number-31 s w iv)
 
 -- ---- what the job reader promises
 

@@ -12,15 +12,15 @@ use Rattle.rooms.proofs.tracks.Parts.{rest-is}
 use Rattle.trapezoid.specs.Strip.{capacity}
 use Rattle.strips.specs.declared.Rect.{Rect}
 use Rattle.index.specs.declared.Index.{Index}
-use Rattle.index.specs.Buckets.{indexOf, entriesOf, standingCapacity}
-use Rattle.index.specs.inner.Listing.{Laid}
+use Rattle.index.specs.Buckets.{indexOf, entriesOf, firstsOf, standingCapacity}
+use Rattle.index.specs.inner.Listing.{Laid, FirstBuckets}
 use Rattle.index.specs.declared.entries.Walked.{Walked}
 use Rattle.index.specs.declared.entries.Walked.the-variants.{At, Wrong}
 use Rattle.index.specs.entries.inner.Walk.{follows, Known}
-use Rattle.filling.specs.Consistent.{stripsFit, boundsFit, resolutionFits, layoutFits, entriesLie, entriesFor, sheetIndex}
+use Rattle.filling.specs.Consistent.{stripsFit, boundsFit, resolutionFits, layoutFits, numbersLie, entriesFor, firstsFor, sheetIndex}
 use Rattle.filling.proofs.EntryWalk.{ends, walk-decides}
 use Rattle.consistent.specs.slot_tests.inner.Slots.{Slots, slots, slotsTest}
-use Rattle.consistent.specs.inner.Tests.{stateTest, countsTest, standingTest, roomsTest}
+use Rattle.consistent.specs.inner.Tests.{stateTest, countsTest, stripRoomTest, standingTest, roomsTest}
 
 -- ---- strip counts
 
@@ -28,22 +28,28 @@ pub room-for : (n : ℕ) (room : List Float) → n ≤ capacity room → 6 * n �
 unfolding capacity
 room-for n room h = omega arith
 
-module _ (n a m : ℕ) (sheet shapes placed : List Float) where
-  pub counts-sheet : standingCapacity sheet < n → countsTest n a m sheet shapes placed ≡ false
-  unfolding countsTest
-  counts-sheet h = let e : leb n (standingCapacity sheet) ≡ false = lt-leb n (standingCapacity sheet) h in rw e
+module _ (n a m : ℕ) (sheet shapes placed : List Float) (sheet-firsts placed-firsts : List ℕ) where
+  abbrev stand : ℕ
+  stand = standingCapacity sheet sheet-firsts
 
-  pub counts-apart : n ≤ standingCapacity sheet → capacity shapes < a → countsTest n a m sheet shapes placed ≡ false
+  abbrev test : Bool
+  test = countsTest n a m sheet shapes placed sheet-firsts placed-firsts
+
+  pub counts-sheet : stand < n → test ≡ false
+  unfolding countsTest
+  counts-sheet h = let e : leb n stand ≡ false = lt-leb n stand h in rw e
+
+  pub counts-apart : n ≤ stand → capacity shapes < a → test ≡ false
   unfolding countsTest
   counts-apart g h =
-      let e : leb n (standingCapacity sheet) ≡ true = le-leb n (standingCapacity sheet) g in
+      let e : leb n stand ≡ true = le-leb n stand g in
       let f : leb a (capacity shapes) ≡ false = lt-leb a (capacity shapes) h in
       rw (e, f)
 
-  pub counts-placed : n ≤ standingCapacity sheet → a ≤ capacity shapes → leb m (standingCapacity placed) ≡ countsTest n a m sheet shapes placed
+  pub counts-placed : n ≤ stand → a ≤ capacity shapes → leb m (standingCapacity placed placed-firsts) ≡ test
   unfolding countsTest
   counts-placed g h =
-      let e : leb n (standingCapacity sheet) ≡ true = le-leb n (standingCapacity sheet) g in
+      let e : leb n stand ≡ true = le-leb n stand g in
       let f : leb a (capacity shapes) ≡ true = le-leb a (capacity shapes) h in
       rw (e, f)
 
@@ -82,48 +88,59 @@ module _ (taken copies : ℕ) (resolution : Float) (bounds : Rect) (right area :
 -- ---- entries
 
 module _ (ix : Index) (part : List Float) (n : ℕ) (es starts : List ℕ) (count : n ≡ capacity part) where
-  pub walked-at : {t : Walked} {e : ℕ} → t ≡ follows es 0 (entriesOf ix part n) → t ≡ At e → true ≡ entriesLie (entriesOf ix part (capacity part)) es
-  walked-at q h = sym (ap ends h) ∙ (ap ends q ∙ (walk-decides (entriesOf ix part n) es ∙ ap (λ (m : ℕ). entriesLie (entriesOf ix part m) es) count))
+  pub walked-at : {t : Walked} {e : ℕ} → t ≡ follows es 0 (entriesOf ix part n) → t ≡ At e → true ≡ numbersLie (entriesOf ix part (capacity part)) es
+  walked-at q h = sym (ap ends h) ∙ (ap ends q ∙ (walk-decides (entriesOf ix part n) es ∙ ap (λ (m : ℕ). numbersLie (entriesOf ix part m) es) count))
 
-  pub walked-wrong : {t : Walked} → t ≡ follows es 0 (entriesOf ix part n) → t ≡ Wrong → false ≡ entriesLie (entriesOf ix part (capacity part)) es
-  walked-wrong q h = sym (ap ends h) ∙ (ap ends q ∙ (walk-decides (entriesOf ix part n) es ∙ ap (λ (m : ℕ). entriesLie (entriesOf ix part m) es) count))
+  pub walked-wrong : {t : Walked} → t ≡ follows es 0 (entriesOf ix part n) → t ≡ Wrong → false ≡ numbersLie (entriesOf ix part (capacity part)) es
+  walked-wrong q h = sym (ap ends h) ∙ (ap ends q ∙ (walk-decides (entriesOf ix part n) es ∙ ap (λ (m : ℕ). numbersLie (entriesOf ix part m) es) count))
 
   pub walked-laid : {t : Walked} {e : ℕ} → Known ix part n es starts t → t ≡ At e → Laid ix part (capacity part) es starts
   walked-laid k h = subst (λ (m : ℕ). Laid ix part m es starts) count (subst (λ (t : Walked). Known ix part n es starts t) h k)
 
--- ---- strips and entries
+-- ---- strips, their first buckets and their entries
 
-module _ (bounds : Rect) (sheet placed : List Float) (es fs : List ℕ) where
-  pub standing-sheet : stripsFit sheet ≡ false → standingTest bounds sheet placed es fs ≡ false
+module _ (bounds : Rect) (part : List Float) (es fs : List ℕ) where
+  pub room-strips : stripsFit part ≡ false → stripRoomTest bounds part es fs ≡ false
+  unfolding stripRoomTest
+  room-strips e = ap (λ b. b && (numbersLie (firstsFor bounds part) fs && numbersLie (entriesFor bounds part) es)) e
+
+  module _ (a : stripsFit part ≡ true) {ix : Index} (q : ix ≡ indexOf (bounds .left) (bounds .right)) where
+    firsts-of : numbersLie (firstsOf ix part (capacity part)) fs ≡ numbersLie (firstsFor bounds part) fs
+    unfolding firstsFor sheetIndex
+    firsts-of = ap (λ (i : Index). numbersLie (firstsOf i part (capacity part)) fs) q
+
+    entries-of : numbersLie (entriesOf ix part (capacity part)) es ≡ numbersLie (entriesFor bounds part) es
+    unfolding entriesFor sheetIndex
+    entries-of = ap (λ (i : Index). numbersLie (entriesOf i part (capacity part)) es) q
+
+    after-strips : numbersLie (firstsFor bounds part) fs && numbersLie (entriesFor bounds part) es ≡ stripRoomTest bounds part es fs
+    unfolding stripRoomTest
+    after-strips = sym (ap (λ b. b && (numbersLie (firstsFor bounds part) fs && numbersLie (entriesFor bounds part) es)) a)
+
+    pub room-firsts : numbersLie (firstsOf ix part (capacity part)) fs ≡ false → stripRoomTest bounds part es fs ≡ false
+    room-firsts e = sym after-strips ∙ ap (λ t. t && numbersLie (entriesFor bounds part) es) (sym firsts-of ∙ e)
+
+    pub room-entries : numbersLie (firstsOf ix part (capacity part)) fs ≡ true
+        → numbersLie (entriesOf ix part (capacity part)) es ≡ stripRoomTest bounds part es fs
+    room-entries e = entries-of ∙ (sym (ap (λ t. t && numbersLie (entriesFor bounds part) es) (sym firsts-of ∙ e)) ∙ after-strips)
+
+module _ (bounds : Rect) (sheet placed : List Float) (es fs gs hs : List ℕ) where
+  pub standing-sheet : stripRoomTest bounds sheet es gs ≡ false → standingTest bounds sheet placed es fs gs hs ≡ false
   unfolding standingTest
-  standing-sheet e = ap (λ b. b && (stripsFit placed && (entriesLie (entriesFor bounds sheet) es && entriesLie (entriesFor bounds placed) fs))) e
+  standing-sheet e = ap (λ b. b && stripRoomTest bounds placed fs hs) e
 
-  module _ (a : stripsFit sheet ≡ true) where
-    after-sheet : stripsFit placed && (entriesLie (entriesFor bounds sheet) es && entriesLie (entriesFor bounds placed) fs) ≡ standingTest bounds sheet placed es fs
-    unfolding standingTest
-    after-sheet = sym (ap (λ b. b && (stripsFit placed && (entriesLie (entriesFor bounds sheet) es && entriesLie (entriesFor bounds placed) fs))) a)
-
-    pub standing-placed : stripsFit placed ≡ false → standingTest bounds sheet placed es fs ≡ false
-    standing-placed e = sym after-sheet ∙ ap (λ b. b && (entriesLie (entriesFor bounds sheet) es && entriesLie (entriesFor bounds placed) fs)) e
-
-    module _ (b : stripsFit placed ≡ true) where
-      after-placed : entriesLie (entriesFor bounds sheet) es && entriesLie (entriesFor bounds placed) fs ≡ standingTest bounds sheet placed es fs
-      after-placed = sym (ap (λ t. t && (entriesLie (entriesFor bounds sheet) es && entriesLie (entriesFor bounds placed) fs)) b) ∙ after-sheet
-
-      module _ {ix : Index} (q : ix ≡ indexOf (bounds .left) (bounds .right)) where
-        entries-of : (part : List Float) (ls : List ℕ) → entriesLie (entriesOf ix part (capacity part)) ls ≡ entriesLie (entriesFor bounds part) ls
-        unfolding entriesFor sheetIndex
-        entries-of part ls = ap (λ (i : Index). entriesLie (entriesOf i part (capacity part)) ls) q
-
-        pub standing-entries : entriesLie (entriesOf ix sheet (capacity sheet)) es ≡ false → standingTest bounds sheet placed es fs ≡ false
-        standing-entries e = sym after-placed ∙ ap (λ t. t && entriesLie (entriesFor bounds placed) fs) (sym (entries-of sheet es) ∙ e)
-
-        pub standing-all : entriesLie (entriesOf ix sheet (capacity sheet)) es ≡ true → entriesLie (entriesOf ix placed (capacity placed)) fs ≡ standingTest bounds sheet placed es fs
-        standing-all e = entries-of placed fs ∙ (sym (ap (λ t. t && entriesLie (entriesFor bounds placed) fs) (sym (entries-of sheet es) ∙ e)) ∙ after-placed)
+  pub standing-placed : stripRoomTest bounds sheet es gs ≡ true → stripRoomTest bounds placed fs hs ≡ standingTest bounds sheet placed es fs gs hs
+  unfolding standingTest
+  standing-placed e = sym (ap (λ b. b && stripRoomTest bounds placed fs hs) e)
 
 pub laid-there : (bounds : Rect) {ix : Index} (q : ix ≡ indexOf (bounds .left) (bounds .right)) (part : List Float) (es starts : List ℕ) → Laid ix part (capacity part) es starts → Laid (sheetIndex bounds) part (capacity part) es starts
 unfolding sheetIndex
 laid-there bounds q part es starts l = subst (λ (i : Index). Laid i part (capacity part) es starts) q l
+
+pub kept-there : (bounds : Rect) {ix : Index} (q : ix ≡ indexOf (bounds .left) (bounds .right)) (part : List Float) (fs : List ℕ)
+    → FirstBuckets ix part (capacity part) fs → FirstBuckets (sheetIndex bounds) part (capacity part) fs
+unfolding sheetIndex
+kept-there bounds q part fs k = subst (λ (i : Index). FirstBuckets i part (capacity part) fs) q k
 
 -- ---- the rooms
 

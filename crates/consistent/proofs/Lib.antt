@@ -1,3 +1,4 @@
 pub mod SameSlots
 pub mod SameTests
 pub mod Cases
+pub mod FirstNumbers

@@ -13,13 +13,13 @@ use Rattle.index.specs.Buckets.{standingCapacity}
 use Rattle.job.specs.Jobs.{Job}
 use Rattle.filling.specs.declared.Tables.{Tables}
 use Rattle.filling.specs.declared.State.{State}
-use Rattle.filling.specs.Rooms.{Rooms}
+use Rattle.filling.specs.Rooms.{Rooms, roomsOf}
 use Rattle.filling.specs.Order.{rearranged}
 use Rattle.filling.specs.State.{orientationCounts, plannerAt, orderOf, tracksOf}
-use Rattle.filling.specs.Consistent.{every, stripsFit, boundsFit, takenFits, stripCountsFit, partsFit, trackTableFits, resolutionFits, shapeFits, plannerFits, layoutFits, entriesLie, entriesFor, entriesFit, placedStrips, consistent}
+use Rattle.filling.specs.Consistent.{every, stripsFit, boundsFit, takenFits, stripCountsFit, partsFit, trackTableFits, resolutionFits, shapeFits, plannerFits, layoutFits, numbersLie, entriesFor, entriesFit, sheetStrips, placedStrips, firstsFor, firstsFit, consistent}
 use Rattle.accounts.specs.tables.inner.Tabled.{Tabled}
 use Rattle.consistent.specs.slot_tests.inner.Slots.{Slots, slotsTest}
-use Rattle.consistent.specs.inner.Tests.{stateOf, roomsOf, slotsOf, stateTest, countsTest, standingTest, roomsTest}
+use Rattle.consistent.specs.inner.Tests.{stateOf, slotsOf, stateTest, countsTest, stripRoomTest, standingTest, roomsTest}
 use Rattle.consistent.proofs.SameSlots.{slots-same}
 
 -- ---- the same tests in another order
@@ -32,44 +32,48 @@ same-truth false false f g = refl
 halves : (a b : Bool) → a && b ≡ true → (a ≡ true) × (b ≡ true)
 halves a b e = (both-first a b e, both-second a b e)
 
-module _ (t c p r res sh b ss st l tr e f : Bool) where
+module _ (t c p r res sh b ss st l tr e f g h : Bool) where
   abbrev Coded : Bool
-  Coded = (t && (res && (b && (l && r)))) && (c && ((p && (ss && tr)) && (sh && (st && (e && f)))))
+  Coded = (t && (res && (b && (l && r)))) && (c && ((p && (ss && tr)) && ((sh && (g && e)) && (st && (h && f)))))
 
   abbrev Defined : Bool
-  Defined = t && (c && (p && (r && ((res && (sh && (b && ss))) && (st && (l && (tr && (e && f))))))))
+  Defined = t && (c && (p && (r && ((res && (sh && (b && ss))) && (st && (l && (tr && ((e && f) && (g && h)))))))))
 
   there : Coded ≡ true → Defined ≡ true
-  there h =
-      let h1 = halves (t && (res && (b && (l && r)))) (c && ((p && (ss && tr)) && (sh && (st && (e && f))))) h in
-      let h2 = halves t (res && (b && (l && r))) (h1 .0) in
-      let h3 = halves res (b && (l && r)) (h2 .1) in
-      let h4 = halves b (l && r) (h3 .1) in
-      let h5 = halves l r (h4 .1) in
-      let h6 = halves c ((p && (ss && tr)) && (sh && (st && (e && f)))) (h1 .1) in
-      let h7 = halves (p && (ss && tr)) (sh && (st && (e && f))) (h6 .1) in
-      let h8 = halves p (ss && tr) (h7 .0) in
-      let h9 = halves ss tr (h8 .1) in
-      let h10 = halves sh (st && (e && f)) (h7 .1) in
-      let h11 = halves st (e && f) (h10 .1) in
-      let h12 = halves e f (h11 .1) in
-      rw (h2 .0, h6 .0, h8 .0, h5 .1, h3 .0, h10 .0, h4 .0, h9 .0, h11 .0, h5 .0, h9 .1, h12 .0, h12 .1)
+  there q =
+      let q1 = halves (t && (res && (b && (l && r)))) (c && ((p && (ss && tr)) && ((sh && (g && e)) && (st && (h && f))))) q in
+      let q2 = halves t (res && (b && (l && r))) (q1 .0) in
+      let q3 = halves res (b && (l && r)) (q2 .1) in
+      let q4 = halves b (l && r) (q3 .1) in
+      let q5 = halves l r (q4 .1) in
+      let q6 = halves c ((p && (ss && tr)) && ((sh && (g && e)) && (st && (h && f)))) (q1 .1) in
+      let q7 = halves (p && (ss && tr)) ((sh && (g && e)) && (st && (h && f))) (q6 .1) in
+      let q8 = halves p (ss && tr) (q7 .0) in
+      let q9 = halves ss tr (q8 .1) in
+      let q10 = halves (sh && (g && e)) (st && (h && f)) (q7 .1) in
+      let q11 = halves sh (g && e) (q10 .0) in
+      let q12 = halves g e (q11 .1) in
+      let q13 = halves st (h && f) (q10 .1) in
+      let q14 = halves h f (q13 .1) in
+      rw (q2 .0, q6 .0, q8 .0, q5 .1, q3 .0, q11 .0, q4 .0, q9 .0, q13 .0, q5 .0, q9 .1, q12 .1, q14 .1, q12 .0, q14 .0)
 
   back : Defined ≡ true → Coded ≡ true
-  back h =
-      let h1 = halves t (c && (p && (r && ((res && (sh && (b && ss))) && (st && (l && (tr && (e && f)))))))) h in
-      let h2 = halves c (p && (r && ((res && (sh && (b && ss))) && (st && (l && (tr && (e && f))))))) (h1 .1) in
-      let h3 = halves p (r && ((res && (sh && (b && ss))) && (st && (l && (tr && (e && f)))))) (h2 .1) in
-      let h4 = halves r ((res && (sh && (b && ss))) && (st && (l && (tr && (e && f))))) (h3 .1) in
-      let h5 = halves (res && (sh && (b && ss))) (st && (l && (tr && (e && f)))) (h4 .1) in
-      let h6 = halves res (sh && (b && ss)) (h5 .0) in
-      let h7 = halves sh (b && ss) (h6 .1) in
-      let h8 = halves b ss (h7 .1) in
-      let h9 = halves st (l && (tr && (e && f))) (h5 .1) in
-      let h10 = halves l (tr && (e && f)) (h9 .1) in
-      let h11 = halves tr (e && f) (h10 .1) in
-      let h12 = halves e f (h11 .1) in
-      rw (h1 .0, h2 .0, h3 .0, h4 .0, h6 .0, h7 .0, h8 .0, h8 .1, h9 .0, h10 .0, h11 .0, h12 .0, h12 .1)
+  back q =
+      let q1 = halves t (c && (p && (r && ((res && (sh && (b && ss))) && (st && (l && (tr && ((e && f) && (g && h))))))))) q in
+      let q2 = halves c (p && (r && ((res && (sh && (b && ss))) && (st && (l && (tr && ((e && f) && (g && h)))))))) (q1 .1) in
+      let q3 = halves p (r && ((res && (sh && (b && ss))) && (st && (l && (tr && ((e && f) && (g && h))))))) (q2 .1) in
+      let q4 = halves r ((res && (sh && (b && ss))) && (st && (l && (tr && ((e && f) && (g && h)))))) (q3 .1) in
+      let q5 = halves (res && (sh && (b && ss))) (st && (l && (tr && ((e && f) && (g && h))))) (q4 .1) in
+      let q6 = halves res (sh && (b && ss)) (q5 .0) in
+      let q7 = halves sh (b && ss) (q6 .1) in
+      let q8 = halves b ss (q7 .1) in
+      let q9 = halves st (l && (tr && ((e && f) && (g && h)))) (q5 .1) in
+      let q10 = halves l (tr && ((e && f) && (g && h))) (q9 .1) in
+      let q11 = halves tr ((e && f) && (g && h)) (q10 .1) in
+      let q12 = halves (e && f) (g && h) (q11 .1) in
+      let q13 = halves e f (q12 .0) in
+      let q14 = halves g h (q12 .1) in
+      rw (q1 .0, q2 .0, q3 .0, q4 .0, q6 .0, q7 .0, q8 .0, q8 .1, q9 .0, q10 .0, q11 .0, q13 .0, q13 .1, q14 .0, q14 .1)
 
   reordered : Coded ≡ Defined
   reordered = same-truth Coded Defined there back
@@ -90,10 +94,15 @@ module _ (j : Job) (s : State) (w : Rooms) (rows : List ℕ) (areas : List Float
   standing = take (6 * s .«placed_strips») (w .placed)
 
   abbrev counts : Bool
-  counts = leb (t .«sheet_strips») (standingCapacity (w .sheet)) && (leb (t .«apart_strips») (capacity (w .shapes)) && leb (s .«placed_strips») (standingCapacity (w .placed)))
+  counts =
+      leb (t .«sheet_strips») (standingCapacity (w .sheet) (w .sheet-firsts))
+      && (leb (t .«apart_strips») (capacity (w .shapes)) && leb (s .«placed_strips») (standingCapacity (w .placed) (w .placed-firsts)))
+
+  abbrev roomFits : List Float → List ℕ → List ℕ → Bool
+  roomFits part es fs = stripsFit part && (numbersLie (firstsFor (t .«sheet_bounds») part) fs && numbersLie (entriesFor (t .«sheet_bounds») part) es)
 
   abbrev stands : Bool
-  stands = stripsFit sheet && (stripsFit standing && (entriesLie (entriesFor (t .«sheet_bounds») sheet) (w .sheet-entries) && entriesLie (entriesFor (t .«sheet_bounds») standing) (w .placed-entries)))
+  stands = roomFits sheet (w .sheet-entries) (w .sheet-firsts) && roomFits standing (w .placed-entries) (w .placed-firsts)
 
   turns-long : length (orientationCounts j) ≡ kinds
   unfolding orientationCounts
@@ -108,16 +117,20 @@ module _ (j : Job) (s : State) (w : Rooms) (rows : List ℕ) (areas : List Float
 
   pub consistent-is :
       stateTest (s .taken) copies (t .resolution) (t .«sheet_bounds») (s .layout .right) (s .layout .«unplaced_area») (rearranged j (take copies (s .order)))
-      && roomsTest given rows kinds (countsTest (t .«sheet_strips») (t .«apart_strips») (s .«placed_strips») (w .sheet) (w .shapes) (w .placed)) (standingTest (t .«sheet_bounds») sheet standing (w .sheet-entries) (w .placed-entries))
+      && roomsTest given rows kinds
+      (countsTest (t .«sheet_strips») (t .«apart_strips») (s .«placed_strips») (w .sheet) (w .shapes) (w .placed) (w .sheet-firsts) (w .placed-firsts))
+      (standingTest (t .«sheet_bounds») sheet standing (w .sheet-entries) (w .placed-entries) (w .sheet-firsts) (w .placed-firsts))
       ≡ consistent j s w
-  unfolding stateTest roomsTest countsTest standingTest consistent takenFits stripCountsFit orderOf plannerFits placedStrips entriesFit plannerAt
+  unfolding stateTest roomsTest countsTest stripRoomTest standingTest consistent takenFits stripCountsFit orderOf plannerFits sheetStrips placedStrips
+      entriesFit firstsFit plannerAt
   consistent-is =
       ap₂ _&&_
       (ap (λ (n : ℕ). leb (s .taken) n && (resolutionFits (t .resolution) && (boundsFit (t .«sheet_bounds») && (layoutFits (s .layout .right) (s .layout .«unplaced_area») && rearranged j (take n (s .order)))))) (sym ec))
       (ap (λ (b : Bool). counts && (b && stands)) slots-are)
       ∙ reordered (leb (s .taken) (j .copies)) counts (partsFit j t w) (rearranged j (take (j .copies) (s .order))) (resolutionFits (t .resolution)) (stripsFit sheet) (boundsFit (t .«sheet_bounds»))
       (every (every shapeFits) (plannerAt j t w .shapes)) (stripsFit standing) (layoutFits (s .layout .right) (s .layout .«unplaced_area»)) (trackTableFits (plannerAt j t w) (s .taken) (plannerAt j t w .shapes) (tracksOf j s))
-      (entriesLie (entriesFor (t .«sheet_bounds») sheet) (w .sheet-entries)) (entriesLie (entriesFor (t .«sheet_bounds») standing) (w .placed-entries))
+      (numbersLie (entriesFor (t .«sheet_bounds») sheet) (w .sheet-entries)) (numbersLie (entriesFor (t .«sheet_bounds») standing) (w .placed-entries))
+      (numbersLie (firstsFor (t .«sheet_bounds») sheet) (w .sheet-firsts)) (numbersLie (firstsFor (t .«sheet_bounds») standing) (w .placed-firsts))
 
 -- ---- for the caller: a state and rooms are those of their parts
 
@@ -127,5 +140,6 @@ pub state-whole : (s : State)
     ≡ s
 state-whole s = refl
 
-pub rooms-whole : (w : Rooms) → roomsOf (w .shapes) (w .sheet) (w .placed) (w .sheet-entries) (w .placed-entries) ≡ w
+pub rooms-whole : (w : Rooms)
+    → roomsOf (w .shapes) (w .sheet) (w .placed) (w .sheet-entries) (w .placed-entries) (w .sheet-firsts) (w .placed-firsts) ≡ w
 rooms-whole w = refl

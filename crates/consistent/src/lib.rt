@@ -11,15 +11,17 @@ ghost use lib.ListN.{length, getD, take};
 ghost use lib.Dec.{leb};
 ghost use lib.Ieee.{Float};
 ghost use Rattle.trapezoid.specs.Strip.{capacity};
-ghost use Rattle.index.specs.Buckets.{buckets, entriesOf};
-ghost use Rattle.index.specs.inner.Listing.{Laid};
+ghost use Rattle.index.specs.Buckets.{buckets, entriesOf, firstsOf};
+ghost use Rattle.index.specs.inner.Listing.{Laid, FirstBuckets};
 ghost use Rattle.search.proofs.columns.Sizes.{BoundedRect, Resolving};
 ghost use Rattle.job.specs.Jobs.{Job};
+ghost use Rattle.filling.specs.Rooms.{roomsOf};
 ghost use Rattle.filling.specs.Order.{rearranged};
-ghost use Rattle.filling.specs.Consistent.{entriesLie, sheetIndex, consistent};
+ghost use Rattle.filling.specs.Consistent.{numbersLie, sheetIndex, consistent};
 ghost use Rattle.accounts.specs.tables.inner.Tabled.{Tabled};
 ghost use Rattle.consistent.specs.slot_tests.inner.Slots.{Given, slotsTest};
-ghost use Rattle.consistent.specs.inner.Tests.{stateOf, roomsOf, slotsOf, stateTest, countsTest, standingTest, roomsTest};
+ghost use Rattle.consistent.specs.inner.Tests.{stateOf, slotsOf, stateTest, countsTest, stripRoomTest, standingTest, roomsTest};
+use index::Bucket;
 use index::Entry;
 use index::Index;
 use index::entries::Walked;
@@ -40,18 +42,21 @@ fn strip_counts_fit(
     sheet: &[f64],
     shapes: &[f64],
     placed: &[f64],
+    sheet_firsts: &[Bucket],
+    placed_firsts: &[Bucket],
 ) -> bool
-    ensures { λ r. ⌜ (r ≡ countsTest «sheet_strips» «apart_strips» «placed_strips» (now (sheet .entry)) (now (shapes .entry)) (now (placed .entry)))
+    ensures { λ r. ⌜ (r ≡ countsTest «sheet_strips» «apart_strips» «placed_strips» (now (sheet .entry)) (now (shapes .entry)) (now (placed .entry))
+        (now («sheet_firsts» .entry)) (now («placed_firsts» .entry)))
         × (r ≡ true → (6 * «sheet_strips» ≤ length (now (sheet .entry))) × (6 * «apart_strips» ≤ length (now (shapes .entry)))
         × (6 * «placed_strips» ≤ length (now (placed .entry)))) ⌝ }
 {
-    if sheet_strips > index::standing_capacity(sheet) {
+    if sheet_strips > index::standing_capacity(sheet, sheet_firsts) {
         return false;
     }
     if apart_strips > trapezoid::capacity(shapes) {
         return false;
     }
-    placed_strips <= index::standing_capacity(placed)
+    placed_strips <= index::standing_capacity(placed, placed_firsts)
 }
 
 // The copies taken, resolution, sheet bounds, right and unplaced area, and the order.
@@ -86,19 +91,69 @@ fn state_fits(
     accounts::order::rearranged(&order[..copies], rows, kinds, copies)
 }
 
+// The room begins with the strips' first buckets (document 02, W3).
+fn firsts_lie(ix: Index, part: &[f64], firsts: &[Bucket]) -> bool
+    ensures { λ r. ⌜ (r ≡ numbersLie (firstsOf ix (now (part .entry)) (capacity (now (part .entry)))) (now (firsts .entry)))
+        × (r ≡ true → FirstBuckets ix (now (part .entry)) (capacity (now (part .entry))) (now (firsts .entry))) ⌝ }
+{
+    let n = trapezoid::capacity(part);
+    if firsts.len() < n {
+        return false;
+    }
+    let mut i = 0;
+    while i < n {
+        let p = trapezoid::load(part, i);
+        if ix.bucket(p.x0) == index::entry(firsts, i) {
+            i += 1;
+        } else {
+            return false;
+        }
+    }
+    true
+}
+
 // The room begins with the entries of the strips; if so, starts has where each bucket's begin.
-fn entries_lie(ix: Index, part: &[f64], entries: &[Entry], starts: &mut [usize]) -> bool
-    requires { ⌜ length (now starts) ≡ buckets + 1 ⌝ }
-    ensures { λ r. ⌜ (r ≡ entriesLie (entriesOf ix (now (part .entry)) (capacity (now (part .entry)))) (now (entries .entry)))
+fn entries_lie(
+    ix: Index,
+    part: &[f64],
+    entries: &[Entry],
+    starts: &mut [usize],
+    firsts: &[Bucket],
+) -> bool
+    requires { ⌜ (length (now starts) ≡ buckets + 1) × FirstBuckets ix (now part) (capacity (now part)) (now firsts) ⌝ }
+    ensures { λ r. ⌜ (r ≡ numbersLie (entriesOf ix (now (part .entry)) (capacity (now (part .entry)))) (now (entries .entry)))
         × (r ≡ true → Laid ix (now (part .entry)) (capacity (now (part .entry))) (now (entries .entry)) (now (starts .exit))) ⌝ }
 {
-    match index::entries::walk_all(ix, part, trapezoid::capacity(part), entries, starts) {
+    match index::entries::walk_all(ix, part, trapezoid::capacity(part), entries, starts, firsts) {
         Walked::At(_) => true,
         Walked::Wrong => false,
     }
 }
 
-// The strips of the sheet and of the placed copies, and their entries.
+// The strips of a part, their first buckets and their entries.
+fn strip_room_fits(
+    bounds: Rect,
+    part: &[f64],
+    entries: &[Entry],
+    starts: &mut [usize],
+    firsts: &[Bucket],
+) -> bool
+    requires { ⌜ length (now starts) ≡ buckets + 1 ⌝ }
+    ensures { λ r. ⌜ (r ≡ stripRoomTest bounds (now (part .entry)) (now (entries .entry)) (now (firsts .entry)))
+        × (r ≡ true → Laid (sheetIndex bounds) (now (part .entry)) (capacity (now (part .entry))) (now (entries .entry)) (now (starts .exit))
+        × FirstBuckets (sheetIndex bounds) (now (part .entry)) (capacity (now (part .entry))) (now (firsts .entry))) ⌝ }
+{
+    if !strip_tests::strips_fit(part) {
+        return false;
+    }
+    let ix = Index::new(bounds.left, bounds.right);
+    if !firsts_lie(ix, part, firsts) {
+        return false;
+    }
+    entries_lie(ix, part, entries, starts, firsts)
+}
+
+// The strips of the sheet and of the placed copies.
 fn standing_fit(
     bounds: Rect,
     sheet: &[f64],
@@ -107,23 +162,21 @@ fn standing_fit(
     placed_entries: &[Entry],
     sheet_starts: &mut [usize],
     placed_starts: &mut [usize],
+    sheet_firsts: &[Bucket],
+    placed_firsts: &[Bucket],
 ) -> bool
     requires { ⌜ (length (now «sheet_starts») ≡ buckets + 1) × (length (now «placed_starts») ≡ buckets + 1) ⌝ }
-    ensures { λ r. ⌜ (r ≡ standingTest bounds (now (sheet .entry)) (now (placed .entry)) (now («sheet_entries» .entry)) (now («placed_entries» .entry)))
+    ensures { λ r. ⌜ (r ≡ standingTest bounds (now (sheet .entry)) (now (placed .entry)) (now («sheet_entries» .entry)) (now («placed_entries» .entry))
+        (now («sheet_firsts» .entry)) (now («placed_firsts» .entry)))
         × (r ≡ true → Laid (sheetIndex bounds) (now (sheet .entry)) (capacity (now (sheet .entry))) (now («sheet_entries» .entry)) (now («sheet_starts» .exit))
-        × Laid (sheetIndex bounds) (now (placed .entry)) (capacity (now (placed .entry))) (now («placed_entries» .entry)) (now («placed_starts» .exit))) ⌝ }
+        × Laid (sheetIndex bounds) (now (placed .entry)) (capacity (now (placed .entry))) (now («placed_entries» .entry)) (now («placed_starts» .exit))
+        × FirstBuckets (sheetIndex bounds) (now (sheet .entry)) (capacity (now (sheet .entry))) (now («sheet_firsts» .entry))
+        × FirstBuckets (sheetIndex bounds) (now (placed .entry)) (capacity (now (placed .entry))) (now («placed_firsts» .entry))) ⌝ }
 {
-    if !strip_tests::strips_fit(sheet) {
+    if !strip_room_fits(bounds, sheet, sheet_entries, sheet_starts, sheet_firsts) {
         return false;
     }
-    if !strip_tests::strips_fit(placed) {
-        return false;
-    }
-    let ix = Index::new(bounds.left, bounds.right);
-    if !entries_lie(ix, sheet, sheet_entries, sheet_starts) {
-        return false;
-    }
-    entries_lie(ix, placed, placed_entries, placed_starts)
+    strip_room_fits(bounds, placed, placed_entries, placed_starts, placed_firsts)
 }
 
 // Parts, shapes and tracks of every orientation.
@@ -182,17 +235,23 @@ fn rooms_fit(
     placed_entries: &[Entry],
     sheet_starts: &mut [usize],
     placed_starts: &mut [usize],
+    sheet_firsts: &[Bucket],
+    placed_firsts: &[Bucket],
 ) -> bool
     requires { ⌜ Given (slotsOf bounds resolution taken (now «inset_bounds») (now parts) (now shapes) «apart_strips» (now «next_column») (now «look_counts»))
         × (kinds ≤ 64) × (256 ≤ length (now rows)) × ((k : ℕ) → k < kinds → getD (now rows) (4 * k + 3) 0 ≤ 16) × (length (now «sheet_starts») ≡ buckets + 1)
         × (length (now «placed_starts») ≡ buckets + 1) ⌝ }
     ensures { λ r. ⌜ (r ≡ roomsTest (slotsOf bounds resolution taken (now («inset_bounds» .entry)) (now (parts .entry)) (now (shapes .entry)) «apart_strips»
         (now («next_column» .entry)) (now («look_counts» .entry))) (now (rows .entry)) kinds (countsTest «sheet_strips» «apart_strips» «placed_strips»
-        (now (sheet .entry)) (now (shapes .entry)) (now (placed .entry))) (standingTest bounds (take (6 * «sheet_strips») (now (sheet .entry)))
-        (take (6 * «placed_strips») (now (placed .entry))) (now («sheet_entries» .entry)) (now («placed_entries» .entry))))
+        (now (sheet .entry)) (now (shapes .entry)) (now (placed .entry)) (now («sheet_firsts» .entry)) (now («placed_firsts» .entry)))
+        (standingTest bounds (take (6 * «sheet_strips») (now (sheet .entry))) (take (6 * «placed_strips») (now (placed .entry)))
+        (now («sheet_entries» .entry)) (now («placed_entries» .entry)) (now («sheet_firsts» .entry)) (now («placed_firsts» .entry))))
         × (r ≡ true → Laid (sheetIndex bounds) (take (6 * «sheet_strips») (now (sheet .entry))) (capacity (take (6 * «sheet_strips») (now (sheet .entry))))
         (now («sheet_entries» .entry)) (now («sheet_starts» .exit)) × Laid (sheetIndex bounds) (take (6 * «placed_strips») (now (placed .entry)))
-        (capacity (take (6 * «placed_strips») (now (placed .entry)))) (now («placed_entries» .entry)) (now («placed_starts» .exit))) ⌝ }
+        (capacity (take (6 * «placed_strips») (now (placed .entry)))) (now («placed_entries» .entry)) (now («placed_starts» .exit))
+        × FirstBuckets (sheetIndex bounds) (take (6 * «sheet_strips») (now (sheet .entry))) (capacity (take (6 * «sheet_strips») (now (sheet .entry))))
+        (now («sheet_firsts» .entry)) × FirstBuckets (sheetIndex bounds) (take (6 * «placed_strips») (now (placed .entry)))
+        (capacity (take (6 * «placed_strips») (now (placed .entry)))) (now («placed_firsts» .entry))) ⌝ }
 {
     if !strip_counts_fit(
         sheet_strips,
@@ -201,6 +260,8 @@ fn rooms_fit(
         sheet,
         shapes,
         placed,
+        sheet_firsts,
+        placed_firsts,
     ) {
         return false;
     }
@@ -229,6 +290,8 @@ fn rooms_fit(
         placed_entries,
         sheet_starts,
         placed_starts,
+        sheet_firsts,
+        placed_firsts,
     )
 }
 
@@ -259,6 +322,8 @@ pub fn consistent(
     placed_entries: &[Entry],
     sheet_starts: &mut [usize],
     placed_starts: &mut [usize],
+    sheet_firsts: &[Bucket],
+    placed_firsts: &[Bucket],
 ) -> bool
     requires { ⌜ (kinds ≤ 64) × (256 ≤ length (now rows)) × ((k : ℕ) → k < kinds → getD (now rows) (4 * k + 3) 0 ≤ 16) × (copies ≤ 4096)
         × (4096 ≤ length (now order)) × (4096 ≤ length (now «inset_bounds»)) × (4096 ≤ length (now parts)) × (1024 ≤ length (now «next_column»))
@@ -267,10 +332,14 @@ pub fn consistent(
         → j .copies ≡ copies
         → r ≡ consistent j (stateOf taken «placed_strips» right «unplaced_area» resolution bounds «sheet_strips» «apart_strips» (now («inset_bounds» .entry))
         (now (parts .entry)) (now (order .entry)) (now («next_column» .entry)) (now («look_counts» .entry)) orientation x y)
-        (roomsOf (now (shapes .entry)) (now (sheet .entry)) (now (placed .entry)) (now («sheet_entries» .entry)) (now («placed_entries» .entry))))
+        (roomsOf (now (shapes .entry)) (now (sheet .entry)) (now (placed .entry)) (now («sheet_entries» .entry)) (now («placed_entries» .entry))
+        (now («sheet_firsts» .entry)) (now («placed_firsts» .entry))))
         × (r ≡ true → Laid (sheetIndex bounds) (take (6 * «sheet_strips») (now (sheet .entry))) (capacity (take (6 * «sheet_strips») (now (sheet .entry))))
         (now («sheet_entries» .entry)) (now («sheet_starts» .exit)) × Laid (sheetIndex bounds) (take (6 * «placed_strips») (now (placed .entry)))
-        (capacity (take (6 * «placed_strips») (now (placed .entry)))) (now («placed_entries» .entry)) (now («placed_starts» .exit))) ⌝ }
+        (capacity (take (6 * «placed_strips») (now (placed .entry)))) (now («placed_entries» .entry)) (now («placed_starts» .exit))
+        × FirstBuckets (sheetIndex bounds) (take (6 * «sheet_strips») (now (sheet .entry))) (capacity (take (6 * «sheet_strips») (now (sheet .entry))))
+        (now («sheet_firsts» .entry)) × FirstBuckets (sheetIndex bounds) (take (6 * «placed_strips») (now (placed .entry)))
+        (capacity (take (6 * «placed_strips») (now (placed .entry)))) (now («placed_firsts» .entry))) ⌝ }
 {
     if state_fits(
         taken,
@@ -303,6 +372,8 @@ pub fn consistent(
             placed_entries,
             sheet_starts,
             placed_starts,
+            sheet_firsts,
+            placed_firsts,
         );
     }
     false

@@ -1,15 +1,17 @@
-// Entering a copy's strips into the buckets' entries: in place, in one pass from the back.
+// Entering a copy's strips into the buckets' entries: in place, in one pass from the back. Their first
+// buckets are written too.
 pub mod span_marks;
 
 ghost use mathlib.Core.Path.{_≡_};
 ghost use mathlib.Core.Bool.{true, false};
-ghost use Prim.Native.Nat.{ℕ, _+_, _-_, _*_, _≤_, _<_, max, min};
+ghost use Prim.Native.Nat.{ℕ, _+_, _-_, _*_, _≤_, _<_, max};
 ghost use lib.ListN.{length, getD};
 ghost use Rattle.index.specs.Buckets.{buckets, stripNumbers};
 ghost use Rattle.index.specs.inner.Listing.{Laid, enteredFrom};
-ghost use Rattle.enter.specs.inner.EntryRoom.{startOf, enterOf};
+ghost use Rattle.enter.specs.inner.EntryRoom.{startOf, enterOf, FirstsWritten};
 ghost use Rattle.enter.specs.span_marks.inner.NewEntries.{Within, Kept};
 ghost use Rattle.enter.specs.inner.Gaps.{Blocks, filled, rooms, entering};
+use index::Bucket;
 use index::Entry;
 use index::Index;
 
@@ -21,16 +23,6 @@ fn later(a: usize, b: usize) -> usize
     ensures { λ r. ⌜ r ≡ max a b ⌝ }
 {
     if a < b {
-        return b;
-    }
-    a
-}
-
-// The smaller of two.
-fn sooner(a: usize, b: usize) -> usize
-    ensures { λ r. ⌜ r ≡ min a b ⌝ }
-{
-    if b < a {
         return b;
     }
     a
@@ -76,7 +68,7 @@ fn measure(
             };
         }
         more += width;
-        first = sooner(first, s.lo);
+        first = index::fewer(first, s.lo);
         end = later(end, s.hi + 1);
         span_marks::keep(firsts, lasts, i - from, s.lo, s.hi);
         i += 1;
@@ -196,9 +188,8 @@ fn enter_one(
     true
 }
 
-// Enters a copy's strips, from `from` to below `to`, if the room holds their entries too; else
-// changes neither entries nor starts. `gains` is a table of work.
-pub fn enter_copy(
+// Enters a copy's strips, as `enter_copy` does.
+fn enter_strips(
     ix: Index,
     standing: &[f64],
     from: usize,
@@ -216,4 +207,45 @@ pub fn enter_copy(
         return enter_one(ix, standing, from, entries, starts);
     }
     enter_many(ix, standing, from, to, entries, starts, gains)
+}
+
+// Writes the first bucket of each of the strips from `from` to below `to`.
+fn keep_firsts(ix: Index, standing: &[f64], from: usize, to: usize, firsts: &mut [Bucket])
+    requires { ⌜ (from ≤ to) × (6 * to ≤ length (now standing)) × (to ≤ length (now firsts)) ⌝ }
+    ensures { λ _. ⌜ FirstsWritten ix (now (standing .entry)) from to (now (firsts .entry)) (now (firsts .exit)) ⌝ }
+{
+    let mut i = from;
+    while i < to {
+        let p = trapezoid::load(standing, i);
+        let first = ix.bucket(p.x0);
+        firsts[i] = first as u16;
+        i += 1;
+    }
+}
+
+// Enters a copy's strips, from `from` to below `to`, and writes their first buckets, if the room
+// holds their entries too; else changes neither entries nor starts nor first buckets. `gains` is a
+// table of work.
+pub fn enter_copy(
+    ix: Index,
+    standing: &[f64],
+    from: usize,
+    to: usize,
+    entries: &mut [Entry],
+    starts: &mut [usize],
+    gains: &mut [usize],
+    firsts: &mut [Bucket],
+) -> bool
+    requires { ⌜ (from ≤ to) × (6 * to ≤ length (now standing)) × (length (now gains) ≡ buckets) × Laid ix (now standing) from (now entries) (now starts)
+        × (to ≤ stripNumbers) × (to ≤ length (now firsts)) ⌝ }
+    ensures { λ r. ⌜ (entering r (now (entries .exit)) (now (starts .exit)) ≡ enterOf ix (now (standing .entry)) to
+        (rooms (now (entries .entry)) (now (starts .entry)))) × (r ≡ true → Laid ix (now (standing .entry)) to (now (entries .exit)) (now (starts .exit)))
+        × (r ≡ true → FirstsWritten ix (now (standing .entry)) from to (now (firsts .entry)) (now (firsts .exit)))
+        × (r ≡ false → now (firsts .exit) ≡ now (firsts .entry)) ⌝ }
+{
+    if enter_strips(ix, standing, from, to, entries, starts, gains) {
+        keep_firsts(ix, standing, from, to, firsts);
+        return true;
+    }
+    false
 }

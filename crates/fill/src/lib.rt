@@ -8,6 +8,7 @@ ghost use Rattle.report.specs.inner.Replies.{reply, replyOf};
 ghost use Rattle.report.specs.Lent.{answered};
 ghost use Rattle.report.specs.readied.inner.Zeroed.{Zeroed};
 use filling::Refusal;
+use index::Bucket;
 use index::Entry;
 use job::JobRead;
 use report::NestResult;
@@ -23,10 +24,13 @@ fn fill_bytes(
     placed_entries: &mut [Entry],
     intervals: &mut [f64],
     positions: &mut [f64],
+    sheet_firsts: &mut [Bucket],
+    placed_firsts: &mut [Bucket],
 ) -> NestResult
-    requires { ⌜ ((l : Lent) × Zeroed l (now shapes) (now sheet) (now placed) (now «sheet_entries») (now «placed_entries») (now intervals) (now positions)) ⌝ }
+    requires { ⌜ ((l : Lent) × Zeroed l (now shapes) (now sheet) (now placed) (now «sheet_entries») (now «placed_entries»)
+        (now intervals) (now positions) (now «sheet_firsts») (now «placed_firsts»)) ⌝ }
     ensures { λ r. ⌜ ((l : Lent) → Zeroed l (now (shapes .entry)) (now (sheet .entry)) (now (placed .entry)) (now («sheet_entries» .entry))
-        (now («placed_entries» .entry)) (now (intervals .entry)) (now (positions .entry))
+        (now («placed_entries» .entry)) (now (intervals .entry)) (now (positions .entry)) (now («sheet_firsts» .entry)) (now («placed_firsts» .entry))
         → reply r (now (positions .exit)) ≡ replyOf (fillOf (now (bytes .entry)) (now (order .entry)) l)) ⌝ }
 {
     let j = job::read(bytes);
@@ -53,6 +57,8 @@ fn fill_bytes(
                 placed_entries,
                 intervals,
                 positions,
+                sheet_firsts,
+                placed_firsts,
             )
         }
         JobRead::NoJob(k) => report::refused(Refusal::Job(k)),
@@ -68,13 +74,16 @@ pub fn fill(
     placed: &mut [f64],
     sheet_entries: &mut [Entry],
     placed_entries: &mut [Entry],
+    sheet_firsts: &mut [Bucket],
+    placed_firsts: &mut [Bucket],
     intervals: &mut [f64],
     positions: &mut [f64],
 ) -> NestResult
     ensures { λ r. ⌜ answered r (lentOf (now (shapes .exit)) (now (sheet .exit)) (now (placed .exit)) (now («sheet_entries» .exit))
-        (now («placed_entries» .exit)) (now (intervals .exit)) (now (positions .exit))) ≡ fillOf (now (bytes .entry)) (now (order .entry))
+        (now («placed_entries» .exit)) (now («sheet_firsts» .exit)) (now («placed_firsts» .exit)) (now (intervals .exit)) (now (positions .exit)))
+        ≡ fillOf (now (bytes .entry)) (now (order .entry))
         (lentOf (now (shapes .entry)) (now (sheet .entry)) (now (placed .entry)) (now («sheet_entries» .entry)) (now («placed_entries» .entry))
-        (now (intervals .entry)) (now (positions .entry))) ⌝ }
+        (now («sheet_firsts» .entry)) (now («placed_firsts» .entry)) (now (intervals .entry)) (now (positions .entry))) ⌝ }
 {
     rooms::zero(positions);
     report::clear(
@@ -84,6 +93,8 @@ pub fn fill(
         sheet_entries,
         placed_entries,
         intervals,
+        sheet_firsts,
+        placed_firsts,
     );
     let r = fill_bytes(
         bytes,
@@ -95,6 +106,8 @@ pub fn fill(
         placed_entries,
         intervals,
         positions,
+        sheet_firsts,
+        placed_firsts,
     );
     report::clear(
         shapes,
@@ -103,6 +116,8 @@ pub fn fill(
         sheet_entries,
         placed_entries,
         intervals,
+        sheet_firsts,
+        placed_firsts,
     );
     r
 }

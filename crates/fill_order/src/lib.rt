@@ -11,9 +11,10 @@ ghost use Rattle.filling.specs.Shapes.{plannerOf};
 ghost use Rattle.filling.specs.Rooms.{Lent};
 ghost use Rattle.filling.specs.Order.{rearranged};
 ghost use Rattle.filling.specs.Fill.{fillOrder};
-ghost use Rattle.filling_laws.specs.fill_laws.inner.Prepared.{givenIn, Prepared, nextAfter, fillingIn};
+ghost use Rattle.filling_laws.specs.fill_laws.inner.Prepared.{givenIn, Prepared, SheetFirsts, nextAfter, fillingIn};
 use choose::Grid;
 use filling::Verdict;
+use index::Bucket;
 use index::Entry;
 use place::Totals;
 
@@ -53,16 +54,20 @@ fn fill_copies(
     room: &mut [f64],
     tracks: &mut [usize],
     spots: &mut [f64],
+    sheet_firsts: &[Bucket],
+    firsts: &mut [Bucket],
 ) -> Filled
     requires { ⌜ ((j : Job) × Prepared j (givenIn g (now rows) (now areas) (now «inset_bounds») (now parts) (now shapes) (now sheet)
         (now «sheet_entries») (now «sheet_starts»)) × (rearranged j (now order) ≡ true))
         × (6 * g .«apart_strips» ≤ length (now shapes)) × (trackNumbers ≤ length (now tracks)) × (spotNumbers ≤ length (now spots))
         × (nextColumns (now tracks) ≡ replicate 1024 1) × (lookCounts (now tracks) ≡ replicate 1024 0) × (now starts ≡ replicate 513 0)
-        × (length (now gains) ≡ buckets) ⌝ }
+        × (length (now gains) ≡ buckets)
+        × SheetFirsts (givenIn g (now rows) (now areas) (now «inset_bounds») (now parts) (now shapes) (now sheet)
+        (now «sheet_entries») (now «sheet_starts»)) (now «sheet_firsts») ⌝ }
     ensures { λ r. ⌜ ((j : Job) → Prepared j (givenIn g (now (rows .entry)) (now (areas .entry)) (now («inset_bounds» .entry)) (now (parts .entry))
         (now (shapes .entry)) (now (sheet .entry)) (now («sheet_entries» .entry)) (now («sheet_starts» .entry))) → rearranged j (now (order .entry)) ≡ true
         → (l : Lent) → length (l .rooms .placed) ≡ length (now (placed .entry)) → length (l .rooms .placed-entries) ≡ length (now (entries .entry))
-        → length (l .intervals) ≡ length (now (room .entry))
+        → length (l .intervals) ≡ length (now (room .entry)) → length (l .rooms .placed-firsts) ≡ length (now (firsts .entry))
         → fillingIn (r .verdict) (plannerOf j) (now (order .entry)) (now (tracks .exit)) (r .totals) (now (spots .exit))
         ≡ fillOrder j l (now (order .entry))) ⌝ }
 {
@@ -75,10 +80,9 @@ fn fill_copies(
     };
     let mut i = 0;
     while i < n {
-        let copy = place::copy_at(order, rows, areas, i);
         let step = place::next::place_next(
             g,
-            copy,
+            place::copy_at(order, rows, areas, i),
             i,
             t,
             inset_bounds,
@@ -94,6 +98,8 @@ fn fill_copies(
             room,
             tracks,
             spots,
+            sheet_firsts,
+            firsts,
         );
         let totals = step.totals;
         t = totals;
@@ -139,14 +145,18 @@ pub fn fill_order(
     room: &mut [f64],
     tracks: &mut [usize],
     spots: &mut [f64],
+    sheet_firsts: &[Bucket],
+    firsts: &mut [Bucket],
 ) -> Filled
     requires { ⌜ ((j : Job) × Prepared j (givenIn g (now rows) (now areas) (now «inset_bounds») (now parts) (now shapes) (now sheet)
         (now «sheet_entries») (now «sheet_starts»)) × (rearranged j (now order) ≡ true))
-        × (6 * g .«apart_strips» ≤ length (now shapes)) × (trackNumbers ≤ length (now tracks)) × (spotNumbers ≤ length (now spots)) ⌝ }
+        × (6 * g .«apart_strips» ≤ length (now shapes)) × (trackNumbers ≤ length (now tracks)) × (spotNumbers ≤ length (now spots))
+        × SheetFirsts (givenIn g (now rows) (now areas) (now «inset_bounds») (now parts) (now shapes) (now sheet)
+        (now «sheet_entries») (now «sheet_starts»)) (now «sheet_firsts») ⌝ }
     ensures { λ r. ⌜ ((j : Job) → Prepared j (givenIn g (now (rows .entry)) (now (areas .entry)) (now («inset_bounds» .entry)) (now (parts .entry))
         (now (shapes .entry)) (now (sheet .entry)) (now («sheet_entries» .entry)) (now («sheet_starts» .entry))) → rearranged j (now (order .entry)) ≡ true
         → (l : Lent) → length (l .rooms .placed) ≡ length (now (placed .entry)) → length (l .rooms .placed-entries) ≡ length (now (entries .entry))
-        → length (l .intervals) ≡ length (now (room .entry))
+        → length (l .intervals) ≡ length (now (room .entry)) → length (l .rooms .placed-firsts) ≡ length (now (firsts .entry))
         → fillingIn (r .verdict) (plannerOf j) (now (order .entry)) (now (tracks .exit)) (r .totals) (now (spots .exit))
         ≡ fillOrder j l (now (order .entry))) ⌝ }
 {
@@ -171,5 +181,7 @@ pub fn fill_order(
         room,
         tracks,
         spots,
+        sheet_firsts,
+        firsts,
     )
 }

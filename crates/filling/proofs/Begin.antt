@@ -30,9 +30,9 @@ use Rattle.filling.specs.Search.{column, Track}
 use Rattle.filling.specs.Rooms.{Rooms, Lent, positionCapacity, laid, zeros}
 use Rattle.filling.specs.Order.{rearranged, inFull}
 use Rattle.filling.specs.State.{bySlot, slotShape, orientationCounts, slotRows, Part, partAt, boundsAt, apartRoom, insetRoom, shapeAt, plannerAt, orderOf, standingTo, standingOf, withoutTo, withoutOf, rememberedOf, trackAt, tracksOf, emptyLayout}
-use Rattle.filling.specs.Consistent.{every, partFits, partsFit, stripCountsFit, placedStrips}
+use Rattle.filling.specs.Consistent.{every, partFits, partsFit, stripCountsFit, placedStrips, firstsFor}
 use Rattle.filling.specs.Start.{apartStrips, insetStrips, tablesOf, firstState, firstRooms, prepareVerdict, startVerdict, Start, noStart, goodStart, startJob, startGiven, startOf}
-use Rattle.filling.proofs.Reading.{Sixfold, sixfold-nil, sixfold-flat, sixfold-all, AllSixfold, take-laid, getD-bySlot, length-bySlot, bounds-slot, starts, starts-within, laid-long, rows-every, part-read, part-slot, rows-read, slot-kind, slot-turn, sixteen-get, toCome}
+use Rattle.filling.proofs.Reading.{Sixfold, sixfold-nil, sixfold-flat, sixfold-all, AllSixfold, take-laid, length-firstsFor, getD-bySlot, length-bySlot, bounds-slot, starts, starts-within, laid-long, rows-every, part-read, part-slot, rows-read, slot-kind, slot-turn, sixteen-get, toCome}
 use Rattle.filling.proofs.Sizes.{Sized}
 use Rattle.filling.proofs.Steps.{Linked, refused≢accepted, later-accepted}
 
@@ -170,7 +170,7 @@ module _ (j : Job) (w : Rooms) where
       let b = le-leb (starts (λ s. s .inset) 0 Slots i + capacity (getD Slots i noShape .inset)) (capacity (insetStrips (plannerOf j) ++ Rest)) (inset-within i (omega arith)) in
       rw (part-is i h, apart-room, inset-room) (ap₂ _&&_ a b)
 
-  sheet-read : take (6 * tablesOf (plannerOf j) .«sheet_strips») (firstRooms (plannerOf j) w .sheet) ≡ plannerOf j .sheet
+  pub sheet-read : take (6 * tablesOf (plannerOf j) .«sheet_strips») (firstRooms (plannerOf j) w .sheet) ≡ plannerOf j .sheet
   unfolding tablesOf firstRooms
   sheet-read = take-laid (plannerOf j .sheet) (zeros posZero (w .sheet)) (6 * capacity (plannerOf j .sheet)) (sheet-sixfold j)
 
@@ -241,7 +241,13 @@ module _ (j : Job) (z : Sized j) where
       let a = laid-long (p .sheet) (zeros posZero (w .sheet)) in
       let b = laid-long (apartStrips p ++ insetStrips p) (zeros posZero (w .shapes)) in
       let c = length-append (apartStrips p) (insetStrips p) in
-      rw (le-leb (length (p .sheet) / 6) (min (length (laid (p .sheet) (zeros posZero (w .sheet))) / 6) stripNumbers) (omega arith), le-leb (length (apartStrips p) / 6) (length (laid (apartStrips p ++ insetStrips p) (zeros posZero (w .shapes))) / 6) (omega arith), le-leb 0 (min (length (zeros posZero (w .placed)) / 6) stripNumbers) (omega arith))
+      let d = laid-long (firstsFor (p .bounds) (p .sheet)) (zeros 0 (w .sheet-firsts)) in
+      let e : length (firstsFor (p .bounds) (p .sheet)) ≡ length (p .sheet) / 6 = length-firstsFor (p .bounds) (p .sheet) in
+      rw (
+        le-leb (length (p .sheet) / 6) (min (min (length (laid (p .sheet) (zeros posZero (w .sheet))) / 6) (length (laid (firstsFor (p .bounds) (p .sheet)) (zeros 0 (w .sheet-firsts))))) stripNumbers) (omega arith),
+        le-leb (length (apartStrips p) / 6) (length (laid (apartStrips p ++ insetStrips p) (zeros posZero (w .shapes))) / 6) (omega arith),
+        le-leb 0 (min (min (length (zeros posZero (w .placed)) / 6) (length (zeros 0 (w .placed-firsts)))) stripNumbers) (omega arith),
+      )
 
   pub tracks-read : (order : List ℕ) → tracksOf j (firstState (plannerOf j) order) ≡ map (map (λ s. record { next-column = column 0; look-count = 0 })) (plannerOf j .shapes)
   unfolding tracksOf firstState trackAt rememberedOf
@@ -327,8 +333,9 @@ begun j order l e =
 pub prepared-few : (p : Planner) (w : Rooms) → prepareVerdict p w ≡ Accepted → capacity (p .sheet) ≤ stripNumbers
 unfolding prepareVerdict
 prepared-few p w e =
-    let a = later-accepted (ltb (standingCapacity (w .sheet)) (capacity (p .sheet))) Why.StripRoom _ e .0 in
-    standing-few (capacity (p .sheet)) (w .sheet) (nltb→le (standingCapacity (w .sheet)) (capacity (p .sheet)) (rw a tt))
+    let n = standingCapacity (w .sheet) (w .sheet-firsts) in
+    let a = later-accepted (ltb n (capacity (p .sheet))) Why.StripRoom _ e .0 in
+    standing-few (capacity (p .sheet)) (w .sheet) (w .sheet-firsts) (nltb→le n (capacity (p .sheet)) (rw a tt))
 
 pub record Started (j : Job) (order : List ℕ) (l : Lent) (r : Start) : Type 0 where
   pub verdict-is : startVerdict j order l ≡ Accepted

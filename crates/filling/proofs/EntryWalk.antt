@@ -15,7 +15,7 @@ use Rattle.index.specs.declared.entries.Walked.{Walked}
 use Rattle.index.specs.declared.entries.Walked.the-variants.{At, Wrong}
 use Rattle.index.specs.entries.inner.Walk.{follows}
 use Rattle.index.proofs.entries.Following.{follows-on, follows-short, follows-other, follows-none}
-use Rattle.filling.specs.Consistent.{sameNumbers, entriesLie}
+use Rattle.filling.specs.Consistent.{sameNumbers, numbersLie}
 
 abbrev pub ends : Walked → Bool
 ends (At e) = true
@@ -59,6 +59,6 @@ walk-from (a ∷ es) room e h = go (λ k. walk-from es room (suc e) k) (eq-or-lt
         ∙ ap (λ l. sameNumbers (a ∷ es) (take (suc (length es)) l)) (sym (drop-cons room e 0 l))
 
 -- for the code of 31: what the walk answers decides the test
-pub walk-decides : (es room : List ℕ) → ends (follows room 0 es) ≡ entriesLie es room
-unfolding entriesLie
+pub walk-decides : (es room : List ℕ) → ends (follows room 0 es) ≡ numbersLie es room
+unfolding numbersLie
 walk-decides es room = walk-from es room 0 (omega arith)

@@ -11,6 +11,7 @@ pub mod Rows
 pub mod Begin
 pub mod FillSteps
 pub mod Runs
+pub mod FirstBuckets
 pub mod Demand3
 pub mod Numbers31
 pub mod WithinBoundsNumbers

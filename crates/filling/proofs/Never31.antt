@@ -7,17 +7,15 @@ use Prim.Native.Nat.{ℕ, zero, suc, _+_, _-_, _*_, _/_, _%_, _≤_, _<_}
 use native.Mathlib.Omega.{arith}
 use lib.ListN.{length, getD, set, take, drop, replicate, length-append, length-drop, length-map, length-take}
 use lib.Seq.{take-at}
-use lib.Dec.{T, eqb, eqb-refl, leb, ltb, nltb→le}
+use lib.Dec.{leb, ltb, nltb→le}
 use lib.Ieee.{Float}
 use borrow.Author.Tests.{le-leb}
-use Rattle.numbers.proofs.Truth.{either}
 use Rattle.numbers.specs.Numbers.{posZero}
 use Rattle.trapezoid.specs.Strip.{capacity}
 use Rattle.index.specs.Buckets.{upFrom, entriesOf, byBucket, numbersIn, standingCapacity}
 use Rattle.strips.specs.declared.Rect.{Rect}
 use Rattle.job.specs.Jobs.{Job, Answer, accepted, refused, readJob}
 use Rattle.filling.specs.declared.State.{State}
-use Rattle.filling.specs.declared.Tables.{Tables}
 use Rattle.filling.specs.declared.Refusal.{Refusal}
 use Rattle.filling.specs.declared.Refusal.the-variants as Why
 use Rattle.filling.specs.declared.Verdict.{Verdict}
@@ -30,17 +28,18 @@ use Rattle.filling.specs.Plain.{Plain, plainStart, plainTake, finds}
 use Rattle.filling.specs.Rooms.{Rooms, Lent, laid, zeros}
 use Rattle.filling.specs.Order.{rearranged}
 use Rattle.filling.specs.State.{bySlot, slotShape, slotRows, orientationCounts, Part, partAt, apartRoom, insetRoom, plannerAt, orderOf, standingOf, withoutTo, withoutOf, missesAt, tracksOf, emptyLayout}
-use Rattle.filling.specs.Consistent.{every, bounded, stripsFit, takenFits, stripCountsFit, partFits, partsFit, columnFits, trackFits, tracksFit, trackTableFits, plannerFits, layoutFits, sameNumbers, entriesLie, sheetIndex, entriesFor, entriesFit, placedStrips, consistent}
+use Rattle.filling.specs.Consistent.{every, bounded, stripsFit, takenFits, stripCountsFit, partFits, partsFit, columnFits, trackFits, tracksFit, trackTableFits, plannerFits, layoutFits, numbersLie, entriesFor, entriesFit, placedStrips, firstsFor, firstsFit, consistent}
 use Rattle.filling.specs.Start.{apartStrips, insetStrips, tablesOf, firstState, firstRooms, prepareVerdict, startVerdict, noStart, startGiven, startOf}
 use Rattle.filling.specs.NextCopy.{intervalCounts, anyAbove, newStrips, storeVerdict, winnerVerdict, copyVerdict, stateWith, stateAfter, stored, roomsAfter, Step, noStep, placeCopy, placeNext, coreStep, stepJob, stepGiven, nextCopyOf}
 use Rattle.filling.specs.Calls.{Call, nextCopy, After, callStep, afterCalls}
-use Rattle.filling.proofs.Reading.{length-laid, length-zeros, laid-long, take-laid, Sixteen, no-turns, and-turns}
+use Rattle.filling.proofs.Reading.{Sixfold, sixfold-append, laid-capacity}
 use Rattle.filling.proofs.Sizes.{Sized, sized}
 use Rattle.filling.proofs.Rows.{Row, no-more, and-more, Table, no-kind, and-kind}
 use Rattle.filling.proofs.Steps as Steps
 use Rattle.filling.proofs.Steps.{Linked, Took, refused≢accepted, later-accepted, place-refused, place-taken}
 use Rattle.filling.proofs.Begin.{first-order, first-standing, first-without, first-parts, first-counts, prepared-few, rearranged-length, Begun, begun, Started, start-accepted}
 use Rattle.filling.proofs.Runs.{step-consistent, call-outcome, step-keeps}
+use Rattle.filling.proofs.FirstBuckets.{numbers-laid, numbers-none, first-firsts, after-firsts}
 use Rattle.filling.proofs.Demand3.{Fit, fresh, closed, reached, spent, Tracked, Paired, Kept, took-keeps, first-kept}
 use Rattle.filling.proofs.Numbers31.{WithinBounds, Fine, summed, layout-fits, left-bounded, Goods, row-good, fine-none, fine-placed}
 use Rattle.filling.proofs.WithinBounds.{jobs-within}
@@ -66,22 +65,6 @@ fits-table p st n (and-kind h r) = rw (fits-row p st n h, fits-table p st n r)
 
 -- ---- entries
 
-same-self : (l : List ℕ) → sameNumbers l l ≡ true
-unfolding sameNumbers
-same-self [] = refl
-same-self (a ∷ l) = rw (same a, same-self l)
-  where
-    same : (a : ℕ) → eqb a a ≡ true
-    same a = go (either (eqb a a)) (eqb-refl a)
-      where
-        go : (eqb a a ≡ true) ⊎ (eqb a a ≡ false) → T (eqb a a) → eqb a a ≡ true
-        go (inl e) t = e
-        go (inr e) t = absurd (rw e at t)
-
-entries-laid : (es room : List ℕ) → entriesLie es (laid es room) ≡ true
-unfolding entriesLie
-entries-laid es room = ap (sameNumbers es) (take-laid es room (length es) refl) ∙ same-self es
-
 -- no strip has no entry
 no-entries : (b : Rect) → entriesFor b [] ≡ []
 unfolding entriesFor capacity entriesOf upFrom byBucket numbersIn flatMap
@@ -90,10 +73,6 @@ no-entries b = go (upFrom 512 0)
     go : (l : List ℕ) → flatMap (λ b. numbersIn b 0 []) l ≡ []
     go [] = refl
     go (a ∷ l) = go l
-
-entries-none : (room : List ℕ) → entriesLie [] room ≡ true
-unfolding entriesLie sameNumbers
-entries-none room = refl
 
 -- ---- own states
 
@@ -104,8 +83,9 @@ pub record Own (j : Job) (order : List ℕ) (s : State) (w : Rooms) (q : Plain) 
   pub few : s .taken ≤ j .copies
   pub counts : stripCountsFit (s .tables) (s .«placed_strips») w ≡ true
   pub parts : partsFit j (s .tables) w ≡ true
-  pub sheet-entries : entriesLie (entriesFor (plannerOf j .bounds) (plannerOf j .sheet)) (w .sheet-entries) ≡ true
-  pub placed-entries : entriesLie (entriesFor (plannerOf j .bounds) (standingStrips (plannerOf j) (standingOf s))) (w .placed-entries) ≡ true
+  pub sheet-entries : numbersLie (entriesFor (plannerOf j .bounds) (plannerOf j .sheet)) (w .sheet-entries) ≡ true
+  pub placed-entries : numbersLie (entriesFor (plannerOf j .bounds) (standingStrips (plannerOf j) (standingOf s))) (w .placed-entries) ≡ true
+  pub firsts : firstsFit s w ≡ true
 
 misses-one : (s : State) (n o : ℕ) → length (missesAt s n o) ≤ 1
 unfolding missesAt
@@ -124,9 +104,14 @@ pub own-consistent : (j : Job) (order : List ℕ) (s : State) (w : Rooms) (q : P
 unfolding consistent takenFits entriesFit
 own-consistent j order s w q z b r h =
     let few : length (withoutOf s) ≤ 4096 = unfold withoutOf in (let a = without-few s (s .taken) in let f = h .few in let g = z .few in omega arith) in
-    rw (le-leb (s .taken) (j .copies) (h .few), h .counts, h .parts, h .order-kept, r, h .kept .linked .plan, b .own, h .kept .linked .stand, h .fine .strips, layout-fits j s b few (h .fine), fits-table (plannerOf j) (standingStrips (plannerOf j) (standingOf s)) (s .taken) (h .kept .paired .table), h .sheet-entries, h .placed-entries)
+    rw (le-leb (s .taken) (j .copies) (h .few), h .counts, h .parts, h .order-kept, r, h .kept .linked .plan, b .own, h .kept .linked .stand, h .fine .strips, layout-fits j s b few (h .fine), fits-table (plannerOf j) (standingStrips (plannerOf j) (standingOf s)) (s .taken) (h .kept .paired .table), h .sheet-entries, h .placed-entries, h .firsts)
 
 -- ---- a copy taken
+
+counts-more : (a b : Bool) (n r m l : ℕ) → a && (b && leb n r) ≡ true → m ≤ l → a && (b && leb m l) ≡ true
+counts-more true true n r m l u v = le-leb m l v
+counts-more true false n r m l u v = u
+counts-more false b n r m l u v = u
 
 module _ (j : Job) (z : Sized j) (b : WithinBounds (plannerOf j)) (order : List ℕ) (s : State) (w : Rooms) (q : Plain) (h : Own j order s w q) where
   abbrev P : Planner
@@ -162,39 +147,35 @@ module _ (j : Job) (z : Sized j) (b : WithinBounds (plannerOf j)) (order : List 
     parts-now [] = h .parts
     parts-now (c ∷ cs) = h .parts
 
-    sheet-now : (cs : List Choice) → entriesLie (entriesFor (P .bounds) (P .sheet)) (roomsAfter P k w St cs .sheet-entries) ≡ true
+    sheet-now : (cs : List Choice) → numbersLie (entriesFor (P .bounds) (P .sheet)) (roomsAfter P k w St cs .sheet-entries) ≡ true
     unfolding roomsAfter stored
     sheet-now [] = h .sheet-entries
     sheet-now (c ∷ cs) = h .sheet-entries
 
-    placed-now : (cs : List Choice) → entriesLie (entriesFor (P .bounds) (standingStrips P (standingOf (Now cs)))) (roomsAfter P k w St cs .placed-entries) ≡ true
+    placed-now : (cs : List Choice) → numbersLie (entriesFor (P .bounds) (standingStrips P (standingOf (Now cs)))) (roomsAfter P k w St cs .placed-entries) ≡ true
     unfolding roomsAfter stored
-    placed-now [] = ap (λ c. entriesLie (entriesFor (P .bounds) (standingStrips P c)) (w .placed-entries)) (Steps.after-none-stands j z s w (h .kept .linked) k ks e Ts lts) ∙ h .placed-entries
+    placed-now [] = ap (λ c. numbersLie (entriesFor (P .bounds) (standingStrips P c)) (w .placed-entries)) (Steps.after-none-stands j z s w (h .kept .linked) k ks e Ts lts) ∙ h .placed-entries
     placed-now (c ∷ cs) =
         let now = St ++ newStrips P k (best c cs) in
         let a : standingStrips P (standingOf (Now (c ∷ cs))) ≡ now = ap (standingStrips P) (Steps.after-one-stands j z s w (h .kept .linked) k ks e Ts lts c cs) ∙ Steps.standing-more P (standingOf s) (record { place = s .taken; kind = k }) (best c cs) in
-        ap (λ st. entriesLie (entriesFor (P .bounds) st) (laid (entriesFor (P .bounds) now) (w .placed-entries))) a ∙ entries-laid (entriesFor (P .bounds) now) (w .placed-entries)
+        ap (λ st. numbersLie (entriesFor (P .bounds) st) (laid (entriesFor (P .bounds) now) (w .placed-entries))) a ∙ numbers-laid (entriesFor (P .bounds) now) (w .placed-entries)
+
+    firsts-now : (cs : List Choice) → firstsFit (Now cs) (roomsAfter P k w St cs) ≡ true
+    unfolding plannerAt
+    firsts-now cs = after-firsts P k Ts s w St cs (sym (ap (λ p. p .bounds) (h .kept .linked .plan))) (Steps.standing-sixfold P (standingOf s)) (h .firsts)
 
     counts-now : (cs : List Choice) → winnerVerdict P w k St cs ≡ Accepted → stripCountsFit (Now cs .tables) (Now cs .«placed_strips») (roomsAfter P k w St cs) ≡ true
     unfolding stateAfter stateWith roomsAfter stored winnerVerdict storeVerdict stripCountsFit
     counts-now [] v = h .counts
     counts-now (c ∷ cs) v =
         let now = St ++ newStrips P k (best c cs) in
-        let l : ltb (standingCapacity (w .placed)) (capacity now) ≡ false = later-accepted (ltb (standingCapacity (w .placed)) (capacity now)) Why.StripRoom _ v .0 in
-        let m : capacity now ≤ standingCapacity (w .placed) = nltb→le (standingCapacity (w .placed)) (capacity now) (rw l tt) in
-        counts-more (s .tables) (s .«placed_strips») (capacity now) w (laid now (w .placed)) (entriesFor (P .bounds) now) (h .counts) (room-now now (w .placed) m)
-      where
-        room-now : (now placed : List Float) → capacity now ≤ standingCapacity placed → capacity now ≤ standingCapacity (laid now placed)
-        room-now now placed m = unfold standingCapacity in unfold capacity in (let a = laid-long now placed in omega arith)
-
-        counts-more : (t : Tables) (n m : ℕ) (w : Rooms) (placed : List Float) (es : List ℕ) → leb (t .«sheet_strips») (standingCapacity (w .sheet)) && (leb (t .«apart_strips») (capacity (w .shapes)) && leb n (standingCapacity (w .placed))) ≡ true
-            → m ≤ standingCapacity placed → leb (t .«sheet_strips») (standingCapacity (w .sheet)) && (leb (t .«apart_strips») (capacity (w .shapes)) && leb m (standingCapacity placed)) ≡ true
-        counts-more t n m w placed es c l = go (leb (t .«sheet_strips») (standingCapacity (w .sheet))) (leb (t .«apart_strips») (capacity (w .shapes))) c (le-leb m (standingCapacity placed) l)
-          where
-            go : (x y : Bool) → x && (y && leb n (standingCapacity (w .placed))) ≡ true → leb m (standingCapacity placed) ≡ true → x && (y && leb m (standingCapacity placed)) ≡ true
-            go true true u v = v
-            go true false u v = u
-            go false y u v = u
+        let room = standingCapacity (w .placed) (w .placed-firsts) in
+        let later = standingCapacity (laid now (w .placed)) (laid (firstsFor (P .bounds) now) (w .placed-firsts)) in
+        let l : ltb room (capacity now) ≡ false = later-accepted (ltb room (capacity now)) Why.StripRoom _ v .0 in
+        let m : capacity now ≤ room = nltb→le room (capacity now) (rw l tt) in
+        let six : Sixfold now = sixfold-append St (newStrips P k (best c cs)) (Steps.standing-sixfold P (standingOf s)) (Steps.new-sixfold P k (best c cs)) in
+        let n : capacity now ≤ later = subst (λ (i : ℕ). capacity now ≤ i) (sym (laid-capacity (P .bounds) now (w .placed) (w .placed-firsts) six m)) m in
+        counts-more (leb (s .tables .«sheet_strips») (standingCapacity (w .sheet) (w .sheet-firsts))) (leb (s .tables .«apart_strips») (capacity (w .shapes))) (s .«placed_strips») room (capacity now) later (h .counts) n
 
   pub own-took : (r : Step) → Took j s w r → Own j order (r .state) (r .rooms) (plainTake P q (q .to-come))
   own-took r t =
@@ -211,6 +192,7 @@ module _ (j : Job) (z : Sized j) (b : WithinBounds (plannerOf j)) (order : List 
         parts = parts-now k (t .rest) (t .order-is) cs;
         sheet-entries = sheet-now k (t .rest) (t .order-is) cs;
         placed-entries = placed-now k (t .rest) (t .order-is) cs;
+        firsts = firsts-now k (t .rest) (t .order-is) cs;
       })
 
 -- ---- the core step is never refused with 31
@@ -294,16 +276,16 @@ pub first-few : (j : Job) (order : List ℕ) → firstState (plannerOf j) order 
 unfolding firstState
 first-few j order = omega arith
 
-pub first-sheet : (j : Job) (w : Rooms) → entriesLie (entriesFor (plannerOf j .bounds) (plannerOf j .sheet)) (firstRooms (plannerOf j) w .sheet-entries) ≡ true
+pub first-sheet : (j : Job) (w : Rooms) → numbersLie (entriesFor (plannerOf j .bounds) (plannerOf j .sheet)) (firstRooms (plannerOf j) w .sheet-entries) ≡ true
 unfolding firstRooms
-first-sheet j w = entries-laid (entriesFor (plannerOf j .bounds) (plannerOf j .sheet)) (zeros 0 (w .sheet-entries))
+first-sheet j w = numbers-laid (entriesFor (plannerOf j .bounds) (plannerOf j .sheet)) (zeros 0 (w .sheet-entries))
 
-pub first-placed : (j : Job) (z : Sized j) (order : List ℕ) → length order ≡ j .copies → (room : List ℕ) → entriesLie (entriesFor (plannerOf j .bounds) (standingStrips (plannerOf j) (standingOf (firstState (plannerOf j) order)))) room ≡ true
+pub first-placed : (j : Job) (z : Sized j) (order : List ℕ) → length order ≡ j .copies → (room : List ℕ) → numbersLie (entriesFor (plannerOf j .bounds) (standingStrips (plannerOf j) (standingOf (firstState (plannerOf j) order)))) room ≡ true
 unfolding standingStrips flatMap
 first-placed j z order n room =
-    ap (λ c. entriesLie (entriesFor (plannerOf j .bounds) (standingStrips (plannerOf j) c)) room) (first-standing j z order n)
-    ∙ ap (λ es. entriesLie es room) (no-entries (plannerOf j .bounds))
-    ∙ entries-none room
+    ap (λ c. numbersLie (entriesFor (plannerOf j .bounds) (standingStrips (plannerOf j) c)) room) (first-standing j z order n)
+    ∙ ap (λ es. numbersLie es room) (no-entries (plannerOf j .bounds))
+    ∙ numbers-none room
 
 pub own-start : (j : Job) (z : Sized j) → WithinBounds (plannerOf j) → (order : List ℕ) (l : Lent) → startVerdict j order l ≡ Accepted
     → Own j order (firstState (plannerOf j) order) (firstRooms (plannerOf j) (l .rooms)) (plainStart (plannerOf j) order)
@@ -319,6 +301,7 @@ own-start j z b order l v =
       parts = first-parts j z (l .rooms);
       sheet-entries = first-sheet j (l .rooms);
       placed-entries = first-placed j z order n (firstRooms (plannerOf j) (l .rooms) .placed-entries);
+      firsts = first-firsts j order (l .rooms) (firstRooms (plannerOf j) (l .rooms)) refl refl;
     }
 
 -- ---- no call of a list

@@ -3,7 +3,7 @@ use mathlib.Core.Path.{_≡_, refl, sym, ap, ap₂, subst, _∙_}
 use mathlib.Core.Logic.{_⊎_, inl, inr, _≢_}
 use mathlib.Core.Bool.{Bool, true, cond}
 use mathlib.Core.List.{List, [], _∷_, _++_, map, flatMap, append-nil, append-assoc}
-use Prim.Native.Nat.{ℕ, zero, suc, _+_, _-_, _*_, _/_, _%_, _≤_, _<_}
+use Prim.Native.Nat.{ℕ, zero, suc, _+_, _-_, _*_, _/_, _%_, _≤_, _<_, min}
 use native.Mathlib.Omega.{arith}
 use lib.ListN.{length, getD, set, take, drop, replicate, length-append, length-map, length-set, length-drop, length-replicate, List·getD-map}
 use lib.Seq.{sets, take-at, drop-at, ext-getD, getD-set-same, getD-set-other, length-sets, drop-drop}
@@ -13,14 +13,15 @@ use lib.Ieee.{Float, nan}
 use borrow.Author.Tests.{le-leb}
 use Rattle.trapezoid.specs.declared.Trapezoid.{Trapezoid}
 use Rattle.trapezoid.specs.Strip.{flat, capacity, partOf}
-use Rattle.index.specs.Buckets.{upFrom}
+use Rattle.index.specs.Buckets.{upFrom, stripNumbers, standingCapacity}
 use Rattle.index.proofs.Flat.{length-upFrom, getD-upFrom}
+use Rattle.index.proofs.FirstBuckets.{length-firsts}
 use Rattle.strips.specs.declared.Rect.{Rect}
 use Rattle.job.specs.Jobs.{Job}
 use Rattle.filling.specs.Shapes.{Shape, noShape, Copy, copiesFrom}
 use Rattle.filling.specs.Rooms.{laid, zeros}
 use Rattle.filling.specs.State.{bySlot, slotRows, Part, flatParts, partAt, flatBounds, boundsAt, orderOf, orientationCounts}
-use Rattle.filling.specs.Consistent.{every}
+use Rattle.filling.specs.Consistent.{every, sheetIndex, firstsFor}
 use Rattle.filling.specs.Start.{partsFrom}
 use Rattle.filling.specs.declared.State.{State}
 
@@ -66,6 +67,20 @@ sixfold-append xs ys a b = let l = length-append xs ys in omega arith
 pub capacity-append : (xs ys : List Float) → Sixfold xs → Sixfold ys → capacity (xs ++ ys) ≡ capacity xs + capacity ys
 unfolding capacity
 capacity-append xs ys a b = let l = length-append xs ys in omega arith
+
+-- as many bucket numbers as strips
+pub length-firstsFor : (b : Rect) (strips : List Float) → length (firstsFor b strips) ≡ capacity strips
+unfolding firstsFor
+length-firstsFor b strips = length-firsts (sheetIndex b) strips (capacity strips)
+
+-- strips laid with their numbers, where they fit: their rooms are used for as many as before
+pub laid-capacity : (b : Rect) (l room : List Float) (firsts : List ℕ) → Sixfold l → capacity l ≤ standingCapacity room firsts
+    → standingCapacity (laid l room) (laid (firstsFor b l) firsts) ≡ standingCapacity room firsts
+unfolding standingCapacity capacity
+laid-capacity b l room firsts q h =
+    let c : length l / 6 ≤ min (min (length room / 6) (length firsts)) stripNumbers = h in
+    let e : length (firstsFor b l) ≡ length l / 6 = length-firstsFor b l in
+    ap₂ (λ (u v : ℕ). min (min (u / 6) v) stripNumbers) (length-laid l room (omega arith)) (length-laid (firstsFor b l) firsts (omega arith))
 
 pub length-flat : (l : List Trapezoid) → length (flat l) ≡ 6 * length l
 unfolding flat

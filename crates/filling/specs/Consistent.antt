@@ -11,7 +11,7 @@ use Rattle.numbers.specs.Numbers.{posZero, fromInt}
 use Rattle.trapezoid.specs.declared.Trapezoid.{Trapezoid}
 use Rattle.trapezoid.specs.Strip.{stripAt, capacity}
 use Rattle.index.specs.declared.Index.{Index}
-use Rattle.index.specs.Buckets.{upFrom, indexOf, entriesOf, standingCapacity}
+use Rattle.index.specs.Buckets.{upFrom, indexOf, entriesOf, firstsOf, standingCapacity}
 use Rattle.strips.specs.declared.Rect.{Rect}
 use Rattle.bits.specs.Fields.{Range, resolutionRange}
 use Rattle.job.specs.Jobs.{Job}
@@ -55,7 +55,8 @@ takenFits j s = leb (s .taken) (j .copies)
 -- strips lie within what their rooms are used for
 unfoldable pub stripCountsFit : Tables → ℕ → Rooms → Bool
 stripCountsFit t placed w =
-    leb (t .«sheet_strips») (standingCapacity (w .sheet)) && (leb (t .«apart_strips») (capacity (w .shapes)) && leb placed (standingCapacity (w .placed)))
+    leb (t .«sheet_strips») (standingCapacity (w .sheet) (w .sheet-firsts))
+    && (leb (t .«apart_strips») (capacity (w .shapes)) && leb placed (standingCapacity (w .placed) (w .placed-firsts)))
 
 -- an orientation's strips lie within the two parts of the shapes room
 unfoldable pub partFits : ℕ → ℕ → Part → Bool
@@ -119,9 +120,9 @@ sameNumbers [] (b ∷ bs) = false
 sameNumbers (a ∷ as′) [] = false
 sameNumbers (a ∷ as′) (b ∷ bs) = eqb a b && sameNumbers as′ bs
 
--- the room begins with the entries
-unfoldable pub entriesLie : List ℕ → List ℕ → Bool
-entriesLie es room = sameNumbers es (take (length es) room)
+-- the room begins with these numbers
+unfoldable pub numbersLie : List ℕ → List ℕ → Bool
+numbersLie ns room = sameNumbers ns (take (length ns) room)
 
 -- the buckets "over the sheet's width"
 unfoldable pub sheetIndex : Rect → Index
@@ -134,13 +135,29 @@ entriesFor b strips = entriesOf (sheetIndex b) strips (capacity strips)
 -- "entries that are not those of the standing strips", sheet and placed
 unfoldable pub entriesFit : Planner → Rooms → List Float → Bool
 entriesFit p w standing =
-    entriesLie (entriesFor (p .bounds) (p .sheet)) (w .sheet-entries) && entriesLie (entriesFor (p .bounds) standing) (w .placed-entries)
+    numbersLie (entriesFor (p .bounds) (p .sheet)) (w .sheet-entries) && numbersLie (entriesFor (p .bounds) standing) (w .placed-entries)
 
--- ---- all of them
+-- ---- document 02, W3: "a false bucket number is 31"
+
+-- the sheet's strips in the room
+unfoldable pub sheetStrips : State → Rooms → List Float
+sheetStrips s w = take (6 * s .tables .«sheet_strips») (w .sheet)
 
 -- the placed copies' strips in the room
 unfoldable pub placedStrips : State → Rooms → List Float
 placedStrips s w = take (6 * s .«placed_strips») (w .placed)
+
+-- the bucket numbers of the strips of a part
+unfoldable pub firstsFor : Rect → List Float → List ℕ
+firstsFor b strips = firstsOf (sheetIndex b) strips (capacity strips)
+
+-- "true for every standing strip", sheet and placed
+unfoldable pub firstsFit : State → Rooms → Bool
+firstsFit s w =
+    numbersLie (firstsFor (s .tables .«sheet_bounds») (sheetStrips s w)) (w .sheet-firsts)
+    && numbersLie (firstsFor (s .tables .«sheet_bounds») (placedStrips s w)) (w .placed-firsts)
+
+-- ---- all of them
 
 -- "a single step's state and rooms disagree": 31 where one of the named tests fails
 unfoldable pub consistent : Job → State → Rooms → Bool
@@ -155,4 +172,5 @@ consistent j s w =
     && (stripsFit standing
     && (layoutFits (s .layout .right) (s .layout .«unplaced_area»)
     && (trackTableFits p (s .taken) (p .shapes) (tracksOf j s)
-    && entriesFit p w standing)))))))
+    && (entriesFit p w standing
+    && firstsFit s w))))))))

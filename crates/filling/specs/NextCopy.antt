@@ -22,7 +22,7 @@ use Rattle.filling.specs.Search.{Found, Track, intervalsAt, looks, searc
 use Rattle.filling.specs.Choice.{Choice, choices, best}
 use Rattle.filling.specs.Rooms.{Rooms, intervalCapacity, laid, zeros}
 use Rattle.filling.specs.State.{plannerAt, orderOf, rememberedNumber, tracksOf}
-use Rattle.filling.specs.Consistent.{entriesFor, placedStrips, consistent}
+use Rattle.filling.specs.Consistent.{entriesFor, firstsFor, placedStrips, consistent}
 
 -- ---- 22: "a look's counted intervals exceed their room"
 
@@ -48,7 +48,7 @@ newStrips p k c = movedStrips (shapeOf p k (c .orientation) .apart) (c .x) (c .y
 -- "strips to be stored exceed the lent strip room" before "bucket entries exceed their room"
 unfoldable pub storeVerdict : Planner → Rooms → List Float → Verdict
 storeVerdict p w strips =
-    refuseIf (ltb (standingCapacity (w .placed)) (capacity strips)) Why.StripRoom
+    refuseIf (ltb (standingCapacity (w .placed) (w .placed-firsts)) (capacity strips)) Why.StripRoom
     (refuseIf (ltb (length (w .placed-entries)) (length (entriesFor (p .bounds) strips))) Why.EntryRoom Accepted)
 
 -- a copy without a place stores nothing
@@ -95,7 +95,7 @@ stateAfter p k ts s standing [] = stateWith s k ts (s .«placed_strips») (layou
 stateAfter p k ts s standing (a ∷ as′) =
     stateWith s k ts (capacity (standing ++ newStrips p k (best a as′))) (layoutAfter p k (s .taken) (s .layout) (a ∷ as′))
 
--- "The winner's apart strips are moved (each number plus x or y) and entered."
+-- "The winner's apart strips are moved (each number plus x or y) and entered."; W3: "worked out on entry"
 unfoldable pub stored : Planner → Rooms → List Float → Rooms
 stored p w strips =
     record {
@@ -104,6 +104,8 @@ stored p w strips =
       placed = laid strips (w .placed);
       sheet-entries = w .sheet-entries;
       placed-entries = laid (entriesFor (p .bounds) strips) (w .placed-entries);
+      sheet-firsts = w .sheet-firsts;
+      placed-firsts = laid (firstsFor (p .bounds) strips) (w .placed-firsts);
     }
 
 -- the rooms after; a copy without a place changes none

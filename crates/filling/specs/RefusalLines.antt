@@ -49,7 +49,7 @@ positionLine j l = record { holds = ltb (positionCapacity (l .positions)) (j .co
 -- "Then come the sheet's strips (20) and entries (21), the shapes' strips by kind and orientation, apart before inset (20)"
 unfoldable pub prepareLines : Planner → Rooms → List Line
 prepareLines p w =
-    record { holds = ltb (standingCapacity (w .sheet)) (capacity (p .sheet)); refusal = Why.StripRoom }
+    record { holds = ltb (standingCapacity (w .sheet) (w .sheet-firsts)) (capacity (p .sheet)); refusal = Why.StripRoom }
     ∷ record { holds = ltb (length (w .sheet-entries)) (length (entriesFor (p .bounds) (p .sheet))); refusal = Why.EntryRoom }
     ∷ record { holds = ltb (capacity (w .shapes)) (capacity (apartStrips p ++ insetStrips p)); refusal = Why.StripRoom }
     ∷ []
@@ -67,7 +67,7 @@ copyLines p w iv k st ss ts fs [] = record { holds = anyAbove (intervalCapacity 
 copyLines p w iv k st ss ts fs (a ∷ as′) =
     let strips = st ++ newStrips p k (best a as′) in
     record { holds = anyAbove (intervalCapacity iv) (intervalCounts p st ss ts fs); refusal = Why.IntervalRoom }
-    ∷ record { holds = ltb (standingCapacity (w .placed)) (capacity strips); refusal = Why.StripRoom }
+    ∷ record { holds = ltb (standingCapacity (w .placed) (w .placed-firsts)) (capacity strips); refusal = Why.StripRoom }
     ∷ record { holds = ltb (length (w .placed-entries)) (length (entriesFor (p .bounds) strips)); refusal = Why.EntryRoom }
     ∷ []
 

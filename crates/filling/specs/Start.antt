@@ -21,7 +21,7 @@ use Rattle.filling.specs.Shapes.{Shape, Planner, plannerOf}
 use Rattle.filling.specs.Rooms.{Rooms, Lent, positionCapacity, laid, zeros, onlyPositions}
 use Rattle.filling.specs.Order.{rearranged}
 use Rattle.filling.specs.State.{bySlot, slotShape, Part, flatParts, flatBounds, emptyLayout, zeroState}
-use Rattle.filling.specs.Consistent.{entriesFor}
+use Rattle.filling.specs.Consistent.{entriesFor, firstsFor}
 
 -- ---- what is prepared
 
@@ -75,6 +75,8 @@ firstRooms p w =
       placed = zeros posZero (w .placed);
       sheet-entries = laid (entriesFor (p .bounds) (p .sheet)) (zeros 0 (w .sheet-entries));
       placed-entries = zeros 0 (w .placed-entries);
+      sheet-firsts = laid (firstsFor (p .bounds) (p .sheet)) (zeros 0 (w .sheet-firsts));
+      placed-firsts = zeros 0 (w .placed-firsts);
     }
 
 -- ---- what is refused
@@ -82,7 +84,7 @@ firstRooms p w =
 -- "Then come the sheet's strips (20) and entries (21), the shapes' strips by kind and orientation, apart before inset (20)"
 unfoldable pub prepareVerdict : Planner → Rooms → Verdict
 prepareVerdict p w =
-    refuseIf (ltb (standingCapacity (w .sheet)) (capacity (p .sheet))) Why.StripRoom
+    refuseIf (ltb (standingCapacity (w .sheet) (w .sheet-firsts)) (capacity (p .sheet))) Why.StripRoom
     (refuseIf (ltb (length (w .sheet-entries)) (length (entriesFor (p .bounds) (p .sheet)))) Why.EntryRoom
     (refuseIf (ltb (capacity (w .shapes)) (capacity (apartStrips p ++ insetStrips p))) Why.StripRoom
     Accepted))

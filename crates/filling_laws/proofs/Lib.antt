@@ -1,5 +1,6 @@
 pub mod SameSearch
 pub mod SameChoice
+pub mod Firsts
 pub mod SameCopy
 pub mod SameCore
 pub mod ReadyNumbers

@@ -17,8 +17,9 @@ use Rattle.numbers.proofs.Literals.{milli}
 use Rattle.trapezoid.specs.Strip.{stripAt, capacity}
 use Rattle.index.specs.Buckets.{standingCapacity}
 use Rattle.index.proofs.Standing.{standing-within}
+use Rattle.index.proofs.FirstBuckets.{firsts-moved}
 use Rattle.strips.specs.declared.Rect.{Rect}
-use Rattle.index.specs.inner.Listing.{Laid, Bounded, Fair}
+use Rattle.index.specs.inner.Listing.{Laid, FirstBuckets, Bounded, Fair}
 use Rattle.index.specs.declared.Index.{Index}
 use Rattle.index.proofs.NewIndex.{new-fair, laid-after}
 use Rattle.look.specs.inner.Ready.{BoundedStrip, BoundedStrips}
@@ -33,7 +34,7 @@ use Rattle.filling.specs.Rooms.{Rooms}
 use Rattle.filling.specs.Order.{rearranged}
 use Rattle.filling.specs.State as States
 use Rattle.filling.specs.State.{orientationCounts, apartRoom, insetRoom, shapeAt, plannerAt, orderOf, trackAt, tracksOf}
-use Rattle.filling.specs.Consistent.{every, stripsFit, boundsFit, takenFits, stripCountsFit, partsFit, columnFits, trackFits, trackTableFits, resolutionFits, shapeFits, plannerFits, layoutFits, entriesFit, sheetIndex, placedStrips, consistent}
+use Rattle.filling.specs.Consistent.{every, stripsFit, boundsFit, takenFits, stripCountsFit, partsFit, columnFits, trackFits, trackTableFits, resolutionFits, shapeFits, plannerFits, layoutFits, entriesFit, firstsFit, sheetIndex, placedStrips, consistent}
 use Rattle.search.specs.columns.inner.Stands.{columnsOf, columnX, lastOf}
 use Rattle.search.proofs.columns.Same as Same
 use Rattle.search.proofs.columns.Steps.{last-bound}
@@ -83,6 +84,7 @@ pub record Tests (j : Job) (s : State) (w : Rooms) : Type 0 where
   pub layout : layoutFits (s .layout .right) (s .layout .«unplaced_area») ≡ true
   pub tracks : trackTableFits (plannerAt j (s .tables) w) (s .taken) (plannerAt j (s .tables) w .shapes) (tracksOf j s) ≡ true
   pub entries : entriesFit (plannerAt j (s .tables) w) w (placedStrips s w) ≡ true
+  pub firsts : firstsFit s w ≡ true
 
 pub tests-of : (j : Job) (s : State) (w : Rooms) → consistent j s w ≡ true → Tests j s w
 unfolding consistent
@@ -95,6 +97,7 @@ tests-of j s w e =
     let e5 = both-second (plannerFits p) _ e4 in
     let e6 = both-second (stripsFit (placedStrips s w)) _ e5 in
     let e7 = both-second (layoutFits (s .layout .right) (s .layout .«unplaced_area»)) _ e6 in
+    let e8 = both-second (trackTableFits p (s .taken) (p .shapes) (tracksOf j s)) _ e7 in
     record {
       taken = both-first (takenFits j s) _ e;
       counts = both-first (stripCountsFit (s .tables) (s .«placed_strips») w) _ e1;
@@ -104,7 +107,8 @@ tests-of j s w e =
       strips = both-first (stripsFit (placedStrips s w)) _ e5;
       layout = both-first (layoutFits (s .layout .right) (s .layout .«unplaced_area»)) _ e6;
       tracks = both-first (trackTableFits p (s .taken) (p .shapes) (tracksOf j s)) _ e7;
-      entries = both-second (trackTableFits p (s .taken) (p .shapes) (tracksOf j s)) _ e7;
+      entries = both-first (entriesFit p w (placedStrips s w)) _ e8;
+      firsts = both-second (entriesFit p w (placedStrips s w)) _ e8;
     }
 
 -- what the planner's test says
@@ -141,18 +145,18 @@ within-room : (n : ℕ) (room : List Float) → leb n (capacity room) ≡ true �
 unfolding capacity
 within-room n room e = let h : n ≤ length room / 6 = leb-true n (length room / 6) e in omega arith
 
-within-standing : (n : ℕ) (room : List Float) → leb n (standingCapacity room) ≡ true → 6 * n ≤ length room
-within-standing n room e = standing-within n room (leb-true n (standingCapacity room) e)
+within-standing : (n : ℕ) (room : List Float) (firsts : List ℕ) → leb n (standingCapacity room firsts) ≡ true → 6 * n ≤ length room
+within-standing n room firsts e = standing-within n room firsts (leb-true n (standingCapacity room firsts) e)
 
 pub strips-within : (j : Job) (s : State) (w : Rooms) → consistent j s w ≡ true → StripsWithin s w
 unfolding stripCountsFit
 strips-within j s w e =
     let a = tests-of j s w e .counts in
-    let b = both-second (leb (s .tables .«sheet_strips») (standingCapacity (w .sheet))) _ a in
+    let b = both-second (leb (s .tables .«sheet_strips») (standingCapacity (w .sheet) (w .sheet-firsts))) _ a in
     record {
-      sheet = within-standing (s .tables .«sheet_strips») (w .sheet) (both-first (leb (s .tables .«sheet_strips») (standingCapacity (w .sheet))) _ a);
+      sheet = within-standing (s .tables .«sheet_strips») (w .sheet) (w .sheet-firsts) (both-first (leb (s .tables .«sheet_strips») (standingCapacity (w .sheet) (w .sheet-firsts))) _ a);
       apart = within-room (s .tables .«apart_strips») (w .shapes) (both-first (leb (s .tables .«apart_strips») (capacity (w .shapes))) _ b);
-      placed = within-standing (s .«placed_strips») (w .placed) (both-second (leb (s .tables .«apart_strips») (capacity (w .shapes))) _ b);
+      placed = within-standing (s .«placed_strips») (w .placed) (w .placed-firsts) (both-second (leb (s .tables .«apart_strips») (capacity (w .shapes))) _ b);
     }
 
 -- the first n strips of a room
@@ -164,6 +168,13 @@ taken-strips n room h = let l = length-take-le (6 * n) room h in let q : length 
 pub laid-whole : (ix : Index) (room : List Float) (n : ℕ) (entries starts : List ℕ) → 6 * n ≤ length room → Laid ix (take (6 * n) room) (capacity (take (6 * n) room)) entries starts → Laid ix room n entries starts
 laid-whole ix room n entries starts h L =
     laid-after ix (take (6 * n) room) room n entries starts (subst (λ (m : ℕ). Laid ix (take (6 * n) room) m entries starts) (taken-strips n room h) L) (λ i l. prefix-strip room n i l) h
+
+-- the same of their bucket numbers
+pub firsts-whole : (ix : Index) (room : List Float) (n : ℕ) (firsts : List ℕ) → 6 * n ≤ length room
+    → FirstBuckets ix (take (6 * n) room) (capacity (take (6 * n) room)) firsts → FirstBuckets ix room n firsts
+firsts-whole ix room n firsts h K =
+    firsts-moved ix (take (6 * n) room) room n firsts (λ i l. prefix-strip room n i l)
+    (subst (λ (m : ℕ). FirstBuckets ix (take (6 * n) room) m firsts) (taken-strips n room h) K)
 
 -- ---- what a slot's search requires
 module _ (j : Job) (s : State) (w : Rooms) (e : consistent j s w ≡ true) (D : InDoubles s w) where

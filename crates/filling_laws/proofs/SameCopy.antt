@@ -3,7 +3,7 @@ use Prim.{⊥}
 use Prim.Native.Nat.{ℕ, zero, suc, _+_, _-_, _*_, _<_, _≤_}
 use native.Mathlib.Omega.{arith}
 use native.Mathlib.Numerals.{add-one}
-use mathlib.Core.Path.{_≡_, refl, sym, ap, _∙_, subst}
+use mathlib.Core.Path.{_≡_, refl, sym, ap, ap₂, _∙_, subst}
 use mathlib.Core.Logic.{_⊎_, inl, inr}
 use mathlib.Core.Bool.{Bool, true, false, _||_, true≢false}
 use mathlib.Core.List.{List, [], _∷_, _++_, map}
@@ -15,7 +15,8 @@ use Rattle.numbers.specs.Numbers.{_⊕_, larger, posZero}
 use Rattle.numbers.proofs.Truth.{either}
 use Rattle.trapezoid.specs.Strip.{capacity}
 use Rattle.index.specs.declared.Index.{Index}
-use Rattle.index.specs.Buckets.{upFrom, entriesOf, standingCapacity}
+use Rattle.index.specs.Buckets.{upFrom, entriesOf, firstsOf, standingCapacity}
+use Rattle.index.specs.inner.Listing.{FirstBuckets}
 use Rattle.enter.specs.inner.EntryRoom.{startsOf}
 use Rattle.filling.specs.declared.State.{State}
 use Rattle.filling.specs.declared.Refusal.{Refusal}
@@ -29,7 +30,7 @@ use Rattle.filling.specs.Choice as Definition
 use Rattle.filling.specs.Choice.{choices, best}
 use Rattle.filling.specs.Rooms.{Rooms, intervalCapacity, laid, zeros}
 use Rattle.filling.specs.State.{rememberedNumber}
-use Rattle.filling.specs.Consistent.{sheetIndex, entriesFor}
+use Rattle.filling.specs.Consistent.{sheetIndex, entriesFor, firstsFor}
 use Rattle.filling.specs.NextCopy as Next
 use Rattle.filling.specs.NextCopy.{anyAbove, intervalCounts, newStrips, storeVerdict, winnerVerdict, copyVerdict, entered, stateWith, layoutAfter, stateAfter, stored, roomsAfter, noStep, placeFound, placeCopy}
 use Rattle.filling.proofs.Steps.{refuse-yes, refuse-no}
@@ -39,7 +40,7 @@ use Rattle.choose.specs.declared.Winner.the-variants as Winners
 use Rattle.choose.specs.inner.Choosing.{partAt, apartPart, Chosen, chosen, chooseFrom}
 use Rattle.store.specs.declared.Stored.{Stored}
 use Rattle.store.specs.declared.Stored.the-variants as Answers
-use Rattle.store.specs.inner.Storing.{Left, left, together, storeOf}
+use Rattle.store.specs.inner.Storing.{Left, left, together, storeOf, FirstsLaid}
 use Rattle.store.proofs.Strips.{strips-count}
 use Rattle.place.specs.declared.Totals.{Totals}
 use Rattle.place.specs.declared.Outcome.{Outcome}
@@ -47,12 +48,13 @@ use Rattle.place.specs.declared.Outcome.the-variants.{At, Nowhere, Refused}
 use Rattle.place.specs.declared.Step.{Step}
 use Rattle.place.specs.inner.Placing.{totalsOf, step, afterOf, withoutOf, PutLeft, put, putLeft, putOf, settleOf, Among, Placed, placeWith, placeOf, orientationNumber, outcomeX, yOf}
 use Rattle.place.proofs.Putting.{chosen-among}
+use Rattle.filling_laws.proofs.Firsts.{firsts-stay, firsts-front}
 use Rattle.filling_laws.proofs.SameChoice.{choiceIn, bestOf, worldOf, shapeIn, shapesFrom, tracksFrom, foundsFrom, trackedFrom, aboveFrom, choose-over, choose-fine}
 
--- ---- the definition's step, from what the code leaves
+-- ---- the definition's step, from what the code leaves: firsts are the placed strips' bucket numbers after it
 
-abbrev pub takenWith : State → Rooms → List Float → Placed → Next.Step
-takenWith s w intervals r =
+abbrev pub takenWith : State → Rooms → List Float → List ℕ → Placed → Next.Step
+takenWith s w intervals firsts r =
     record {
       verdict = Verdicts.Accepted;
       state = record {
@@ -64,17 +66,25 @@ takenWith s w intervals r =
         «placed_strips» = r .left .reply .totals .«placed_strips»;
         layout = entered (s .layout) (s .taken) (orientationNumber (r .left .reply .outcome)) (outcomeX (r .left .reply .outcome)) (yOf (r .left .reply .outcome)) (r .left .reply .totals .«unplaced_area») (r .left .reply .totals .right);
       };
-      rooms = record { shapes = w .shapes; sheet = w .sheet; placed = r .left .placed; sheet-entries = w .sheet-entries; placed-entries = r .left .entries };
+      rooms = record {
+        shapes = w .shapes;
+        sheet = w .sheet;
+        placed = r .left .placed;
+        sheet-entries = w .sheet-entries;
+        placed-entries = r .left .entries;
+        sheet-firsts = w .sheet-firsts;
+        placed-firsts = firsts;
+      };
       intervals = zeros posZero intervals;
     }
 
-abbrev pub stepBy : Outcome → State → Rooms → List Float → Placed → Next.Step
-stepBy (At c) s w intervals r = takenWith s w intervals r
-stepBy Nowhere s w intervals r = takenWith s w intervals r
-stepBy (Refused k) s w intervals r = noStep k s w intervals
+abbrev pub stepBy : Outcome → State → Rooms → List Float → List ℕ → Placed → Next.Step
+stepBy (At c) s w intervals firsts r = takenWith s w intervals firsts r
+stepBy Nowhere s w intervals firsts r = takenWith s w intervals firsts r
+stepBy (Refused k) s w intervals firsts r = noStep k s w intervals
 
-abbrev pub stepFrom : State → Rooms → List Float → Placed → Next.Step
-stepFrom s w intervals r = stepBy (r .left .reply .outcome) s w intervals r
+abbrev pub stepFrom : State → Rooms → List Float → List ℕ → Placed → Next.Step
+stepFrom s w intervals firsts r = stepBy (r .left .reply .outcome) s w intervals firsts r
 
 getD-shapes : (f : ℕ → Shape) (n c i : ℕ) → i < n → getD (map f (upFrom n c)) i noShape ≡ f (c + i)
 unfolding upFrom
@@ -116,10 +126,10 @@ module _ (p : Planner) (k : ℕ) (s : State) (w : Rooms) (intervals : List Float
 
   -- what the code leaves
   abbrev pub codeOf : Placed
-  codeOf = placeOf ix (worldOf p standing room-of inset-bounds parts apart inset slot) area slot n t (w .placed) (w .placed-entries) starts (s .«look_counts») (s .«next_column»)
+  codeOf = placeOf ix (worldOf p standing room-of inset-bounds parts apart inset slot) area slot n t (w .placed) (w .placed-entries) starts (w .placed-firsts) (s .«look_counts») (s .«next_column»)
 
   abbrev given : Chosen → Placed
-  given c = placeWith ix (worldOf p standing room-of inset-bounds parts apart inset slot) area slot t (w .placed) (w .placed-entries) starts c
+  given c = placeWith ix (worldOf p standing room-of inset-bounds parts apart inset slot) area slot t (w .placed) (w .placed-entries) starts (w .placed-firsts) c
 
   abbrev choice : Chosen
   choice = chooseFrom (worldOf p standing room-of inset-bounds parts apart inset slot) slot n 0 (chosen Winners.Nowhere (s .«look_counts») (s .«next_column»))
@@ -149,7 +159,11 @@ module _ (p : Planner) (k : ℕ) (s : State) (w : Rooms) (intervals : List Float
   abbrev accepted : Next.Step
   accepted = record { verdict = Verdicts.Accepted; state = stateAfter p k (searchedAll p ss ts (searchAll p standing ss ts)) s standing cs; rooms = roomsAfter p k w standing cs; intervals = zeros posZero intervals }
 
-  module _ (shaped : getD (p .shapes) k [] ≡ ss) where
+  module _ (shaped : getD (p .shapes) k [] ≡ ss) (firsts : List ℕ) (true-before : FirstBuckets ix (w .placed) (s .«placed_strips») (w .placed-firsts)) where
+    -- the numbers are those of the strips that the code leaves
+    abbrev Written : Placed → Type 0
+    Written D = FirstsLaid ix (D .left .placed) (D .left .reply .totals .«placed_strips») (w .placed-firsts) firsts
+
     abbrev verdict : Verdict
     verdict = copyVerdict p w intervals k standing ss ts (searchAll p standing ss ts)
 
@@ -195,18 +209,22 @@ module _ (p : Planner) (k : ℕ) (s : State) (w : Rooms) (intervals : List Float
     unfolding copyVerdict
     verdict-fine h = refuse-no (anyAbove room-of (intervalCounts p standing ss ts (searchAll p standing ss ts))) Why.IntervalRoom _ h
 
-    over-step : (v : Winner) (c : Chosen) → v ≡ Winners.Overflow → c .winner ≡ v → stepFrom s w intervals (given c) ≡ noStep Why.IntervalRoom s w intervals
+    over-step : (v : Winner) (c : Chosen) → v ≡ Winners.Overflow → c .winner ≡ v → stepFrom s w intervals firsts (given c) ≡ noStep Why.IntervalRoom s w intervals
     unfolding placeWith
-    over-step v c e f = ap (λ (z : Winner). stepFrom s w intervals (record { left = settleOf ix z area slot t parts apart (w .placed) (w .placed-entries) starts; counts = c .counts; next = c .next })) (f ∙ e)
+    over-step v c e f = ap (λ (z : Winner). stepFrom s w intervals firsts (record { left = settleOf ix z area slot t parts apart (w .placed) (w .placed-entries) starts (w .placed-firsts); counts = c .counts; next = c .next })) (f ∙ e)
 
     -- 22
-    same-over : anyAbove room-of (intervalCounts p standing ss ts (searchAll p standing ss ts)) ≡ true → stepFrom s w intervals codeOf ≡ placeCopy p standing ts k s w intervals
-    same-over h = ap (stepFrom s w intervals) (code-is choice refl) ∙ (over-step (choice .winner) choice (over-choice h) refl ∙ sym (place-no Why.IntervalRoom (verdict-over h)))
+    same-over : anyAbove room-of (intervalCounts p standing ss ts (searchAll p standing ss ts)) ≡ true → stepFrom s w intervals firsts codeOf ≡ placeCopy p standing ts k s w intervals
+    same-over h = ap (stepFrom s w intervals firsts) (code-is choice refl) ∙ (over-step (choice .winner) choice (over-choice h) refl ∙ sym (place-no Why.IntervalRoom (verdict-over h)))
 
     -- no place
-    nowhere-step : stepFrom s w intervals (given (chosen Winners.Nowhere counts' next')) ≡ record { verdict = Verdicts.Accepted; state = stateAfter p k (searchedAll p ss ts (searchAll p standing ss ts)) s standing []; rooms = roomsAfter p k w standing []; intervals = zeros posZero intervals }
+    nowhere-firsts : Written (given (chosen Winners.Nowhere counts' next')) → firsts ≡ w .placed-firsts
+    unfolding placeWith withoutOf
+    nowhere-firsts f = firsts-stay ix (w .placed) (s .«placed_strips») (w .placed-firsts) firsts true-before f
+
+    nowhere-step : firsts ≡ w .placed-firsts → stepFrom s w intervals firsts (given (chosen Winners.Nowhere counts' next')) ≡ record { verdict = Verdicts.Accepted; state = stateAfter p k (searchedAll p ss ts (searchAll p standing ss ts)) s standing []; rooms = roomsAfter p k w standing []; intervals = zeros posZero intervals }
     unfolding placeWith withoutOf stateAfter stateWith layoutAfter roomsAfter
-    nowhere-step = refl
+    nowhere-step e = ap (λ (l : List ℕ). stepFrom s w intervals l (given (chosen Winners.Nowhere counts' next'))) e
 
     -- ---- the winner is stored, where it is of orientation c .orientation
     module _ (c : Definition.Choice) (inside : c .orientation < n) where
@@ -234,17 +252,17 @@ module _ (p : Planner) (k : ℕ) (s : State) (w : Rooms) (intervals : List Float
       count-is = sym (strips-count part (c .x) (c .y) (s .«placed_strips») (w .placed) room)
 
       abbrev few : Bool
-      few = ltb (standingCapacity (w .placed)) (capacity strips)
+      few = ltb (standingCapacity (w .placed) (w .placed-firsts)) (capacity strips)
 
       abbrev tight : Bool
       tight = ltb (length (w .placed-entries)) (length (entriesOf ix strips (capacity strips)))
 
       verdict-is : storeVerdict p w (standing ++ newStrips p k c) ≡ refuseIf few Why.StripRoom (refuseIf tight Why.EntryRoom Verdicts.Accepted)
       unfolding storeVerdict entriesFor
-      verdict-is = ap (λ (z : List Float). refuseIf (ltb (standingCapacity (w .placed)) (capacity z)) Why.StripRoom (refuseIf (ltb (length (w .placed-entries)) (length (entriesOf ix z (capacity z)))) Why.EntryRoom Verdicts.Accepted)) strips-are
+      verdict-is = ap (λ (z : List Float). refuseIf (ltb (standingCapacity (w .placed) (w .placed-firsts)) (capacity z)) Why.StripRoom (refuseIf (ltb (length (w .placed-entries)) (length (entriesOf ix z (capacity z)))) Why.EntryRoom Verdicts.Accepted)) strips-are
 
       abbrev storing : Left
-      storing = storeOf ix part (c .x) (c .y) (s .«placed_strips») (w .placed) (w .placed-entries) starts
+      storing = storeOf ix part (c .x) (c .y) (s .«placed_strips») (w .placed) (w .placed-entries) starts (w .placed-firsts)
 
       store-few : few ≡ true → storing ≡ left Answers.NoStrips (w .placed) (w .placed-entries) starts
       unfolding storeOf
@@ -275,20 +293,26 @@ module _ (p : Planner) (k : ℕ) (s : State) (w : Rooms) (intervals : List Float
           }
 
       -- 20
-      few-step : few ≡ true → stepFrom s w intervals (leaving storing) ≡ noStep Why.StripRoom s w intervals
+      few-step : few ≡ true → stepFrom s w intervals firsts (leaving storing) ≡ noStep Why.StripRoom s w intervals
       unfolding putLeft
-      few-step e = ap (λ (z : Left). stepFrom s w intervals (leaving z)) (store-few e)
+      few-step e = ap (λ (z : Left). stepFrom s w intervals firsts (leaving z)) (store-few e)
 
       -- 21
-      tight-step : few ≡ false → tight ≡ true → stepFrom s w intervals (leaving storing) ≡ noStep Why.EntryRoom s w intervals
+      tight-step : few ≡ false → tight ≡ true → stepFrom s w intervals firsts (leaving storing) ≡ noStep Why.EntryRoom s w intervals
       unfolding putLeft
-      tight-step e f = ap (λ (z : Left). stepFrom s w intervals (leaving z)) (store-tight e f)
+      tight-step e f = ap (λ (z : Left). stepFrom s w intervals firsts (leaving z)) (store-tight e f)
 
-      done-step : few ≡ false → tight ≡ false → stepFrom s w intervals (leaving storing) ≡ standsAfter
-      unfolding putLeft stateWith stored entriesFor
-      done-step e f =
-          ap (λ (z : Left). stepFrom s w intervals (leaving z)) (store-done e f)
-          ∙ (ap (λ (z : ℕ). takenWith s w intervals (record { left = put (step (At (choiceIn c)) (record { «placed_strips» = z; right = larger (s .layout .right) (c .right); «unplaced_area» = s .layout .«unplaced_area» })) (laid strips (w .placed)) (laid (entriesOf ix strips (capacity strips)) (w .placed-entries)) (startsOf ix strips (capacity strips)); counts = counts'; next = next' })) count-is
+      done-firsts : few ≡ false → tight ≡ false → Written (leaving storing) → firsts ≡ laid (firstsOf ix strips (capacity strips)) (w .placed-firsts)
+      unfolding putLeft
+      done-firsts e f h =
+          let F = subst (λ (z : Left). Written (leaving z)) (store-done e f) h in
+          F .written ∙ ap (λ (l : List ℕ). laid l (w .placed-firsts)) (ap (firstsOf ix (laid strips (w .placed))) count-is ∙ firsts-front ix strips (w .placed))
+
+      done-step : few ≡ false → tight ≡ false → firsts ≡ laid (firstsOf ix strips (capacity strips)) (w .placed-firsts) → stepFrom s w intervals firsts (leaving storing) ≡ standsAfter
+      unfolding putLeft stateWith stored entriesFor firstsFor
+      done-step e f g =
+          ap₂ (λ (l : List ℕ) (z : Left). stepFrom s w intervals l (leaving z)) g (store-done e f)
+          ∙ (ap (λ (z : ℕ). takenWith s w intervals (laid (firstsOf ix strips (capacity strips)) (w .placed-firsts)) (record { left = put (step (At (choiceIn c)) (record { «placed_strips» = z; right = larger (s .layout .right) (c .right); «unplaced_area» = s .layout .«unplaced_area» })) (laid strips (w .placed)) (laid (entriesOf ix strips (capacity strips)) (w .placed-entries)) (startsOf ix strips (capacity strips)); counts = counts'; next = next' })) count-is
           ∙ (ap (λ (z : ℕ). record {
             verdict = Verdicts.Accepted;
             state = stateWith s k (searchedAll p ss ts (searchAll p standing ss ts)) (capacity strips) (entered (s .layout) (s .taken) z (c .x) (c .y) (s .layout .«unplaced_area») (larger (s .layout .right) (c .right)));
@@ -318,15 +342,15 @@ module _ (p : Planner) (k : ℕ) (s : State) (w : Rooms) (intervals : List Float
     unfolding accepted-with stateAfter layoutAfter roomsAfter
     accepted-at a as′ h = refl
 
-    nowhere-is : stepFrom s w intervals (given (chosen Winners.Nowhere counts' next')) ≡ accepted-with []
+    nowhere-is : firsts ≡ w .placed-firsts → stepFrom s w intervals firsts (given (chosen Winners.Nowhere counts' next')) ≡ accepted-with []
     unfolding accepted-with
-    nowhere-is = nowhere-step
+    nowhere-is e = nowhere-step e
 
     accepted-is : (l : List Definition.Choice) → cs ≡ l → verdict ≡ Verdicts.Accepted → placeCopy p standing ts k s w intervals ≡ accepted-with l
     unfolding accepted-with
     accepted-is l e v = place-yes v ∙ ap accepted-with e
 
-    module _ (h : anyAbove room-of (intervalCounts p standing ss ts (searchAll p standing ss ts)) ≡ false) where
+    module _ (h : anyAbove room-of (intervalCounts p standing ss ts (searchAll p standing ss ts)) ≡ false) (after : Written codeOf) where
       code-best : (l : List Definition.Choice) → cs ≡ l → codeOf ≡ given (chosen (bestOf l) counts' next')
       code-best l e = code-is (chosen (bestOf l) counts' next') (fine-choice h ∙ ap (λ (z : List Definition.Choice). chosen (bestOf z) counts' next') e)
 
@@ -335,10 +359,10 @@ module _ (p : Planner) (k : ℕ) (s : State) (w : Rooms) (intervals : List Float
           chosen-among (worldOf p standing room-of inset-bounds parts apart inset slot) slot n (Winners.At (choiceIn (best a as′))) (s .«look_counts») (s .«next_column») counts' next'
           (sym (fine-choice h ∙ ap (λ (z : List Definition.Choice). chosen (bestOf z) counts' next') e))
 
-      same-nowhere : cs ≡ [] → stepFrom s w intervals codeOf ≡ placeCopy p standing ts k s w intervals
+      same-nowhere : cs ≡ [] → stepFrom s w intervals firsts codeOf ≡ placeCopy p standing ts k s w intervals
       same-nowhere e =
-          ap (stepFrom s w intervals) (code-best [] e)
-          ∙ (nowhere-is ∙ sym (accepted-is [] e (verdict-fine h ∙ (ap (winnerVerdict p w k standing) e ∙ verdict-nowhere))))
+          ap (stepFrom s w intervals firsts) (code-best [] e)
+          ∙ (nowhere-is (nowhere-firsts (subst Written (code-best [] e) after)) ∙ sym (accepted-is [] e (verdict-fine h ∙ (ap (winnerVerdict p w k standing) e ∙ verdict-nowhere))))
 
       module _ (a : Definition.Choice) (as′ : List Definition.Choice) (e : cs ≡ a ∷ as′) where
         abbrev c : Definition.Choice
@@ -353,22 +377,22 @@ module _ (p : Planner) (k : ℕ) (s : State) (w : Rooms) (intervals : List Float
         verdict-by : verdict ≡ refuseIf (few c i) Why.StripRoom (refuseIf (tight c i) Why.EntryRoom Verdicts.Accepted)
         verdict-by = verdict-fine h ∙ (ap (winnerVerdict p w k standing) e ∙ (verdict-at a as′ ∙ verdict-is c i))
 
-        same-at : (few c i ≡ true) ⊎ (few c i ≡ false) → (tight c i ≡ true) ⊎ (tight c i ≡ false) → stepFrom s w intervals codeOf ≡ placeCopy p standing ts k s w intervals
-        same-at (inl f) g = ap (stepFrom s w intervals) code-at ∙ (few-step c i f ∙ sym (place-no Why.StripRoom (verdict-by ∙ refuse-yes (few c i) Why.StripRoom _ f)))
-        same-at (inr f) (inl g) = ap (stepFrom s w intervals) code-at ∙ (tight-step c i f g ∙ sym (place-no Why.EntryRoom (verdict-by ∙ (refuse-no (few c i) Why.StripRoom _ f ∙ refuse-yes (tight c i) Why.EntryRoom _ g))))
+        same-at : (few c i ≡ true) ⊎ (few c i ≡ false) → (tight c i ≡ true) ⊎ (tight c i ≡ false) → stepFrom s w intervals firsts codeOf ≡ placeCopy p standing ts k s w intervals
+        same-at (inl f) g = ap (stepFrom s w intervals firsts) code-at ∙ (few-step c i f ∙ sym (place-no Why.StripRoom (verdict-by ∙ refuse-yes (few c i) Why.StripRoom _ f)))
+        same-at (inr f) (inl g) = ap (stepFrom s w intervals firsts) code-at ∙ (tight-step c i f g ∙ sym (place-no Why.EntryRoom (verdict-by ∙ (refuse-no (few c i) Why.StripRoom _ f ∙ refuse-yes (tight c i) Why.EntryRoom _ g))))
         same-at (inr f) (inr g) =
-            ap (stepFrom s w intervals) code-at
-            ∙ (done-step c i f g
+            ap (stepFrom s w intervals firsts) code-at
+            ∙ (done-step c i f g (done-firsts c i f g (subst Written code-at after))
             ∙ (accepted-at a as′ i ∙ sym (accepted-is (a ∷ as′) e (verdict-by ∙ (refuse-no (few c i) Why.StripRoom _ f ∙ refuse-no (tight c i) Why.EntryRoom _ g)))))
 
-      by-choices : (l : List Definition.Choice) → cs ≡ l → stepFrom s w intervals codeOf ≡ placeCopy p standing ts k s w intervals
+      by-choices : (l : List Definition.Choice) → cs ≡ l → stepFrom s w intervals firsts codeOf ≡ placeCopy p standing ts k s w intervals
       by-choices [] e = same-nowhere e
       by-choices (a ∷ as′) e = same-at a as′ e (either (few (best a as′) (inside-is a as′ e))) (either (tight (best a as′) (inside-is a as′ e)))
 
     -- the definition's step is what the code leaves
-    pub same-step : stepFrom s w intervals codeOf ≡ placeCopy p standing ts k s w intervals
-    same-step = go (either (anyAbove room-of (intervalCounts p standing ss ts (searchAll p standing ss ts))))
+    pub same-step : Written codeOf → stepFrom s w intervals firsts codeOf ≡ placeCopy p standing ts k s w intervals
+    same-step after = go (either (anyAbove room-of (intervalCounts p standing ss ts (searchAll p standing ss ts))))
       where
-        go : (anyAbove room-of (intervalCounts p standing ss ts (searchAll p standing ss ts)) ≡ true) ⊎ (anyAbove room-of (intervalCounts p standing ss ts (searchAll p standing ss ts)) ≡ false) → stepFrom s w intervals codeOf ≡ placeCopy p standing ts k s w intervals
+        go : (anyAbove room-of (intervalCounts p standing ss ts (searchAll p standing ss ts)) ≡ true) ⊎ (anyAbove room-of (intervalCounts p standing ss ts (searchAll p standing ss ts)) ≡ false) → stepFrom s w intervals firsts codeOf ≡ placeCopy p standing ts k s w intervals
         go (inl h) = same-over h
-        go (inr h) = by-choices h cs refl
+        go (inr h) = by-choices h after cs refl

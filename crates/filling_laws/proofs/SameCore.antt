@@ -7,6 +7,7 @@ use mathlib.Core.List.{List, [], _∷_, map}
 use lib.ListN.{length, getD, take, drop}
 use lib.Ieee.{Float}
 use Rattle.index.specs.Buckets.{upFrom}
+use Rattle.index.specs.inner.Listing.{FirstBuckets}
 use Rattle.job.specs.Jobs.{Job}
 use Rattle.filling.specs.declared.State.{State}
 use Rattle.filling.specs.Shapes.{Planner, Shape}
@@ -14,9 +15,11 @@ use Rattle.filling.specs.Search.{Track}
 use Rattle.filling.specs.Rooms.{Rooms}
 use Rattle.filling.specs.State as States
 use Rattle.filling.specs.State.{slotRows, orientationCounts, apartRoom, insetRoom, shapeAt, plannerAt, orderOf, trackAt, tracksOf}
-use Rattle.filling.specs.Consistent.{placedStrips}
+use Rattle.filling.specs.Consistent.{sheetIndex, placedStrips}
 use Rattle.filling.specs.NextCopy.{placeCopy, placeNext, coreStep}
 use Rattle.choose.specs.inner.Choosing.{partAt, boundsAt}
+use Rattle.store.specs.inner.Storing.{FirstsLaid}
+use Rattle.place.specs.inner.Placing.{Placed}
 use Rattle.filling_laws.proofs.SameCopy.{stepFrom, standing, ss, ts, codeOf, same-step}
 
 -- row i of a table by kind and orientation
@@ -64,10 +67,16 @@ module _ (j : Job) (s : State) (w : Rooms) (intervals : List Float) (k : ℕ) (s
   unfolding coreStep
   core-is ks e = ap (placeNext j s w intervals) e
 
+  -- what the code leaves
+  abbrev code : Placed
+  code = codeOf p k s w intervals (s .tables .«inset_bounds») (s .tables .parts) apart inset n starts room slots
+
   -- the code's answer, state and rooms for the next copy, of kind k
-  pub same-core : (ks : List ℕ) → drop (s .taken) (orderOf j s) ≡ k ∷ ks
-      → stepFrom s w intervals (codeOf p k s w intervals (s .tables .«inset_bounds») (s .tables .parts) apart inset n starts room slots) ≡ coreStep j s w intervals
-  same-core ks e =
-      same-step p k s w intervals (s .tables .«inset_bounds») (s .tables .parts) apart inset n starts room slots shaped
+  pub same-core : (ks : List ℕ) → drop (s .taken) (orderOf j s) ≡ k ∷ ks → (firsts : List ℕ)
+      → FirstBuckets (sheetIndex (p .bounds)) (w .placed) (s .«placed_strips») (w .placed-firsts)
+      → FirstsLaid (sheetIndex (p .bounds)) (code .left .placed) (code .left .reply .totals .«placed_strips») (w .placed-firsts) firsts
+      → stepFrom s w intervals firsts code ≡ coreStep j s w intervals
+  same-core ks e firsts K F =
+      same-step p k s w intervals (s .tables .«inset_bounds») (s .tables .parts) apart inset n starts room slots shaped firsts K F
       ∙ (ap (λ (z : List Track). placeCopy p (take (6 * s .«placed_strips») (w .placed)) z k s w intervals) (sym tracked)
       ∙ sym (core-is ks e ∙ next-is ks))

@@ -3,207 +3,17 @@
 // oracle/README.md describes; after each call one line has its answer and the state's hash, another
 // every room's. The stored answers are those of the oracle's planner with rooms (oracle/samples/filling.py),
 // never of this code.
+mod calls;
+
 ghost use Prim.Native.Nat.{_≤_, _<_};
 use filling::State;
+use index::Bucket;
 use index::Entry;
 use replay::command;
 use replay::command::Command;
 use replay::edit;
 use replay::lend;
 use replay::show;
-use report::NestResult;
-use start::replies::Started;
-use step::Stepped;
-
-fn show_start(r: Started) -> State {
-    io::write_all(1, b"start ");
-    let v = r.verdict;
-    show::verdict(v);
-    let s = r.state;
-    show::state(s);
-    show::end();
-    s
-}
-
-fn show_step(r: Stepped) -> State {
-    io::write_all(1, b"next ");
-    let v = r.verdict;
-    show::verdict(v);
-    let s = r.state;
-    show::state(s);
-    show::end();
-    s
-}
-
-fn show_filling(r: NestResult) {
-    io::write_all(1, b"fill ");
-    let v = r.verdict;
-    show::verdict(v);
-    let p = r.plan;
-    show::plan(p);
-    show::end();
-}
-
-// A start, in the slots that are lent.
-fn start(
-    lengths: &[usize],
-    bytes: &[u8],
-    order: &[usize],
-    shapes: &mut [f64],
-    sheet: &mut [f64],
-    placed: &mut [f64],
-    sheet_entries: &mut [Entry],
-    placed_entries: &mut [Entry],
-    intervals: &mut [f64],
-    positions: &mut [f64],
-) -> State {
-    let j = lend::lent(lengths, 7, bytes.len());
-    let k = lend::lent(lengths, 8, order.len());
-    let s0 = lend::lent(lengths, 0, shapes.len());
-    let s1 = lend::lent(lengths, 1, sheet.len());
-    let s2 = lend::lent(lengths, 2, placed.len());
-    let e1 = lend::lent(lengths, 3, sheet_entries.len());
-    let e2 = lend::lent(lengths, 4, placed_entries.len());
-    let v = lend::lent(lengths, 5, intervals.len());
-    let p = lend::lent(lengths, 6, positions.len());
-    let r = start::start(
-        &bytes[..j],
-        &order[..k],
-        &mut shapes[..s0],
-        &mut sheet[..s1],
-        &mut placed[..s2],
-        &mut sheet_entries[..e1],
-        &mut placed_entries[..e2],
-        &mut intervals[..v],
-        &mut positions[..p],
-    );
-    show_start(r)
-}
-
-// The next copy, in the slots that are lent.
-fn next_copy(
-    state: State,
-    lengths: &[usize],
-    bytes: &[u8],
-    shapes: &[f64],
-    sheet: &[f64],
-    placed: &mut [f64],
-    sheet_entries: &[Entry],
-    placed_entries: &mut [Entry],
-    intervals: &mut [f64],
-) -> State {
-    let j = lend::lent(lengths, 7, bytes.len());
-    let s0 = lend::lent(lengths, 0, shapes.len());
-    let s1 = lend::lent(lengths, 1, sheet.len());
-    let s2 = lend::lent(lengths, 2, placed.len());
-    let e1 = lend::lent(lengths, 3, sheet_entries.len());
-    let e2 = lend::lent(lengths, 4, placed_entries.len());
-    let v = lend::lent(lengths, 5, intervals.len());
-    let r = next_copy::next_copy(
-        &bytes[..j],
-        state,
-        &shapes[..s0],
-        &sheet[..s1],
-        &mut placed[..s2],
-        &sheet_entries[..e1],
-        &mut placed_entries[..e2],
-        &mut intervals[..v],
-    );
-    show_step(r)
-}
-
-// A filling, in the slots that are lent.
-fn fill(
-    lengths: &[usize],
-    bytes: &[u8],
-    order: &[usize],
-    shapes: &mut [f64],
-    sheet: &mut [f64],
-    placed: &mut [f64],
-    sheet_entries: &mut [Entry],
-    placed_entries: &mut [Entry],
-    intervals: &mut [f64],
-    positions: &mut [f64],
-) {
-    let j = lend::lent(lengths, 7, bytes.len());
-    let k = lend::lent(lengths, 8, order.len());
-    let s0 = lend::lent(lengths, 0, shapes.len());
-    let s1 = lend::lent(lengths, 1, sheet.len());
-    let s2 = lend::lent(lengths, 2, placed.len());
-    let e1 = lend::lent(lengths, 3, sheet_entries.len());
-    let e2 = lend::lent(lengths, 4, placed_entries.len());
-    let v = lend::lent(lengths, 5, intervals.len());
-    let p = lend::lent(lengths, 6, positions.len());
-    let r = fill::fill(
-        &bytes[..j],
-        &order[..k],
-        &mut shapes[..s0],
-        &mut sheet[..s1],
-        &mut placed[..s2],
-        &mut sheet_entries[..e1],
-        &mut placed_entries[..e2],
-        &mut intervals[..v],
-        &mut positions[..p],
-    );
-    show_filling(r);
-}
-
-// The three calls: a start (S), the next copy (N), a filling (F), which leaves the state alone.
-fn call(
-    c: Command,
-    state: State,
-    lengths: &[usize],
-    bytes: &[u8],
-    order: &[usize],
-    shapes: &mut [f64],
-    sheet: &mut [f64],
-    placed: &mut [f64],
-    sheet_entries: &mut [Entry],
-    placed_entries: &mut [Entry],
-    intervals: &mut [f64],
-    positions: &mut [f64],
-) -> State {
-    if c.letter == 83 {
-        return start(
-            lengths,
-            bytes,
-            order,
-            shapes,
-            sheet,
-            placed,
-            sheet_entries,
-            placed_entries,
-            intervals,
-            positions,
-        );
-    }
-    if c.letter == 78 {
-        return next_copy(
-            state,
-            lengths,
-            bytes,
-            shapes,
-            sheet,
-            placed,
-            sheet_entries,
-            placed_entries,
-            intervals,
-        );
-    }
-    fill(
-        lengths,
-        bytes,
-        order,
-        shapes,
-        sheet,
-        placed,
-        sheet_entries,
-        placed_entries,
-        intervals,
-        positions,
-    );
-    state
-}
 
 // The leaf (K): kind n, orientation m, inset strips where a is 1.
 fn leaf(c: Command, state: State, bytes: &[u8], shapes: &[f64]) {
@@ -242,7 +52,7 @@ fn revise(c: Command, state: State, lengths: &[usize], bytes: &[u8], shapes: &[f
     if c.letter == 69 {
         return edit::edit(c, state);
     }
-    let j = lend::lent(lengths, 7, bytes.len());
+    let j = lend::lent(lengths, 9, bytes.len());
     let n = lend::lent(lengths, 0, shapes.len());
     leaf(c, state, &bytes[..j], &shapes[..n]);
     state
@@ -278,8 +88,62 @@ fn is_of_state(letter: u8) -> bool {
     }
 }
 
+// What a command does beside what it gives; the state after it.
+fn obey(
+    c: Command,
+    state: State,
+    lengths: &[usize],
+    bytes: &[u8],
+    order: &[usize],
+    shapes: &mut [f64],
+    sheet: &mut [f64],
+    placed: &mut [f64],
+    sheet_entries: &mut [Entry],
+    placed_entries: &mut [Entry],
+    sheet_firsts: &mut [Bucket],
+    placed_firsts: &mut [Bucket],
+    intervals: &mut [f64],
+    positions: &mut [f64],
+) -> State {
+    if is_of_state(c.letter) {
+        return revise(c, state, lengths, bytes, shapes);
+    }
+    if is_call(c.letter) {
+        return calls::call(
+            c,
+            state,
+            lengths,
+            bytes,
+            order,
+            shapes,
+            sheet,
+            placed,
+            sheet_entries,
+            placed_entries,
+            sheet_firsts,
+            placed_firsts,
+            intervals,
+            positions,
+        );
+    }
+    lend::touch_rooms(
+        c,
+        lengths,
+        shapes,
+        sheet,
+        placed,
+        sheet_entries,
+        placed_entries,
+        sheet_firsts,
+        placed_firsts,
+        intervals,
+        positions,
+    );
+    state
+}
+
 fn main() {
-    let mut lengths = [0usize; 9];
+    let mut lengths = [0usize; 11];
     let mut bytes = [0u8; 66000];
     let mut order = [0usize; 4100];
     let mut shapes = [0.0f64; 8200];
@@ -287,6 +151,8 @@ fn main() {
     let mut placed = [0.0f64; 8200];
     let mut sheet_entries = [0u16; 16500];
     let mut placed_entries = [0u16; 16500];
+    let mut sheet_firsts = [0u16; 1400];
+    let mut placed_firsts = [0u16; 1400];
     let mut intervals = [0.0f64; 8200];
     let mut positions = [0.0f64; 20500];
     let mut state = edit::zero_state();
@@ -295,35 +161,21 @@ fn main() {
         let c = command::next();
         left = turns_left(c.letter, left);
         lend::load(c, &mut bytes, &mut order, &mut lengths);
-        if is_of_state(c.letter) {
-            state = revise(c, state, &lengths, &bytes, &shapes);
-        } else if is_call(c.letter) {
-            state = call(
-                c,
-                state,
-                &lengths,
-                &bytes,
-                &order,
-                &mut shapes,
-                &mut sheet,
-                &mut placed,
-                &mut sheet_entries,
-                &mut placed_entries,
-                &mut intervals,
-                &mut positions,
-            );
-        } else {
-            lend::touch_rooms(
-                c,
-                &lengths,
-                &mut shapes,
-                &mut sheet,
-                &mut placed,
-                &mut sheet_entries,
-                &mut placed_entries,
-                &mut intervals,
-                &mut positions,
-            );
-        }
+        state = obey(
+            c,
+            state,
+            &lengths,
+            &bytes,
+            &order,
+            &mut shapes,
+            &mut sheet,
+            &mut placed,
+            &mut sheet_entries,
+            &mut placed_entries,
+            &mut sheet_firsts,
+            &mut placed_firsts,
+            &mut intervals,
+            &mut positions,
+        );
     }
 }

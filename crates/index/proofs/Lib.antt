@@ -6,4 +6,5 @@ pub mod BucketOrder
 pub mod NewIndex
 pub mod Listed
 pub mod EntryLists
+pub mod FirstBuckets
 pub mod Standing

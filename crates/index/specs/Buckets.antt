@@ -58,10 +58,14 @@ byBucket ss = flatMap (λ b. numbersIn b 0 ss) (upFrom buckets 0)
 unfoldable pub entriesOf : Index → List Float → ℕ → List ℕ
 entriesOf ix standing n = byBucket (map (λ i. spanOf ix (stripAt standing i)) (upFrom n 0))
 
+-- document 02, W3: "The strip record gets that bucket number": the bucket of x0 of each of the first n standing strips
+unfoldable pub firstsOf : Index → List Float → ℕ → List ℕ
+firstsOf ix standing n = map (λ i. bucketIn ix (stripAt standing i .x0)) (upFrom n 0)
+
 -- document 02, W8: "Strip numbers run from 0 to 65,535. A room for standing strips is used up to 65,536 strips"
 abbrev pub stripNumbers : ℕ
 stripNumbers = 65_536
 
--- how many standing strips a room is used for
-unfoldable pub standingCapacity : List Float → ℕ
-standingCapacity room = min (capacity room) stripNumbers
+-- how many standing strips their rooms are used for: W3, "For 20 the shorter room counts"
+unfoldable pub standingCapacity : List Float → List ℕ → ℕ
+standingCapacity strips firsts = min (min (capacity strips) (length firsts)) stripNumbers

@@ -2,20 +2,23 @@
 pub mod entries;
 
 ghost use mathlib.Core.Path.{_≡_};
-ghost use Prim.Native.Nat.{ℕ, _+_, _-_, _*_, _/_, _≤_, _<_};
+ghost use Prim.Native.Nat.{ℕ, _+_, _-_, _*_, _/_, _≤_, _<_, min};
 ghost use lib.ListN.{length, getD};
 ghost use Rattle.trapezoid.specs.Strip.{stripAt, capacity};
 ghost use Rattle.index.specs.Buckets.{indexOf, bucketIn, standingCapacity};
 ghost use Rattle.index.specs.Intervals.{countsOf};
-ghost use Rattle.index.specs.inner.Listing.{movingOf, heightsOf, meetingAt, pairOf, collected, push, pushAll, entryOf, listEntries, listMoving, listed};
-ghost use Rattle.index.specs.inner.Listing.{Usable};
+ghost use Rattle.index.specs.inner.Listing.{movingOf, heightsOf, meetingAt, pairOf, collected, push, pushAll, entryBy, listEntriesBy, listMoving, listed};
+ghost use Rattle.index.specs.inner.Listing.{Usable, FirstBuckets};
 use trapezoid::Trapezoid;
 
 // An entry of a bucket: the number of a standing strip.
 pub type Entry = u16;
 
+// The number of a bucket, kept with a standing strip.
+pub type Bucket = u16;
+
 // How many strips entries can number: 0 to 65,535.
-pub const STRIP_NUMBERS: usize = 65536;
+const STRIP_NUMBERS: usize = 65536;
 
 // The buckets: Index::BUCKETS of them, each `width` wide, the first from x0 on.
 pub struct Index {
@@ -74,7 +77,7 @@ impl Index {
 
     // Appends the counted intervals of all moving strips at x against the standing strips to the
     // `start` intervals of the room; answers how many there are then, one more than fit if they do not.
-    // Only crates of ours call it: the entries must name standing strips.
+    // Only crates of ours call it: the entries must name standing strips, the kept numbers be true.
     pub fn forbidden(
         self,
         moving: &[f64],
@@ -86,8 +89,9 @@ impl Index {
         starts: &[usize],
         room: &mut [f64],
         start: usize,
+        firsts: &[Bucket],
     ) -> usize
-        requires { ⌜ Usable (now standing) (now entries) (now starts) ⌝ }
+        requires { ⌜ Usable (now standing) (now entries) (now starts) × FirstBuckets self (now standing) (capacity (now standing)) (now firsts) ⌝ }
         ensures { λ r. ⌜ collected (now (room .exit)) r ≡ pushAll (collected (now (room .entry)) start) (listed self «y_low» «y_high» (now (standing .entry))
             (now (entries .entry)) (now (starts .entry)) (now (moving .entry)) x (capacity (now (moving .entry))) 0) ⌝ }
     {
@@ -97,7 +101,7 @@ impl Index {
         while j < count {
             let q = trapezoid::load(moving, j);
             let m = Moving::new(q, x, y_low, y_high);
-            n = list_moving(self, m, standing, entries, starts, room, n);
+            n = list_moving(self, m, standing, entries, starts, room, n, firsts);
             j += 1;
         }
         n
@@ -119,7 +123,7 @@ impl Moving {
     }
 }
 
-// The number of the strip of entry e. An entry becomes a number here alone; `moves` copies entries.
+// The number at e of entries or of kept buckets. They are read here alone; `moves` copies entries.
 pub fn entry(entries: &[Entry], e: usize) -> usize
     requires { ⌜ e < length (now entries) ⌝ }
     ensures { λ r. ⌜ r ≡ getD (now (entries .entry)) e 0 ⌝ }
@@ -127,15 +131,23 @@ pub fn entry(entries: &[Entry], e: usize) -> usize
     entries[e] as usize
 }
 
-// How many strips a room for standing strips is used for: at most as many as entries can name.
-pub fn standing_capacity(room: &[f64]) -> usize
-    ensures { λ r. ⌜ r ≡ standingCapacity (now (room .entry)) ⌝ }
+// The smaller of two.
+pub fn fewer(a: usize, b: usize) -> usize
+    ensures { λ r. ⌜ r ≡ min a b ⌝ }
 {
-    let n = trapezoid::capacity(room);
-    if n < STRIP_NUMBERS {
-        return n;
+    if b < a {
+        return b;
     }
-    STRIP_NUMBERS
+    a
+}
+
+// How many standing strips a room and its room of kept buckets are used for: at most as many as
+// entries can name.
+pub fn standing_capacity(room: &[f64], firsts: &[Bucket]) -> usize
+    ensures { λ r. ⌜ r ≡ standingCapacity (now (room .entry)) (now (firsts .entry)) ⌝ }
+{
+    let n = fewer(trapezoid::capacity(room), firsts.len());
+    fewer(n, STRIP_NUMBERS)
 }
 
 // The forbidden heights of a pair that meets over a..b.
@@ -203,30 +215,32 @@ fn meet(m: Moving, p: Trapezoid, room: &mut [f64], n: usize) -> usize
     n
 }
 
-// The same in the bucket b where that is the first that both strips have.
+// The same for the standing strip i in the bucket b where that is the first that both strips have.
 fn meet_once(
-    ix: Index,
     m: Moving,
     first: usize,
     b: usize,
-    p: Trapezoid,
+    standing: &[f64],
+    i: usize,
     room: &mut [f64],
     n: usize,
+    firsts: &[Bucket],
 ) -> usize
-    ensures { λ r. ⌜ collected (now (room .exit)) r ≡ pushAll (collected (now (room .entry)) n) (entryOf ix m first b p) ⌝ }
+    requires { ⌜ (6 * i + 6 ≤ length (now standing)) × (i < length (now firsts)) ⌝ }
+    ensures { λ r. ⌜ collected (now (room .exit)) r ≡ pushAll (collected (now (room .entry)) n)
+        (entryBy m first b (getD (now (firsts .entry)) i 0) (stripAt (now (standing .entry)) i)) ⌝ }
 {
     if b == first {
-        return meet(m, p, room, n);
+        return meet(m, trapezoid::load(standing, i), room, n);
     }
-    if ix.bucket(p.x0) == b {
-        return meet(m, p, room, n);
+    if entry(firsts, i) == b {
+        return meet(m, trapezoid::load(standing, i), room, n);
     }
     n
 }
 
 // The entries from `from` to below `to`, all of the bucket b.
 fn list_entries(
-    ix: Index,
     m: Moving,
     first: usize,
     b: usize,
@@ -236,16 +250,18 @@ fn list_entries(
     to: usize,
     room: &mut [f64],
     start: usize,
+    firsts: &[Bucket],
 ) -> usize
-    requires { ⌜ (to ≤ length (now entries)) × ((e : ℕ) → from ≤ e → e < to → 6 * getD (now entries) e 0 + 6 ≤ length (now standing)) ⌝ }
-    ensures { λ r. ⌜ collected (now (room .exit)) r ≡ pushAll (collected (now (room .entry)) start) (listEntries ix m first b (now (standing .entry))
-        (now (entries .entry)) (to - from) from) ⌝ }
+    requires { ⌜ (to ≤ length (now entries)) × ((e : ℕ) → from ≤ e → e < to → 6 * getD (now entries) e 0 + 6 ≤ length (now standing)) ×
+        (capacity (now standing) ≤ length (now firsts)) ⌝ }
+    ensures { λ r. ⌜ collected (now (room .exit)) r ≡ pushAll (collected (now (room .entry)) start) (listEntriesBy m first b (now (standing .entry))
+        (now (firsts .entry)) (now (entries .entry)) (to - from) from) ⌝ }
 {
     let mut n = start;
     let mut e = from;
     while e < to {
-        let p = trapezoid::load(standing, entry(entries, e));
-        n = meet_once(ix, m, first, b, p, room, n);
+        let i = entry(entries, e);
+        n = meet_once(m, first, b, standing, i, room, n, firsts);
         e += 1;
     }
     n
@@ -260,8 +276,9 @@ fn list_moving(
     starts: &[usize],
     room: &mut [f64],
     start: usize,
+    firsts: &[Bucket],
 ) -> usize
-    requires { ⌜ Usable (now standing) (now entries) (now starts) ⌝ }
+    requires { ⌜ Usable (now standing) (now entries) (now starts) × FirstBuckets ix (now standing) (capacity (now standing)) (now firsts) ⌝ }
     ensures { λ r. ⌜ collected (now (room .exit)) r ≡ pushAll (collected (now (room .entry)) start)
         (listMoving ix (now (standing .entry)) (now (entries .entry)) (now (starts .entry)) m) ⌝ }
 {
@@ -272,7 +289,7 @@ fn list_moving(
     while b <= last {
         let from = starts[b];
         let to = starts[b + 1];
-        n = list_entries(ix, m, first, b, standing, entries, from, to, room, n);
+        n = list_entries(m, first, b, standing, entries, from, to, room, n, firsts);
         b += 1;
     }
     n

@@ -14,7 +14,8 @@ use Rattle.numbers.proofs.Ranges.{tested-within}
 use Rattle.trapezoid.specs.Strip.{stripAt, capacity}
 use Rattle.index.specs.declared.Index.{Index}
 use Rattle.index.specs.Buckets.{indexOf}
-use Rattle.index.specs.inner.Listing.{Laid, Bounded}
+use Rattle.index.specs.inner.Listing.{Laid, FirstBuckets, Bounded}
+use Rattle.enter.specs.inner.EntryRoom.{FirstsWritten}
 use Rattle.index.proofs.NewIndex.{new-fair}
 use Rattle.look.specs.inner.Ready.{BoundedStrips, Lookable}
 use Rattle.look.proofs.IntervalEnds.{widen}
@@ -33,7 +34,8 @@ unfolding fits neg ofBits
 low = (tt, (refl, refl))
 
 pub tested : {x : Float} → T (fits binary64 x) → le (neg million) x ≡ true → le x million ≡ true → Bounded 1000000 x
-tested {x} f h k = let r = tested-within binary64 1000000 (neg million) million x (low .0) (high .0) f (low .1) (high .1) (holds h) (holds k) (lit≤ tt) in record { fine = r .0; bound = r .1 }
+tested {x} f h k = let r = tested-within binary64 1000000 (neg million) million x (low .0) (high .0) f (low .1) (high .1) (holds h) (holds k)
+    (lit≤ tt) in record { fine = r .0; bound = r .1 }
 
 -- ---- rooms
 pub all-strips : (l : List Float) → ((i : ℕ) → i < length l → Bounded 1000000 (getD l i nan)) → BoundedStrips l
@@ -47,7 +49,8 @@ all-strips l h = λ i b. record {
   high1 = h (6 * i + 5) (omega arith);
 }
 
-pub one-more : (l : List Float) (i : ℕ) → ((j : ℕ) → j < i → Bounded 1000000 (getD l j nan)) → Bounded 1000000 (getD l i nan) → (j : ℕ) → j < i + 1 → Bounded 1000000 (getD l j nan)
+pub one-more : (l : List Float) (i : ℕ) → ((j : ℕ) → j < i → Bounded 1000000 (getD l j nan)) → Bounded 1000000 (getD l i nan) → (j : ℕ) → j < i + 1 → Bounded
+    1000000 (getD l j nan)
 one-more l i h b j a = go (below-or-not j i)
   where
     go : (j < i) ⊎ (i ≤ j) → Bounded 1000000 (getD l j nan)
@@ -59,8 +62,13 @@ pub capacity-room : (l : List Float) → 6 * capacity l ≤ length l
 unfolding capacity
 capacity-room l = omega arith
 
-pub same-laid : (ix : Index) (l : List Float) (n m : ℕ) (entries starts : List ℕ) → n ≡ m → Laid ix l n entries starts → Laid ix l m entries starts
-same-laid ix l n m entries starts e L = subst (λ (k : ℕ). Laid ix l k entries starts) e L
+-- what entering all strips of a room gives
+pub entered : (ix : Index) (l : List Float) (n : ℕ) (entries starts before firsts : List ℕ) → n ≡ capacity l → n ≤ length before → length firsts ≡ length before
+    → Laid ix l n entries starts → FirstsWritten ix l 0 n before firsts → Entered ix l entries starts firsts
+entered ix l n entries starts before firsts e h k L W = record {
+  laid = subst (λ (k : ℕ). Laid ix l k entries starts) e L;
+  kept = record { long = omega (arith, e, h, k); right = λ i a. W .new i (omega arith) (omega (arith, e, a)) };
+}
 
 -- nothing stands past the end of a list
 pub all-zero : (l : List ℕ) → ((b : ℕ) → b < length l → getD l b 0 ≡ 0) → (b : ℕ) → getD l b 0 ≡ 0
@@ -72,7 +80,9 @@ all-zero l h b = go (below-or-not b (length l))
 
 -- ---- the look
 module _ (x0 x1 x y-low y-high : Float) (inset apart sheet placed : List Float) (sheet-entries sheet-starts placed-entries placed-starts : List ℕ) where
-  pub lookable : (ix : Index) → ix ≡ indexOf x0 x1 → FairColumn x0 x1 x y-low y-high → FairStrips sheet placed inset apart → Entered ix sheet sheet-entries sheet-starts → Entered ix placed placed-entries placed-starts → Lookable ix x y-low y-high inset apart sheet placed sheet-entries sheet-starts placed-entries placed-starts
+  pub lookable : (ix : Index) → ix ≡ indexOf x0 x1 → FairColumn x0 x1 x y-low y-high → FairStrips sheet placed inset apart
+      → Laid ix sheet (capacity sheet) sheet-entries sheet-starts → Laid ix placed (capacity placed) placed-entries placed-starts
+      → Lookable ix x y-low y-high inset apart sheet placed sheet-entries sheet-starts placed-entries placed-starts
   lookable ix e c s a b = record {
     index = rw e (new-fair x0 x1 (widen 1000000 4000000 (lit≤ tt) (c .left)) (widen 1000000 4000000 (lit≤ tt) (c .right)));
     sheet-laid = a;

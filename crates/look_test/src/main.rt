@@ -2,68 +2,24 @@
 // fewer, and its two answers are printed. A look is a head of 45 bytes (the number of strips of the
 // sheet, of the placed copies, inset and apart, and of intervals, one byte each; then the sheet's
 // left and right end, the column's x, y_low and y_high by their bits), then all strips by their bits.
-// `se` and `ss` are the sheet's entries and starts, `pe` and `ps` those of the placed strips `put`.
+// `se`, `ss` and `sf` are the sheet's entries, starts and first buckets, `pe`, `ps` and `pf` those of
+// the placed strips `put`.
 // The stored answers are those of the lifted Rust (oracle/samples/look.py), never of this code.
+mod input;
 mod show;
 
 ghost use mathlib.Core.Path.{_≡_};
 ghost use mathlib.Core.Bool.{true};
 ghost use Prim.Native.Nat.{ℕ, _+_, _*_, _≤_, _<_};
 ghost use lib.ListN.{length, getD};
+ghost use Rattle.trapezoid.specs.Strip.{capacity};
 ghost use Rattle.index.specs.Buckets.{buckets};
-ghost use Rattle.index.specs.inner.Listing.{Bounded};
+ghost use Rattle.index.specs.inner.Listing.{Bounded, FirstBuckets};
 ghost use Rattle.look.specs.inner.Ready.{BoundedStrips, Lookable};
 ghost use Rattle.look_test.specs.inner.Fair.{FairColumn, FairStrips, Entered};
+use index::Bucket;
 use index::Entry;
 use index::Index;
-
-fn wide(x: u8) -> u64
-    ensures { λ r. ⌜ r < 256 ⌝ }
-{
-    x as u64
-}
-
-// Four bytes, most significant first.
-fn four(b: &[u8], at: usize) -> u64
-    requires { ⌜ at + 4 ≤ length (now b) ⌝ }
-    ensures { λ r. ⌜ r < 4294967296 ⌝ }
-{
-    let w = wide(b[at]);
-    let x = wide(b[at + 1]);
-    let y = wide(b[at + 2]);
-    let z = wide(b[at + 3]);
-    w * 16777216 + x * 65536 + y * 256 + z
-}
-
-// The double of eight bytes; 0 where they are no finite one's.
-fn double(b: &[u8], at: usize) -> f64
-    requires { ⌜ at + 8 ≤ length (now b) ⌝ }
-{
-    let n = four(b, at) * 4294967296 + four(b, at + 4);
-    let d = numbers::from_bits(n);
-    match d {
-        numbers::Double::Finite(x) => x,
-        numbers::Double::NotFinite => 0.0,
-    }
-}
-
-// The next double of the input.
-fn next_double() -> f64 {
-    let mut eight = [0u8; 8];
-    io::read_full(0, &mut eight);
-    double(&eight, 0)
-}
-
-// The next n doubles of the input.
-fn read_doubles(n: usize, out: &mut [f64])
-    requires { ⌜ n ≤ length (now out) ⌝ }
-{
-    let mut i = 0;
-    while i < n {
-        out[i] = next_double();
-        i += 1;
-    }
-}
 
 // Whether x is at most 1,000,000 either way.
 fn bounded(x: f64) -> bool
@@ -137,13 +93,14 @@ fn enter_all(
     entries: &mut [Entry],
     starts: &mut [usize],
     gains: &mut [usize],
+    firsts: &mut [Bucket],
 ) -> bool
-    requires { ⌜ (length (now standing) ≤ 6120) × (length (now starts) ≡ buckets + 1) × (length (now gains) ≡ buckets) ⌝ }
-    ensures { λ r. ⌜ (r ≡ true → Entered ix (now (standing .entry)) (now (entries .exit)) (now (starts .exit))) ⌝ }
+    requires { ⌜ (length (now standing) ≤ 6120) × (length (now starts) ≡ buckets + 1) × (length (now gains) ≡ buckets) × (1020 ≤ length (now firsts)) ⌝ }
+    ensures { λ r. ⌜ (r ≡ true → Entered ix (now (standing .entry)) (now (entries .exit)) (now (starts .exit)) (now (firsts .exit))) ⌝ }
 {
     clear(starts);
     let n = trapezoid::capacity(standing);
-    enter::enter_copy(ix, standing, 0, n, entries, starts, gains)
+    enter::enter_copy(ix, standing, 0, n, entries, starts, gains, firsts)
 }
 
 // The same for the sheet and for the placed copies.
@@ -156,14 +113,16 @@ fn enter_both(
     pe: &mut [Entry],
     ps: &mut [usize],
     gains: &mut [usize],
+    sf: &mut [Bucket],
+    pf: &mut [Bucket],
 ) -> bool
     requires { ⌜ (length (now sheet) ≤ 6120) × (length (now placed) ≤ 6120) × (length (now ss) ≡ buckets + 1) × (length (now ps) ≡ buckets + 1)
-        × (length (now gains) ≡ buckets) ⌝ }
-    ensures { λ r. ⌜ (r ≡ true → Entered ix (now (sheet .entry)) (now (se .exit)) (now (ss .exit)) × Entered ix (now (placed .entry)) (now (pe .exit))
-        (now (ps .exit))) ⌝ }
+        × (length (now gains) ≡ buckets) × (1020 ≤ length (now sf)) × (1020 ≤ length (now pf)) ⌝ }
+    ensures { λ r. ⌜ (r ≡ true → Entered ix (now (sheet .entry)) (now (se .exit)) (now (ss .exit)) (now (sf .exit))
+        × Entered ix (now (placed .entry)) (now (pe .exit)) (now (ps .exit)) (now (pf .exit))) ⌝ }
 {
-    if enter_all(ix, sheet, se, ss, gains) {
-        return enter_all(ix, placed, pe, ps, gains);
+    if enter_all(ix, sheet, se, ss, gains, sf) {
+        return enter_all(ix, placed, pe, ps, gains, pf);
     }
     false
 }
@@ -183,10 +142,29 @@ fn look_twice(
     pe: &[Entry],
     ps: &[usize],
     out: &mut [f64],
+    sf: &[Bucket],
+    pf: &[Bucket],
 )
-    requires { ⌜ Lookable ix x lo hi (now inset) (now apart) (now sheet) (now put) (now se) (now ss) (now pe) (now ps) ⌝ }
+    requires { ⌜ Lookable ix x lo hi (now inset) (now apart) (now sheet) (now put) (now se) (now ss) (now pe) (now ps)
+        × FirstBuckets ix (now sheet) (capacity (now sheet)) (now sf) × FirstBuckets ix (now put) (capacity (now put)) (now pf) ⌝ }
 {
-    let a = look::look_at(ix, x, lo, hi, inset, apart, sheet, se, ss, put, pe, ps, out);
+    let a = look::look_at(
+        ix,
+        x,
+        lo,
+        hi,
+        inset,
+        apart,
+        sheet,
+        se,
+        ss,
+        put,
+        pe,
+        ps,
+        out,
+        sf,
+        pf,
+    );
     show::show(a);
     let n = out.len();
     if n > 0 {
@@ -205,6 +183,8 @@ fn look_twice(
             pe,
             ps,
             &mut out[..m],
+            sf,
+            pf,
         );
         show::show(b);
     }
@@ -238,6 +218,8 @@ fn look_fresh(
     let mut pe = table();
     let mut ps = [1usize; 513];
     let mut gains = [1usize; 512];
+    let mut sf = [1u16; 1020];
+    let mut pf = [1u16; 1020];
     let ix = Index::new(x0, x1);
     if enter_both(
         ix,
@@ -248,6 +230,8 @@ fn look_fresh(
         &mut pe,
         &mut ps,
         &mut gains,
+        &mut sf,
+        &mut pf,
     ) {
         look_twice(
             ix,
@@ -263,6 +247,8 @@ fn look_fresh(
             &pe,
             &ps,
             out,
+            &sf,
+            &pf,
         );
         return;
     }
@@ -273,11 +259,11 @@ fn look_fresh(
 fn replay(head: &[u8], sheet: &[f64], put: &[f64], inset: &[f64], apart: &[f64], out: &mut [f64])
     requires { ⌜ (45 ≡ length (now head)) × (length (now sheet) ≤ 6120) × (length (now put) ≤ 6120) ⌝ }
 {
-    let x0 = double(head, 5);
-    let x1 = double(head, 13);
-    let x = double(head, 21);
-    let lo = double(head, 29);
-    let hi = double(head, 37);
+    let x0 = input::double(head, 5);
+    let x1 = input::double(head, 13);
+    let x = input::double(head, 21);
+    let lo = input::double(head, 29);
+    let hi = input::double(head, 37);
     if fair_column(x0, x1, x, lo, hi) {
         if fair_strips(sheet, put, inset, apart) {
             look_fresh(x0, x1, x, lo, hi, sheet, put, inset, apart, out);
@@ -292,7 +278,7 @@ fn count(head: &[u8], at: usize) -> usize
     requires { ⌜ at < length (now head) ⌝ }
     ensures { λ r. ⌜ r ≤ 255 ⌝ }
 {
-    wide(head[at]) as usize
+    input::wide(head[at]) as usize
 }
 
 // How many numbers a head's strips have.
@@ -362,7 +348,7 @@ fn turn(left: u64) -> u64
     if got < 45 {
         return 0;
     }
-    read_doubles(numbers_of(&head), &mut strips);
+    input::read_doubles(numbers_of(&head), &mut strips);
     replay_parts(&head, &strips, &mut room);
     left - 1
 }

@@ -8,6 +8,7 @@ ghost use Rattle.report.specs.inner.Replies.{reply, replyOf};
 ghost use Rattle.report.specs.readied.inner.Zeroed.{Zeroed};
 ghost use Rattle.report.specs.Lent.{answered};
 use filling::Refusal;
+use index::Bucket;
 use index::Entry;
 use job::JobRead;
 use report::NestResult;
@@ -22,10 +23,13 @@ fn nest_bytes(
     placed_entries: &mut [Entry],
     intervals: &mut [f64],
     positions: &mut [f64],
+    sheet_firsts: &mut [Bucket],
+    placed_firsts: &mut [Bucket],
 ) -> NestResult
-    requires { ⌜ ((l : Lent) × Zeroed l (now shapes) (now sheet) (now placed) (now «sheet_entries») (now «placed_entries») (now intervals) (now positions)) ⌝ }
+    requires { ⌜ ((l : Lent) × Zeroed l (now shapes) (now sheet) (now placed) (now «sheet_entries») (now «placed_entries»)
+        (now intervals) (now positions) (now «sheet_firsts») (now «placed_firsts»)) ⌝ }
     ensures { λ r. ⌜ ((l : Lent) → Zeroed l (now (shapes .entry)) (now (sheet .entry)) (now (placed .entry)) (now («sheet_entries» .entry))
-        (now («placed_entries» .entry)) (now (intervals .entry)) (now (positions .entry))
+        (now («placed_entries» .entry)) (now (intervals .entry)) (now (positions .entry)) (now («sheet_firsts» .entry)) (now («placed_firsts» .entry))
         → reply r (now (positions .exit)) ≡ replyOf (nestOf (now (bytes .entry)) l)) ⌝ }
 {
     let j = job::read(bytes);
@@ -51,6 +55,8 @@ fn nest_bytes(
                 placed_entries,
                 intervals,
                 positions,
+                sheet_firsts,
+                placed_firsts,
             )
         }
         JobRead::NoJob(k) => report::refused(Refusal::Job(k)),
@@ -65,13 +71,16 @@ pub fn nest(
     placed: &mut [f64],
     sheet_entries: &mut [Entry],
     placed_entries: &mut [Entry],
+    sheet_firsts: &mut [Bucket],
+    placed_firsts: &mut [Bucket],
     intervals: &mut [f64],
     positions: &mut [f64],
 ) -> NestResult
     ensures { λ r. ⌜ answered r (lentOf (now (shapes .exit)) (now (sheet .exit)) (now (placed .exit)) (now («sheet_entries» .exit))
-        (now («placed_entries» .exit)) (now (intervals .exit)) (now (positions .exit))) ≡ nestOf (now (bytes .entry))
+        (now («placed_entries» .exit)) (now («sheet_firsts» .exit)) (now («placed_firsts» .exit)) (now (intervals .exit)) (now (positions .exit)))
+        ≡ nestOf (now (bytes .entry))
         (lentOf (now (shapes .entry)) (now (sheet .entry)) (now (placed .entry)) (now («sheet_entries» .entry)) (now («placed_entries» .entry))
-        (now (intervals .entry)) (now (positions .entry))) ⌝ }
+        (now («sheet_firsts» .entry)) (now («placed_firsts» .entry)) (now (intervals .entry)) (now (positions .entry))) ⌝ }
 {
     rooms::zero(positions);
     report::clear(
@@ -81,6 +90,8 @@ pub fn nest(
         sheet_entries,
         placed_entries,
         intervals,
+        sheet_firsts,
+        placed_firsts,
     );
     let r = nest_bytes(
         bytes,
@@ -91,6 +102,8 @@ pub fn nest(
         placed_entries,
         intervals,
         positions,
+        sheet_firsts,
+        placed_firsts,
     );
     report::clear(
         shapes,
@@ -99,6 +112,8 @@ pub fn nest(
         sheet_entries,
         placed_entries,
         intervals,
+        sheet_firsts,
+        placed_firsts,
     );
     r
 }

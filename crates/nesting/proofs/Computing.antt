@@ -18,7 +18,7 @@ use Rattle.nesting.specs.Text.{decimalUpTo, decimal, hexDigit, hexUpTo, 
 use Rattle.nesting.specs.Text.{fillLine, fillLines, lookLine, lookLines, lastLines, planText, refusalText, replyText, printedFor, printed}
 use Rattle.nesting.specs.Cases.{rectangle, triangle, clockwise, both, jobOf, bits, room, roomsSized, lentSized, ample, roomsBits, lentBits, planBits}
 use Rattle.nesting.specs.Cases.{jobBits, drawsOf, stateBits, afterBits, columnBits, plannedBits, case4, calledBits, fiveCopies, nothing, fourPlates}
-use Rattle.nesting.specs.Cases.{plateStrips, fourStrips, fourEntries, roomsLeft, fourStanding, case4Plan, exact, case4Rooms, case4Text, starred1}
+use Rattle.nesting.specs.Cases.{plateStrips, fourStrips, fourEntries, fourFirsts, roomsLeft, fourStanding, case4Plan, exact, case4Rooms, case4Text, starred1}
 use Rattle.nesting.specs.Cases.{starred2, starred3, starred4, starred4-fill, starred4-plan, starred4-text, starred5, starred5-calls, starred6, starred7}
 use Rattle.nesting.specs.Cases.{starred8, starred9, starred10, starred11, starred}
 
@@ -67,7 +67,7 @@ unfolding lentBits planBits jobBits drawsOf stateBits afterBits columnBits plann
 cases-compute-5 = tt
 
 unfoldable pub cases-compute-6 : Unit {0}
-unfolding fourStrips fourEntries roomsLeft fourStanding case4Plan exact case4Rooms case4Text starred1 starred2 starred3 starred4 starred4-fill
+unfolding fourStrips fourEntries fourFirsts roomsLeft fourStanding case4Plan exact case4Rooms case4Text starred1 starred2 starred3 starred4 starred4-fill
 cases-compute-6 = tt
 
 unfoldable pub cases-compute-7 : Unit {0}

@@ -1,6 +1,6 @@
 -- Document 01, "Sheets tried by hand": the starred cases as one list; `got` is what the definitions come to, `want` what the paper says.
 -- Definitions only. Assumes nothing.
-use Prim.Native.Nat.{ℕ, zero, suc, _+_, _*_, _%_, _^_}
+use Prim.Native.Nat.{ℕ, zero, suc, _+_, _*_, _/_, _%_, _^_}
 use mathlib.Core.Bool.{Bool, true, false}
 use mathlib.Core.List.{List, [], _∷_, _++_, map, flatMap}
 use lib.ListN.{length, take, replicate}
@@ -72,12 +72,20 @@ bits l = map (toBits binary64) l
 unfoldable pub room : ℕ → List Float
 room n = replicate n (fromInt 7)
 
--- strip and entry rooms
+-- rooms of strips, entries and bucket numbers, of these as many as strips
 unfoldable pub roomsSized : ℕ → ℕ → ℕ → Rooms
 roomsSized shapes placed entries =
-    record { shapes = room shapes; sheet = room 7; placed = room placed; sheet-entries = 9 ∷ []; placed-entries = replicate entries 9 }
+    record {
+      shapes = room shapes;
+      sheet = room 7;
+      placed = room placed;
+      sheet-entries = 9 ∷ [];
+      placed-entries = replicate entries 9;
+      sheet-firsts = 9 ∷ [];
+      placed-firsts = replicate (placed / 6) 9;
+    }
 
--- all seven rooms
+-- all nine rooms
 unfoldable pub lentSized : Rooms → ℕ → ℕ → Lent
 lentSized w intervals positions = record { rooms = w; intervals = room intervals; positions = room positions }
 
@@ -85,11 +93,12 @@ lentSized w intervals positions = record { rooms = w; intervals = room intervals
 unfoldable pub ample : Lent
 ample = lentSized (roomsSized 25 31 1100) 9 26
 
--- what lies in the strip and entry rooms
+-- what lies in the rooms of strips, entries and bucket numbers
 unfoldable pub roomsBits : Rooms → List (List ℕ)
-roomsBits w = bits (w .shapes) ∷ bits (w .sheet) ∷ bits (w .placed) ∷ w .sheet-entries ∷ w .placed-entries ∷ []
+roomsBits w =
+    bits (w .shapes) ∷ bits (w .sheet) ∷ bits (w .placed) ∷ w .sheet-entries ∷ w .placed-entries ∷ w .sheet-firsts ∷ w .placed-firsts ∷ []
 
--- what lies in all seven rooms
+-- what lies in all nine rooms
 unfoldable pub lentBits : Lent → List (List ℕ)
 lentBits l = roomsBits (l .rooms) ++ (bits (l .intervals) ∷ bits (l .positions) ∷ [])
 
@@ -219,10 +228,23 @@ fourStrips =
 unfoldable pub fourEntries : List ℕ
 fourEntries = flatMap (λ b. 0 ∷ 1 ∷ []) (upFrom 204 0) ++ ((0 ∷ 1 ∷ 2 ∷ 3 ∷ []) ++ flatMap (λ b. 2 ∷ 3 ∷ []) (upFrom 205 0))
 
--- the rooms after the four plates are placed, with one strip, a remainder of one double and one entry to spare
+-- the bucket of each plate's x0: 4 on a sheet of 10 is in bucket 204
+unfoldable pub fourFirsts : List ℕ
+fourFirsts = 0 ∷ 0 ∷ 204 ∷ 204 ∷ []
+
+-- the rooms after the four plates are placed, with one strip, a remainder of one double, one entry and one number to spare
 unfoldable pub roomsLeft : List (List ℕ)
 roomsLeft =
-    (plateStrips ++ nothing 7) ∷ nothing 7 ∷ (fourStrips ++ nothing 7) ∷ (0 ∷ []) ∷ (fourEntries ++ (0 ∷ [])) ∷ nothing 5 ∷ nothing 26 ∷ []
+    (plateStrips ++ nothing 7)
+    ∷ nothing 7
+    ∷ (fourStrips ++ nothing 7)
+    ∷ (0 ∷ [])
+    ∷ (fourEntries ++ (0 ∷ []))
+    ∷ (0 ∷ [])
+    ∷ (fourFirsts ++ (0 ∷ []))
+    ∷ nothing 5
+    ∷ nothing 26
+    ∷ []
 
 -- the four plates by place and kind, orientation, x and y
 unfoldable pub fourStanding : List ℕ
@@ -238,7 +260,7 @@ exact = lentSized (roomsSized 12 24 822) 4 31
 
 -- the rooms after case 4
 unfoldable pub case4Rooms : List (List ℕ)
-case4Rooms = nothing 12 ∷ nothing 7 ∷ nothing 24 ∷ nothing 1 ∷ nothing 822 ∷ nothing 4 ∷ (fourPlates ++ nothing 11) ∷ []
+case4Rooms = nothing 12 ∷ nothing 7 ∷ nothing 24 ∷ nothing 1 ∷ nothing 822 ∷ nothing 1 ∷ nothing 4 ∷ nothing 4 ∷ (fourPlates ++ nothing 11) ∷ []
 
 -- case 4 as printed in document 01
 unfoldable pub case4Text : List ℕ

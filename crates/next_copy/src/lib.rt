@@ -5,13 +5,14 @@ ghost use Rattle.filling.specs.Rooms.{roomsOf};
 ghost use Rattle.next_copy.specs.Reply.{replied};
 use filling::Refusal;
 use filling::State;
+use index::Bucket;
 use index::Entry;
 use job::JobRead;
 use step::Stepped;
 
 // One copy of the order, over a state that a start or a step returned and the rooms as it left them.
-// A refused step leaves state, strip and entry rooms as they were; every step leaves zeros in the
-// interval room.
+// A refused step leaves the state and the rooms of strips, entries and buckets as they were; every
+// step leaves zeros in the interval room.
 pub fn next_copy(
     bytes: &[u8],
     state: State,
@@ -20,11 +21,14 @@ pub fn next_copy(
     placed: &mut [f64],
     sheet_entries: &[Entry],
     placed_entries: &mut [Entry],
+    sheet_firsts: &[Bucket],
+    placed_firsts: &mut [Bucket],
     intervals: &mut [f64],
 ) -> Stepped
     ensures { λ r. ⌜ replied r (roomsOf (now (shapes .entry)) (now (sheet .entry)) (now (placed .exit)) (now («sheet_entries» .entry))
-        (now («placed_entries» .exit))) (now (intervals .exit)) ≡ nextCopyOf (now (bytes .entry)) state (roomsOf (now (shapes .entry)) (now (sheet .entry))
-        (now (placed .entry)) (now («sheet_entries» .entry)) (now («placed_entries» .entry))) (now (intervals .entry)) ⌝ }
+        (now («placed_entries» .exit)) (now («sheet_firsts» .entry)) (now («placed_firsts» .exit))) (now (intervals .exit)) ≡ nextCopyOf (now (bytes .entry))
+        state (roomsOf (now (shapes .entry)) (now (sheet .entry)) (now (placed .entry)) (now («sheet_entries» .entry)) (now («placed_entries» .entry))
+        (now («sheet_firsts» .entry)) (now («placed_firsts» .entry))) (now (intervals .entry)) ⌝ }
 {
     let j = job::read(bytes);
     let rows = j.rows;
@@ -43,6 +47,8 @@ pub fn next_copy(
             placed,
             placed_entries,
             intervals,
+            sheet_firsts,
+            placed_firsts,
         ),
         JobRead::NoJob(k) => step::step_job::refuse(Refusal::Job(k), state, intervals),
     }

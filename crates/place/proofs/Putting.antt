@@ -10,7 +10,7 @@ use lib.Ieee.{Float}
 use Rattle.trapezoid.specs.Strip.{capacity}
 use Rattle.strips.specs.declared.Rect.{Rect}
 use Rattle.index.specs.declared.Index.{Index}
-use Rattle.index.specs.inner.Listing.{Laid}
+use Rattle.index.specs.inner.Listing.{Laid, FirstBuckets}
 use Rattle.search.specs.declared.columns.Columns.{Columns}
 use Rattle.search.specs.declared.Found.{Found}
 use Rattle.search.specs.declared.Found.the-variants as Founds
@@ -22,7 +22,8 @@ use Rattle.choose.specs.declared.Winner.the-variants as Winners
 use Rattle.choose.specs.inner.Choosing.{boundsAt, partAt, apartPart, winsOf, firstOf, winnerOf, againstOf, betterOf, Surroundings, columnsAt, looksAt, Chosen, chosen, won, orientationOf, bettered, chooseFrom}
 use Rattle.store.specs.declared.Stored.{Stored}
 use Rattle.store.specs.declared.Stored.the-variants.{NoStrips, NoEntries, Done}
-use Rattle.store.specs.inner.Storing.{Left, left, storeOf, Entered}
+use Rattle.store.specs.inner.Storing.{Left, left, storeOf, Entered, FirstsLaid, FirstsEntered}
+use Rattle.store.proofs.Firsts.{firsts-same}
 use Rattle.place.specs.declared.Totals.{Totals}
 use Rattle.place.specs.declared.Outcome.{Outcome}
 use Rattle.place.specs.declared.Outcome.the-variants.{At, Nowhere, Refused}
@@ -30,16 +31,16 @@ use Rattle.place.specs.declared.Step.{Step}
 use Rattle.place.specs.inner.Placing.{step, afterOf, withoutOf, PutLeft, put, putLeft, putOf, settleOf, Among, Under, Placed, done, placeWith, placeOf}
 
 -- ---- the winner is stored
-module _ (ix : Index) (p : Choice) (q : Part) (t : Totals) (apart placed : List Float) (e s : List ℕ) (part : List Float) (k : ℕ) (stored : Stored) (p' : List Float) (e' s' : List ℕ) (r : Step)
+module _ (ix : Index) (p : Choice) (q : Part) (t : Totals) (apart placed : List Float) (e s f : List ℕ) (part : List Float) (k : ℕ) (stored : Stored) (p' : List Float) (e' s' : List ℕ) (r : Step)
     (ep : part ≡ apartPart q apart) (ek : k ≡ capacity part) (er : r ≡ afterOf stored p t k) where
   k-is : k ≡ capacity (apartPart q apart)
   k-is = ek ∙ ap capacity ep
 
-  pub put-is : left stored p' e' s' ≡ storeOf ix part (p .x) (p .y) (t .«placed_strips») placed e s → put r p' e' s' ≡ putOf ix p q t apart placed e s
+  pub put-is : left stored p' e' s' ≡ storeOf ix part (p .x) (p .y) (t .«placed_strips») placed e s f → put r p' e' s' ≡ putOf ix p q t apart placed e s f
   unfolding putOf putLeft
   put-is E =
       ap (λ (z : Step). put z p' e' s') (er ∙ ap (afterOf stored p t) k-is)
-      ∙ ap (putLeft p t (capacity (apartPart q apart))) (E ∙ ap (λ (z : List Float). storeOf ix z (p .x) (p .y) (t .«placed_strips») placed e s) ep)
+      ∙ ap (putLeft p t (capacity (apartPart q apart))) (E ∙ ap (λ (z : List Float). storeOf ix z (p .x) (p .y) (t .«placed_strips») placed e s f) ep)
 
   by-answer : (st : Stored) (m : ℕ) → Entered ix (t .«placed_strips») m p' e' s' st → Laid ix p' (afterOf st p t m .totals .«placed_strips») e' s'
   by-answer NoStrips m h = h
@@ -51,18 +52,35 @@ module _ (ix : Index) (p : Choice) (q : Part) (t : Totals) (apart placed : List 
       subst⁻¹ (λ (z : Step). Laid ix p' (z .totals .«placed_strips») e' s') er
       (by-answer stored k (subst⁻¹ (λ (z : ℕ). Entered ix (t .«placed_strips») z p' e' s' stored) ek h))
 
+-- the strips' first buckets likewise
+module _ (ix : Index) (p : Choice) (t : Totals) (p' : List Float) (f f' : List ℕ) where
+  firsts-by-answer : (st : Stored) (m : ℕ) → FirstsEntered ix (t .«placed_strips») m p' f f' st → FirstsLaid ix p' (afterOf st p t m .totals .«placed_strips») f f'
+  firsts-by-answer NoStrips m h = h
+  firsts-by-answer NoEntries m h = h
+  firsts-by-answer Done m h = h
+
+  pub put-firsts : (k m : ℕ) (st : Stored) (r : Step) → k ≡ m → r ≡ afterOf st p t k → FirstsEntered ix (t .«placed_strips») m p' f f' st
+      → FirstsLaid ix p' (r .totals .«placed_strips») f f'
+  put-firsts k m st r ek er h =
+      subst⁻¹ (λ (z : Step). FirstsLaid ix p' (z .totals .«placed_strips») f f') er
+      (firsts-by-answer st k (subst⁻¹ (λ (z : ℕ). FirstsEntered ix (t .«placed_strips») z p' f f' st) ek h))
+
 -- ---- the winner, or none, or 22
 pub among-at : (n : ℕ) (v : Winner) (p : Choice) → Among n v → v ≡ Winners.At p → p .orientation < n
 among-at n v p h e = subst (Among n) e h
 
-pub settle-at : (ix : Index) (v : Winner) (p : Choice) (q : Part) (area : Float) (slot : ℕ) (t : Totals) (parts : List ℕ) (apart placed : List Float) (e s : List ℕ) (r : PutLeft)
-    → v ≡ Winners.At p → q ≡ partAt parts (slot + p .orientation) → r ≡ putOf ix p q t apart placed e s → r ≡ settleOf ix v area slot t parts apart placed e s
-settle-at ix v p q area slot t parts apart placed e s r ev eq er =
-    er ∙ (ap (λ (z : Part). putOf ix p z t apart placed e s) eq ∙ sym (ap (λ (z : Winner). settleOf ix z area slot t parts apart placed e s) ev))
+pub settle-at : (ix : Index) (v : Winner) (p : Choice) (q : Part) (area : Float) (slot : ℕ) (t : Totals) (parts : List ℕ) (apart placed : List Float) (e s f : List ℕ) (r : PutLeft)
+    → v ≡ Winners.At p → q ≡ partAt parts (slot + p .orientation) → r ≡ putOf ix p q t apart placed e s f → r ≡ settleOf ix v area slot t parts apart placed e s f
+settle-at ix v p q area slot t parts apart placed e s f r ev eq er =
+    er ∙ (ap (λ (z : Part). putOf ix p z t apart placed e s f) eq ∙ sym (ap (λ (z : Winner). settleOf ix z area slot t parts apart placed e s f) ev))
 
 pub without-laid : (ix : Index) (t : Totals) (area : Float) (placed : List Float) (e s : List ℕ) (r : Step) → r ≡ withoutOf t area → Laid ix placed (t .«placed_strips») e s → Laid ix placed (r .totals .«placed_strips») e s
 unfolding withoutOf
 without-laid ix t area placed e s r er h = subst⁻¹ (λ (z : Step). Laid ix placed (z .totals .«placed_strips») e s) er h
+
+pub without-firsts : (ix : Index) (t : Totals) (area : Float) (placed : List Float) (f : List ℕ) (r : Step) → r ≡ withoutOf t area → FirstBuckets ix placed (t .«placed_strips») f → FirstsLaid ix placed (r .totals .«placed_strips») f f
+unfolding withoutOf
+without-firsts ix t area placed f r er h = subst⁻¹ (λ (z : Step). FirstsLaid ix placed (z .totals .«placed_strips») f f) er (firsts-same ix placed (t .«placed_strips») f h)
 
 -- ---- the winner is one of the n orientations
 either : (b : Bool) → (P : Bool → Type 0) → P true → P false → P b
@@ -106,22 +124,22 @@ after-under n NoStrips p t k h = tt
 after-under n NoEntries p t k h = tt
 after-under n Done p t k h = h
 
-settle-under : (ix : Index) (n : ℕ) (v : Winner) (area : Float) (slot : ℕ) (t : Totals) (parts : List ℕ) (apart placed : List Float) (e s : List ℕ) → Among n v → Under n (settleOf ix v area slot t parts apart placed e s .reply .outcome)
+settle-under : (ix : Index) (n : ℕ) (v : Winner) (area : Float) (slot : ℕ) (t : Totals) (parts : List ℕ) (apart placed : List Float) (e s f : List ℕ) → Among n v → Under n (settleOf ix v area slot t parts apart placed e s f .reply .outcome)
 unfolding putOf putLeft withoutOf
-settle-under ix n (Winners.At p) area slot t parts apart placed e s h = after-under n (storeOf ix (apartPart (partAt parts (slot + p .orientation)) apart) (p .x) (p .y) (t .«placed_strips») placed e s .answer) p t (capacity (apartPart (partAt parts (slot + p .orientation)) apart)) h
-settle-under ix n Winners.Nowhere area slot t parts apart placed e s h = tt
-settle-under ix n Winners.Overflow area slot t parts apart placed e s h = tt
+settle-under ix n (Winners.At p) area slot t parts apart placed e s f h = after-under n (storeOf ix (apartPart (partAt parts (slot + p .orientation)) apart) (p .x) (p .y) (t .«placed_strips») placed e s f .answer) p t (capacity (apartPart (partAt parts (slot + p .orientation)) apart)) h
+settle-under ix n Winners.Nowhere area slot t parts apart placed e s f h = tt
+settle-under ix n Winners.Overflow area slot t parts apart placed e s f h = tt
 
-pub settled-under : (ix : Index) (n : ℕ) (v : Winner) (area : Float) (slot : ℕ) (t : Totals) (parts : List ℕ) (apart placed : List Float) (e s : List ℕ) (r : Step) (p' : List Float) (e' s' : List ℕ)
-    → Among n v → put r p' e' s' ≡ settleOf ix v area slot t parts apart placed e s → Under n (r .outcome)
-settled-under ix n v area slot t parts apart placed e s r p' e' s' h E = subst⁻¹ (λ (z : PutLeft). Under n (z .reply .outcome)) E (settle-under ix n v area slot t parts apart placed e s h)
+pub settled-under : (ix : Index) (n : ℕ) (v : Winner) (area : Float) (slot : ℕ) (t : Totals) (parts : List ℕ) (apart placed : List Float) (e s f : List ℕ) (r : Step) (p' : List Float) (e' s' : List ℕ)
+    → Among n v → put r p' e' s' ≡ settleOf ix v area slot t parts apart placed e s f → Under n (r .outcome)
+settled-under ix n v area slot t parts apart placed e s f r p' e' s' h E = subst⁻¹ (λ (z : PutLeft). Under n (z .reply .outcome)) E (settle-under ix n v area slot t parts apart placed e s f h)
 
-pub place-is : (ix : Index) (w : Surroundings) (area : Float) (slot n : ℕ) (t : Totals) (placed : List Float) (e s counts next : List ℕ) (v : Winner) (r : Step) (p' : List Float) (e' s' counts' next' : List ℕ)
-    → chosen v counts' next' ≡ chooseFrom w slot n 0 (chosen Winners.Nowhere counts next) → put r p' e' s' ≡ settleOf ix v area slot t (w .parts) (w .apart) placed e s
-    → done r p' e' s' counts' next' ≡ placeOf ix w area slot n t placed e s counts next
+pub place-is : (ix : Index) (w : Surroundings) (area : Float) (slot n : ℕ) (t : Totals) (placed : List Float) (e s f counts next : List ℕ) (v : Winner) (r : Step) (p' : List Float) (e' s' counts' next' : List ℕ)
+    → chosen v counts' next' ≡ chooseFrom w slot n 0 (chosen Winners.Nowhere counts next) → put r p' e' s' ≡ settleOf ix v area slot t (w .parts) (w .apart) placed e s f
+    → done r p' e' s' counts' next' ≡ placeOf ix w area slot n t placed e s f counts next
 unfolding placeOf placeWith
-place-is ix w area slot n t placed e s counts next v r p' e' s' counts' next' ec ep =
-    ap (λ (z : PutLeft). record { left = z; counts = counts'; next = next' }) ep ∙ ap (placeWith ix w area slot t placed e s) ec
+place-is ix w area slot n t placed e s f counts next v r p' e' s' counts' next' ec ep =
+    ap (λ (z : PutLeft). record { left = z; counts = counts'; next = next' }) ep ∙ ap (placeWith ix w area slot t placed e s f) ec
 
 pub prefix-length : (n : ℕ) (placed : List Float) → 6 * n ≤ length placed → 6 * n ≡ length (take (6 * n) placed)
 prefix-length n placed h = sym (length-take-le (6 * n) placed h)

@@ -8,8 +8,9 @@ use lib.Seq.{length-take-le}
 use lib.Ieee.{Float}
 use Rattle.trapezoid.specs.Strip.{stripAt, capacity}
 use Rattle.index.specs.declared.Index.{Index}
-use Rattle.index.specs.inner.Listing.{Laid}
+use Rattle.index.specs.inner.Listing.{Laid, FirstBuckets}
 use Rattle.index.proofs.NewIndex.{laid-after}
+use Rattle.index.proofs.FirstBuckets.{firsts-moved}
 use Rattle.look.specs.inner.Ready.{BoundedStrip, BoundedStrips, Lookable}
 use Rattle.choose.specs.inner.Choosing.{Surroundings, Ready}
 use Rattle.store.proofs.Strips.{prefix-strip}
@@ -27,6 +28,11 @@ module _ (ix : Index) (placed : List Float) (n : ℕ) (e s : List ℕ) (S : Stan
   prefix-laid =
       subst⁻¹ (λ (z : ℕ). Laid ix (take (6 * n) placed) z e s) count
       (laid-after ix placed (take (6 * n) placed) n e s (S .laid) (λ i h. sym (prefix-strip placed n i h)) (let l = long in omega arith))
+
+  pub prefix-firsts : (f : List ℕ) → FirstBuckets ix placed n f → FirstBuckets ix (take (6 * n) placed) (capacity (take (6 * n) placed)) f
+  prefix-firsts f B =
+      subst⁻¹ (λ (z : ℕ). FirstBuckets ix (take (6 * n) placed) z f) count
+      (firsts-moved ix placed (take (6 * n) placed) n f (λ i h. sym (prefix-strip placed n i h)) B)
 
   prefix-strips : BoundedStrips (take (6 * n) placed)
   prefix-strips i h = let b : i < n = subst (λ (z : ℕ). i < z) count h in subst⁻¹ BoundedStrip (prefix-strip placed n i b) (S .strips i b)

@@ -1,6 +1,6 @@
 // Placing the next copy (document 01, "Filling"): every orientation is searched, then the winner is
 // stored, or the copy has no place. 22, 20 and 21 are met in this order, before the first write to
-// strips and entries.
+// strips, entries and first buckets.
 pub mod next;
 
 ghost use mathlib.Core.Path.{_≡_};
@@ -8,9 +8,10 @@ ghost use Prim.Native.Nat.{ℕ, _+_, _*_, _/_, _≤_, _<_, _^_};
 ghost use lib.ListN.{length, getD, take};
 ghost use Rattle.trapezoid.specs.Strip.{capacity};
 ghost use Rattle.index.specs.Buckets.{buckets};
-ghost use Rattle.index.specs.inner.Listing.{Laid};
+ghost use Rattle.index.specs.inner.Listing.{Laid, FirstBuckets};
 ghost use Rattle.rooms.specs.tracks.inner.Tracks.{nextColumns, lookCounts, slotNumbers};
 ghost use Rattle.choose.specs.inner.Choosing.{surroundingsIn};
+ghost use Rattle.store.specs.inner.Storing.{FirstsLaid};
 ghost use Rattle.place.specs.inner.Placing.{copyOf, verdictOf, afterOf, put, putOf, withoutOf, Among, settleOf, Under, done, placeOf};
 ghost use Rattle.place.specs.inner.Standing.{Standing, Fixed};
 use choose::Choice;
@@ -19,6 +20,7 @@ use choose::Part;
 use choose::Winner;
 use filling::Refusal;
 use filling::Verdict;
+use index::Bucket;
 use index::Entry;
 use index::Index;
 use store::Stored;
@@ -115,12 +117,15 @@ fn put_copy(
     entries: &mut [Entry],
     starts: &mut [usize],
     gains: &mut [usize],
+    firsts: &mut [Bucket],
 ) -> Step
     requires { ⌜ Laid (g .index) (now placed) (t .«placed_strips») (now entries) (now starts) × (length (now gains) ≡ buckets)
-        × (6 * g .«apart_strips» ≤ length (now shapes)) ⌝ }
+        × (6 * g .«apart_strips» ≤ length (now shapes)) × FirstBuckets (g .index) (now placed) (t .«placed_strips») (now firsts) ⌝ }
     ensures { λ r. ⌜ (put r (now (placed .exit)) (now (entries .exit)) (now (starts .exit))
-        ≡ putOf (g .index) p q t (take (6 * g .«apart_strips») (now (shapes .entry))) (now (placed .entry)) (now (entries .entry)) (now (starts .entry)))
-        × Laid (g .index) (now (placed .exit)) (r .totals .«placed_strips») (now (entries .exit)) (now (starts .exit)) ⌝ }
+        ≡ putOf (g .index) p q t (take (6 * g .«apart_strips») (now (shapes .entry))) (now (placed .entry)) (now (entries .entry)) (now (starts .entry))
+        (now (firsts .entry)))
+        × Laid (g .index) (now (placed .exit)) (r .totals .«placed_strips») (now (entries .exit)) (now (starts .exit))
+        × FirstsLaid (g .index) (now (placed .exit)) (r .totals .«placed_strips») (now (firsts .entry)) (now (firsts .exit)) ⌝ }
 {
     let end = 6 * g.apart_strips;
     let part = trapezoid::strips_of(
@@ -141,6 +146,7 @@ fn put_copy(
         entries,
         starts,
         gains,
+        firsts,
     );
     after(stored, p, t, k)
 }
@@ -171,19 +177,22 @@ fn settle(
     entries: &mut [Entry],
     starts: &mut [usize],
     gains: &mut [usize],
+    firsts: &mut [Bucket],
 ) -> Step
     requires { ⌜ Laid (g .index) (now placed) (t .«placed_strips») (now entries) (now starts) × (length (now gains) ≡ buckets)
         × ((o : ℕ) → o < copy .orientations → 4 * (copy .slot + o) + 4 ≤ length (now parts)) × Among (copy .orientations) winner
-        × (copy .slot + copy .orientations ≤ 1024) × (6 * g .«apart_strips» ≤ length (now shapes)) ⌝ }
+        × (copy .slot + copy .orientations ≤ 1024) × (6 * g .«apart_strips» ≤ length (now shapes))
+        × FirstBuckets (g .index) (now placed) (t .«placed_strips») (now firsts) ⌝ }
     ensures { λ r. ⌜ (put r (now (placed .exit)) (now (entries .exit)) (now (starts .exit))
         ≡ settleOf (g .index) winner (copy .area) (copy .slot) t (now (parts .entry)) (take (6 * g .«apart_strips») (now (shapes .entry)))
-        (now (placed .entry)) (now (entries .entry)) (now (starts .entry)))
-        × Laid (g .index) (now (placed .exit)) (r .totals .«placed_strips») (now (entries .exit)) (now (starts .exit)) ⌝ }
+        (now (placed .entry)) (now (entries .entry)) (now (starts .entry)) (now (firsts .entry)))
+        × Laid (g .index) (now (placed .exit)) (r .totals .«placed_strips») (now (entries .exit)) (now (starts .exit))
+        × FirstsLaid (g .index) (now (placed .exit)) (r .totals .«placed_strips») (now (firsts .entry)) (now (firsts .exit)) ⌝ }
 {
     match winner {
         Winner::At(p) => {
             let q = choose::part_at(parts, copy.slot + p.orientation);
-            put_copy(g, p, q, t, shapes, placed, entries, starts, gains)
+            put_copy(g, p, q, t, shapes, placed, entries, starts, gains, firsts)
         }
         Winner::Nowhere => without(t, copy.area),
         Winner::Overflow => Step {
@@ -194,7 +203,7 @@ fn settle(
 }
 
 // One copy of the kind whose orientations have their slots from the copy's slot on. Only crates of
-// ours call it: strips and entries must be those of the copies that stand.
+// ours call it: strips, entries and first buckets must be those of the copies that stand.
 pub fn place_copy(
     g: Grid,
     copy: Copy,
@@ -211,20 +220,26 @@ pub fn place_copy(
     gains: &mut [usize],
     room: &mut [f64],
     tracks: &mut [usize],
+    sheet_firsts: &[Bucket],
+    firsts: &mut [Bucket],
 ) -> Step
     requires { ⌜ ((o : ℕ) → o < copy .orientations → Fixed (g .index) (surroundingsIn (length (now room) / 2) g (now «inset_bounds») (now parts) (now shapes)
         (now sheet) (take (6 * t .«placed_strips») (now placed))) (now «sheet_entries») (now «sheet_starts») (copy .slot + o))
         × (copy .slot + copy .orientations ≤ 1024) × (slotNumbers ≤ length (now tracks))
         × ((o : ℕ) → o < copy .orientations → getD (lookCounts (now tracks)) (copy .slot + o) 0 + 4000000002 < 2 ^ 64)
         × Standing (g .index) (now placed) (t .«placed_strips») (now entries) (now starts) × (length (now gains) ≡ buckets)
-        × (6 * g .«apart_strips» ≤ length (now shapes)) ⌝ }
+        × (6 * g .«apart_strips» ≤ length (now shapes))
+        × FirstBuckets (g .index) (now sheet) (capacity (now sheet)) (now «sheet_firsts»)
+        × FirstBuckets (g .index) (now placed) (t .«placed_strips») (now firsts) ⌝ }
     ensures { λ r. ⌜ (done r (now (placed .exit)) (now (entries .exit)) (now (starts .exit)) (lookCounts (now (tracks .exit)))
         (nextColumns (now (tracks .exit)))
         ≡ placeOf (g .index) (surroundingsIn (length (now (room .entry)) / 2) g (now («inset_bounds» .entry)) (now (parts .entry)) (now (shapes .entry))
         (now (sheet .entry)) (take (6 * t .«placed_strips») (now (placed .entry)))) (copy .area) (copy .slot) (copy .orientations) t
-        (now (placed .entry)) (now (entries .entry)) (now (starts .entry)) (lookCounts (now (tracks .entry))) (nextColumns (now (tracks .entry))))
+        (now (placed .entry)) (now (entries .entry)) (now (starts .entry)) (now (firsts .entry)) (lookCounts (now (tracks .entry)))
+        (nextColumns (now (tracks .entry))))
         × Laid (g .index) (now (placed .exit)) (r .totals .«placed_strips») (now (entries .exit)) (now (starts .exit))
-        × Under (copy .orientations) (r .outcome) ⌝ }
+        × Under (copy .orientations) (r .outcome)
+        × FirstsLaid (g .index) (now (placed .exit)) (r .totals .«placed_strips») (now (firsts .entry)) (now (firsts .exit)) ⌝ }
 {
     let strips = t.placed_strips;
     let end = 6 * strips;
@@ -243,6 +258,8 @@ pub fn place_copy(
         starts,
         room,
         tracks,
+        sheet_firsts,
+        firsts,
     );
     settle(
         g,
@@ -255,5 +272,6 @@ pub fn place_copy(
         entries,
         starts,
         gains,
+        firsts,
     )
 }

@@ -2,10 +2,12 @@
 ghost use mathlib.Core.Path.{_≡_};
 ghost use Prim.Native.Nat.{ℕ, _+_, _*_, _/_, _≤_, _<_, _^_};
 ghost use lib.ListN.{length, getD, set, take};
+ghost use Rattle.trapezoid.specs.Strip.{capacity};
 ghost use Rattle.index.specs.Buckets.{buckets};
-ghost use Rattle.index.specs.inner.Listing.{Laid};
+ghost use Rattle.index.specs.inner.Listing.{Laid, FirstBuckets};
 ghost use Rattle.rooms.specs.tracks.inner.Tracks.{nextColumns, lookCounts, orientations, xs, ys, trackNumbers, spotNumbers};
 ghost use Rattle.choose.specs.inner.Choosing.{surroundingsIn};
+ghost use Rattle.store.specs.inner.Storing.{FirstsLaid};
 ghost use Rattle.place.specs.inner.Placing.{Under, done, placeOf, orientationNumber, outcomeX, yOf};
 ghost use Rattle.place.specs.inner.Standing.{Standing, Fixed};
 use crate::Copy;
@@ -13,6 +15,7 @@ use crate::Outcome;
 use crate::Step;
 use crate::Totals;
 use choose::Grid;
+use index::Bucket;
 use index::Entry;
 
 // 0 for a copy without a place, else 1 + its orientation.
@@ -47,8 +50,8 @@ pub fn y_of(o: Outcome) -> f64
     }
 }
 
-// The copy at place `at` of the order. Only crates of ours call it: strips and entries must be those
-// of the copies that stand.
+// The copy at place `at` of the order. Only crates of ours call it: strips, entries and first buckets
+// must be those of the copies that stand.
 pub fn place_next(
     g: Grid,
     copy: Copy,
@@ -67,22 +70,28 @@ pub fn place_next(
     room: &mut [f64],
     tracks: &mut [usize],
     spots: &mut [f64],
+    sheet_firsts: &[Bucket],
+    firsts: &mut [Bucket],
 ) -> Step
     requires { ⌜ ((o : ℕ) → o < copy .orientations → Fixed (g .index) (surroundingsIn (length (now room) / 2) g (now «inset_bounds») (now parts) (now shapes)
         (now sheet) (take (6 * t .«placed_strips») (now placed))) (now «sheet_entries») (now «sheet_starts») (copy .slot + o))
         × (copy .slot + copy .orientations ≤ 1024)
         × ((o : ℕ) → o < copy .orientations → getD (lookCounts (now tracks)) (copy .slot + o) 0 + 4000000002 < 2 ^ 64)
         × Standing (g .index) (now placed) (t .«placed_strips») (now entries) (now starts) × (length (now gains) ≡ buckets)
-        × (6 * g .«apart_strips» ≤ length (now shapes)) × (trackNumbers ≤ length (now tracks)) × (spotNumbers ≤ length (now spots)) × (at < 4096) ⌝ }
+        × (6 * g .«apart_strips» ≤ length (now shapes)) × (trackNumbers ≤ length (now tracks)) × (spotNumbers ≤ length (now spots)) × (at < 4096)
+        × FirstBuckets (g .index) (now sheet) (capacity (now sheet)) (now «sheet_firsts»)
+        × FirstBuckets (g .index) (now placed) (t .«placed_strips») (now firsts) ⌝ }
     ensures { λ r. ⌜ (done r (now (placed .exit)) (now (entries .exit)) (now (starts .exit)) (lookCounts (now (tracks .exit)))
         (nextColumns (now (tracks .exit)))
         ≡ placeOf (g .index) (surroundingsIn (length (now (room .entry)) / 2) g (now («inset_bounds» .entry)) (now (parts .entry)) (now (shapes .entry))
         (now (sheet .entry)) (take (6 * t .«placed_strips») (now (placed .entry)))) (copy .area) (copy .slot) (copy .orientations) t
-        (now (placed .entry)) (now (entries .entry)) (now (starts .entry)) (lookCounts (now (tracks .entry))) (nextColumns (now (tracks .entry))))
+        (now (placed .entry)) (now (entries .entry)) (now (starts .entry)) (now (firsts .entry)) (lookCounts (now (tracks .entry)))
+        (nextColumns (now (tracks .entry))))
         × (orientations (now (tracks .exit)) ≡ set (orientations (now (tracks .entry))) at (orientationNumber (r .outcome)))
         × (xs (now (spots .exit)) ≡ set (xs (now (spots .entry))) at (outcomeX (r .outcome)))
         × (ys (now (spots .exit)) ≡ set (ys (now (spots .entry))) at (yOf (r .outcome)))
-        × Laid (g .index) (now (placed .exit)) (r .totals .«placed_strips») (now (entries .exit)) (now (starts .exit)) ⌝ }
+        × Laid (g .index) (now (placed .exit)) (r .totals .«placed_strips») (now (entries .exit)) (now (starts .exit))
+        × FirstsLaid (g .index) (now (placed .exit)) (r .totals .«placed_strips») (now (firsts .entry)) (now (firsts .exit)) ⌝ }
 {
     let step = crate::place_copy(
         g,
@@ -100,6 +109,8 @@ pub fn place_next(
         gains,
         room,
         &mut tracks[..2048],
+        sheet_firsts,
+        firsts,
     );
     let o = step.outcome;
     let place = 2048 + at;

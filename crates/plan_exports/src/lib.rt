@@ -3,6 +3,7 @@
 ghost use mathlib.Core.Path.{_≡_};
 ghost use Rattle.filling.specs.Rooms.{lentOf};
 ghost use Rattle.plan_text.specs.Told.{textReplyOf};
+use index::Bucket;
 use index::Entry;
 
 pub mod given;
@@ -16,6 +17,8 @@ pub extern "C" fn panel_nest(
     placed: &mut [f64],
     sheet_entries: &mut [Entry],
     placed_entries: &mut [Entry],
+    sheet_firsts: &mut [Bucket],
+    placed_firsts: &mut [Bucket],
     intervals: &mut [f64],
     positions: &mut [f64],
     out: &mut [u8],
@@ -24,11 +27,13 @@ pub extern "C" fn panel_nest(
       end = r;
       out = now (out .exit);
       lent = lentOf (now (shapes .exit)) (now (sheet .exit)) (now (placed .exit))
-          (now («sheet_entries» .exit)) (now («placed_entries» .exit)) (now (intervals .exit)) (now (positions .exit));
+          (now («sheet_entries» .exit)) (now («placed_entries» .exit)) (now («sheet_firsts» .exit)) (now («placed_firsts» .exit))
+          (now (intervals .exit)) (now (positions .exit));
     }
         ≡ textReplyOf (now (bytes .entry)) (now (out .entry))
         (lentOf (now (shapes .entry)) (now (sheet .entry)) (now (placed .entry))
-        (now («sheet_entries» .entry)) (now («placed_entries» .entry)) (now (intervals .entry)) (now (positions .entry))) ⌝ }
+        (now («sheet_entries» .entry)) (now («placed_entries» .entry)) (now («sheet_firsts» .entry)) (now («placed_firsts» .entry))
+        (now (intervals .entry)) (now (positions .entry))) ⌝ }
 {
     plan_text::plan_text(
         bytes,
@@ -37,6 +42,8 @@ pub extern "C" fn panel_nest(
         placed,
         sheet_entries,
         placed_entries,
+        sheet_firsts,
+        placed_firsts,
         intervals,
         positions,
         out,

@@ -14,6 +14,7 @@ ghost use Rattle.report.specs.inner.Replies.{reply, replyOf, plannedWhen};
 ghost use Rattle.report.specs.readied.inner.Zeroed.{Zeroed, ReadInto};
 use filling::Refusal;
 use filling::Verdict;
+use index::Bucket;
 use index::Entry;
 use job::Header;
 use report::NestResult;
@@ -34,21 +35,32 @@ fn fill_tables(
     placed_entries: &mut [Entry],
     intervals: &mut [f64],
     positions: &mut [f64],
+    sheet_firsts: &mut [Bucket],
+    placed_firsts: &mut [Bucket],
 ) -> NestResult
     requires { ⌜ ((j : Job) × (l : Lent) × ReadInto j (now bytes) at h (now rows) (now areas) (now places)
         × Zeroed l (now shapes) (now sheet) (now placed) (now «sheet_entries») (now «placed_entries») (now intervals) (now positions)
+        (now «sheet_firsts») (now «placed_firsts»)
         × (rearranged j (now order) ≡ true))
         × (2048 ≤ length (now places)) × (5 * length (now order) ≤ length (now positions)) ⌝ }
     ensures { λ r. ⌜ ((j : Job) (l : Lent) → ReadInto j (now (bytes .entry)) at h (now (rows .entry)) (now (areas .entry)) (now (places .entry))
         → Zeroed l (now (shapes .entry)) (now (sheet .entry)) (now (placed .entry)) (now («sheet_entries» .entry))
-        (now («placed_entries» .entry)) (now (intervals .entry)) (now (positions .entry))
+        (now («placed_entries» .entry)) (now (intervals .entry)) (now (positions .entry)) (now («sheet_firsts» .entry)) (now («placed_firsts» .entry))
         → rearranged j (now (order .entry)) ≡ true
         → reply r (now (positions .exit)) ≡ replyOf (plannedWhen (prepareVerdict (plannerOf j) (l .rooms)) l
         (plannedBy j l (fillOrder j l (now (order .entry)))))) ⌝ }
 {
-    let kinds = h.kinds as usize;
-    let p = prepare::prepare(bytes, at, h, rows, places, shapes, sheet, sheet_entries);
-    let tables = p.tables;
+    let p = prepare::prepare(
+        bytes,
+        at,
+        h,
+        rows,
+        places,
+        shapes,
+        sheet,
+        sheet_entries,
+        sheet_firsts,
+    );
     let sheet_starts = p.sheet_starts;
     let verdict = p.verdict;
     match verdict {
@@ -57,8 +69,8 @@ fn fill_tables(
             let mut table = [0usize; 4096];
             start::replies::copy_order(order, &mut table);
             swaps::search_plan::search_plan(
-                tables,
-                kinds,
+                p.tables,
+                h.kinds as usize,
                 h.seed,
                 0,
                 &mut table[..n],
@@ -72,6 +84,8 @@ fn fill_tables(
                 placed_entries,
                 intervals,
                 positions,
+                sheet_firsts,
+                placed_firsts,
             )
         }
         Verdict::Refused(k) => report::refused(k),
@@ -96,14 +110,17 @@ pub fn fill_job(
     placed_entries: &mut [Entry],
     intervals: &mut [f64],
     positions: &mut [f64],
+    sheet_firsts: &mut [Bucket],
+    placed_firsts: &mut [Bucket],
 ) -> NestResult
     requires { ⌜ ((j : Job) × (l : Lent) × ReadInto j (now bytes) at h (now rows) (now areas) (now places)
         × Zeroed l (now shapes) (now sheet) (now placed) (now «sheet_entries») (now «placed_entries») (now intervals) (now positions)
+        (now «sheet_firsts») (now «placed_firsts»)
         × (j .copies ≡ copies))
         × (2048 ≤ length (now places)) ⌝ }
     ensures { λ r. ⌜ ((j : Job) (l : Lent) → ReadInto j (now (bytes .entry)) at h (now (rows .entry)) (now (areas .entry)) (now (places .entry))
         → Zeroed l (now (shapes .entry)) (now (sheet .entry)) (now (placed .entry)) (now («sheet_entries» .entry))
-        (now («placed_entries» .entry)) (now (intervals .entry)) (now (positions .entry))
+        (now («placed_entries» .entry)) (now (intervals .entry)) (now (positions .entry)) (now («sheet_firsts» .entry)) (now («placed_firsts» .entry))
         → j .copies ≡ copies
         → reply r (now (positions .exit)) ≡ replyOf (fillJob j (now (order .entry)) l)) ⌝ }
 {
@@ -127,6 +144,8 @@ pub fn fill_job(
             placed_entries,
             intervals,
             positions,
+            sheet_firsts,
+            placed_firsts,
         );
     }
     report::refused(Refusal::WrongOrder)

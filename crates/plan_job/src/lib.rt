@@ -15,6 +15,7 @@ ghost use Rattle.report.specs.inner.Replies.{reply, replyOf, plannedWhen};
 ghost use Rattle.report.specs.readied.inner.Zeroed.{Zeroed, ReadInto};
 use filling::Refusal;
 use filling::Verdict;
+use index::Bucket;
 use index::Entry;
 use job::Header;
 use report::NestResult;
@@ -34,31 +35,42 @@ fn nest_tables(
     placed_entries: &mut [Entry],
     intervals: &mut [f64],
     positions: &mut [f64],
+    sheet_firsts: &mut [Bucket],
+    placed_firsts: &mut [Bucket],
 ) -> NestResult
     requires { ⌜ ((j : Job) × (l : Lent) × ReadInto j (now bytes) at h (now rows) (now areas) (now places)
         × Zeroed l (now shapes) (now sheet) (now placed) (now «sheet_entries») (now «placed_entries») (now intervals) (now positions)
+        (now «sheet_firsts») (now «placed_firsts»)
         × (5 * j .copies ≤ length (now positions)))
         × (2048 ≤ length (now places)) ⌝ }
     ensures { λ r. ⌜ ((j : Job) (l : Lent) → ReadInto j (now (bytes .entry)) at h (now (rows .entry)) (now (areas .entry)) (now (places .entry))
         → Zeroed l (now (shapes .entry)) (now (sheet .entry)) (now (placed .entry)) (now («sheet_entries» .entry))
-        (now («placed_entries» .entry)) (now (intervals .entry)) (now (positions .entry))
+        (now («placed_entries» .entry)) (now (intervals .entry)) (now (positions .entry)) (now («sheet_firsts» .entry)) (now («placed_firsts» .entry))
         → reply r (now (positions .exit)) ≡ replyOf (plannedWhen (prepareVerdict (plannerOf j) (l .rooms)) l (nested j l (swapSearch j l)))) ⌝ }
 {
     let kinds = h.kinds as usize;
-    let p = prepare::prepare(bytes, at, h, rows, places, shapes, sheet, sheet_entries);
-    let tables = p.tables;
+    let p = prepare::prepare(
+        bytes,
+        at,
+        h,
+        rows,
+        places,
+        shapes,
+        sheet,
+        sheet_entries,
+        sheet_firsts,
+    );
     let sheet_starts = p.sheet_starts;
     let verdict = p.verdict;
     match verdict {
         Verdict::Accepted => {
-            let rounds = h.rounds as usize;
             let mut order = [0usize; 4096];
             let n = copy_order::copy_order(rows, areas, kinds, &mut order);
             swaps::search_plan::search_plan(
-                tables,
+                p.tables,
                 kinds,
                 h.seed,
-                rounds,
+                h.rounds as usize,
                 &mut order[..n],
                 rows,
                 areas,
@@ -70,6 +82,8 @@ fn nest_tables(
                 placed_entries,
                 intervals,
                 positions,
+                sheet_firsts,
+                placed_firsts,
             )
         }
         Verdict::Refused(k) => report::refused(k),
@@ -93,14 +107,17 @@ pub fn nest_job(
     placed_entries: &mut [Entry],
     intervals: &mut [f64],
     positions: &mut [f64],
+    sheet_firsts: &mut [Bucket],
+    placed_firsts: &mut [Bucket],
 ) -> NestResult
     requires { ⌜ ((j : Job) × (l : Lent) × ReadInto j (now bytes) at h (now rows) (now areas) (now places)
         × Zeroed l (now shapes) (now sheet) (now placed) (now «sheet_entries») (now «placed_entries») (now intervals) (now positions)
+        (now «sheet_firsts») (now «placed_firsts»)
         × (j .copies ≡ copies))
         × (2048 ≤ length (now places)) ⌝ }
     ensures { λ r. ⌜ ((j : Job) (l : Lent) → ReadInto j (now (bytes .entry)) at h (now (rows .entry)) (now (areas .entry)) (now (places .entry))
         → Zeroed l (now (shapes .entry)) (now (sheet .entry)) (now (placed .entry)) (now («sheet_entries» .entry))
-        (now («placed_entries» .entry)) (now (intervals .entry)) (now (positions .entry))
+        (now («placed_entries» .entry)) (now (intervals .entry)) (now (positions .entry)) (now («sheet_firsts» .entry)) (now («placed_firsts» .entry))
         → j .copies ≡ copies
         → reply r (now (positions .exit)) ≡ replyOf (nestJob j l)) ⌝ }
 {
@@ -121,5 +138,7 @@ pub fn nest_job(
         placed_entries,
         intervals,
         positions,
+        sheet_firsts,
+        placed_firsts,
     )
 }

@@ -26,6 +26,10 @@ stripRoom = replicate (6 * 1365) posZero
 unfoldable pub entryRoom : List ℕ
 entryRoom = replicate 16384 0
 
+-- "rooms of 1,365 strips each": a number to a strip (document 02, W3)
+unfoldable pub firstRoom : List ℕ
+firstRoom = replicate 1365 0
+
 -- "4,096 intervals": two doubles to an interval
 unfoldable pub intervalRoom : List Float
 intervalRoom = replicate (2 * 4096) posZero
@@ -38,7 +42,15 @@ positionRoom = replicate (5 * 4096) posZero
 unfoldable pub programRooms : Lent
 programRooms =
     record {
-      rooms = record { shapes = stripRoom; sheet = stripRoom; placed = stripRoom; sheet-entries = entryRoom; placed-entries = entryRoom };
+      rooms = record {
+        shapes = stripRoom;
+        sheet = stripRoom;
+        placed = stripRoom;
+        sheet-entries = entryRoom;
+        placed-entries = entryRoom;
+        sheet-firsts = firstRoom;
+        placed-firsts = firstRoom;
+      };
       intervals = intervalRoom;
       positions = positionRoom;
     }

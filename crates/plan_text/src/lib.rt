@@ -6,6 +6,7 @@ ghost use mathlib.Core.List.{_++_};
 ghost use lib.ListN.{length, take, drop};
 ghost use Rattle.filling.specs.Rooms.{zeros, lentOf};
 ghost use Rattle.plan_text.specs.Told.{textReplyOf};
+use index::Bucket;
 use index::Entry;
 
 // Zeros from byte n on.
@@ -29,6 +30,8 @@ pub fn plan_text(
     placed: &mut [f64],
     sheet_entries: &mut [Entry],
     placed_entries: &mut [Entry],
+    sheet_firsts: &mut [Bucket],
+    placed_firsts: &mut [Bucket],
     intervals: &mut [f64],
     positions: &mut [f64],
     out: &mut [u8],
@@ -37,9 +40,10 @@ pub fn plan_text(
       end = r;
       out = now (out .exit);
       lent = lentOf (now (shapes .exit)) (now (sheet .exit)) (now (placed .exit)) (now («sheet_entries» .exit)) (now («placed_entries» .exit))
-          (now (intervals .exit)) (now (positions .exit));
+          (now («sheet_firsts» .exit)) (now («placed_firsts» .exit)) (now (intervals .exit)) (now (positions .exit));
     } ≡ textReplyOf (now (bytes .entry)) (now (out .entry)) (lentOf (now (shapes .entry)) (now (sheet .entry)) (now (placed .entry))
-        (now («sheet_entries» .entry)) (now («placed_entries» .entry)) (now (intervals .entry)) (now (positions .entry))) ⌝ }
+        (now («sheet_entries» .entry)) (now («placed_entries» .entry)) (now («sheet_firsts» .entry)) (now («placed_firsts» .entry))
+        (now (intervals .entry)) (now (positions .entry))) ⌝ }
 {
     if out.len() < 524288 {
         return 0;
@@ -51,6 +55,8 @@ pub fn plan_text(
         placed,
         sheet_entries,
         placed_entries,
+        sheet_firsts,
+        placed_firsts,
         intervals,
         positions,
     );

@@ -1,5 +1,5 @@
-// What an accepted job has before its filling: the sheet's strips and entries, the shapes' strips,
-// bounds and parts (document 01, "Then come the sheet's strips (20) and entries (21), the shapes'
+// What an accepted job has before its filling: the sheet's strips, entries and first buckets, the
+// shapes' strips, bounds and parts (document 01, "Then come the sheet's strips (20) and entries (21), the shapes'
 // strips by kind and orientation, apart before inset (20)").
 pub mod sheet;
 
@@ -14,6 +14,7 @@ use crate::sheet::SheetLaid;
 use filling::Refusal;
 use filling::Tables;
 use filling::Verdict;
+use index::Bucket;
 use index::Entry;
 use job::Header;
 use shapes::ShapesLaid;
@@ -60,14 +61,14 @@ pub fn prepare(
     shapes: &mut [f64],
     sheet: &mut [f64],
     sheet_entries: &mut [Entry],
+    sheet_firsts: &mut [Bucket],
 ) -> Prepared
     requires { ⌜ (256 ≤ length (now rows)) × (2048 ≤ length (now places)) ⌝ }
     ensures { λ r. ⌜ ((j : Job) → FromTables (now (bytes .entry)) (now (rows .entry)) (now (places .entry)) at (h .kinds) j → j .header ≡ h
-        → PreparedIs r (plannerOf j) (given (now (shapes .entry)) (now (sheet .entry)) (now («sheet_entries» .entry)))
-        (now (shapes .exit)) (now (sheet .exit)) (now («sheet_entries» .exit))) ⌝ }
+        → PreparedIs r (plannerOf j) (given (now (shapes .entry)) (now (sheet .entry)) (now («sheet_entries» .entry))
+        (now («sheet_firsts» .entry))) (now (shapes .exit)) (now (sheet .exit)) (now («sheet_entries» .exit)) (now («sheet_firsts» .exit))) ⌝ }
 {
     let mut sheet_starts = [0usize; 513];
-    let mut gains = [0usize; 512];
     let mut inset_bounds = [0.0; 4096];
     let mut parts = [0usize; 4096];
     match sheet::lay_sheet(
@@ -76,7 +77,7 @@ pub fn prepare(
         sheet,
         sheet_entries,
         &mut sheet_starts,
-        &mut gains,
+        sheet_firsts,
     ) {
         SheetLaid::Strips(sheet_bounds, sheet_strips) => {
             match shapes::lay_shapes(

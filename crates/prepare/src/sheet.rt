@@ -1,5 +1,5 @@
-// The sheet's strips and their entries (document 01, "Then come the sheet's strips (20) and
-// entries (21)").
+// The sheet's strips, their entries and their first buckets (document 01, "Then come the sheet's
+// strips (20) and entries (21)"; document 02, W3).
 ghost use mathlib.Core.Path.{_≡_};
 ghost use mathlib.Core.Bool.{true};
 ghost use Prim.Native.Nat.{ℕ, _+_};
@@ -8,6 +8,7 @@ ghost use Rattle.index.specs.Buckets.{buckets};
 ghost use Rattle.filling.specs.Shapes.{setBounds, setStrips};
 ghost use Rattle.prepare.specs.sheet.inner.SheetRoom.{SheetIs};
 ghost use Rattle.kinds.specs.sets.inner.Answers.{setAt};
+use index::Bucket;
 use index::Entry;
 use index::Index;
 use strips::Rect;
@@ -20,19 +21,20 @@ pub enum SheetLaid {
     NoEntries,
 }
 
-// The strips of the set at a bit position and their entries go into the rooms, and the buckets'
-// starts into their table, which is zero. `gains` is a table of work.
+// The strips of the set at a bit position, their entries and their first buckets go into the rooms,
+// and the buckets' starts into their table, which is zero.
 pub fn lay_sheet(
     bytes: &[u8],
     at: u32,
     sheet: &mut [f64],
     entries: &mut [Entry],
     starts: &mut [usize],
-    gains: &mut [usize],
+    firsts: &mut [Bucket],
 ) -> SheetLaid
-    requires { ⌜ (length (now starts) ≡ buckets + 1) × ((b : ℕ) → getD (now starts) b 0 ≡ 0) × (length (now gains) ≡ buckets) ⌝ }
+    requires { ⌜ (length (now starts) ≡ buckets + 1) × ((b : ℕ) → getD (now starts) b 0 ≡ 0) ⌝ }
     ensures { λ r. ⌜ SheetIs r (setBounds (setAt (now (bytes .entry)) at)) (setStrips true (setAt (now (bytes .entry)) at)) (now (sheet .entry))
-        (now (sheet .exit)) (now (entries .entry)) (now (entries .exit)) (now (starts .exit)) ⌝ }
+        (now (sheet .exit)) (now (entries .entry)) (now (entries .exit)) (now (starts .exit))
+        (now (firsts .entry)) (now (firsts .exit)) ⌝ }
 {
     let mut points = [0.0; 1024];
     let mut ends = [0usize; 64];
@@ -40,6 +42,7 @@ pub fn lay_sheet(
     let mut es = [0.0; 3072];
     let mut crossings = [0.0; 1536];
     let mut line = [0.0; 514];
+    let mut gains = [0usize; 512];
     let n = match shapes::set_strips::set_strips(
         bytes,
         at,
@@ -58,13 +61,13 @@ pub fn lay_sheet(
             return SheetLaid::NoStrips;
         }
     };
-    if n > index::STRIP_NUMBERS {
+    if index::standing_capacity(sheet, firsts) < n {
         return SheetLaid::NoStrips;
     }
     let bounds = shapes::set_strips::set_bounds(bytes, at, &mut points, &mut ends);
     let ix = Index::new(bounds.left, bounds.right);
     let end = 6 * n;
-    if enter::enter_copy(ix, &sheet[..end], 0, n, entries, starts, gains) {
+    if enter::enter_copy(ix, &sheet[..end], 0, n, entries, starts, &mut gains, firsts) {
         return SheetLaid::Strips(bounds, n);
     }
     SheetLaid::NoEntries

@@ -13,7 +13,7 @@ use Rattle.filling.specs.Rooms.{Lent, laid, zeros, lentOf}
 use Rattle.nesting.specs.Text.{decimal, line, noWord, printed}
 use Rattle.lines.specs.inner.Writing.{Wrote}
 use Rattle.plan_text.specs.Told.{TextReply, bufferLength, textReplyOf}
-use Rattle.plan_text.specs.Program.{longestJob, overlongNumber, programText, Buffered, textIn, programAnswer, stripRoom, entryRoom, intervalRoom, positionRoom, programRooms}
+use Rattle.plan_text.specs.Program.{longestJob, overlongNumber, programText, Buffered, textIn, programAnswer, stripRoom, entryRoom, firstRoom, intervalRoom, positionRoom, programRooms}
 use Rattle.plan_text.proofs.Telling.{zeros-behind}
 
 same : (a b : ℕ) (o p : List ℕ) → a ≡ b → o ≡ p → _≡_ {A = Buffered} (record { end = a; out = o }) (record { end = b; out = p })
@@ -76,10 +76,10 @@ answer-plan bytes out last l m n h k r e =
     ∙ (ap (λ (t : List ℕ). textIn t out) (text-plan bytes k) ∙ answer-long bytes out h)))
 
 -- the rooms that the program makes are those of the definition
-pub rooms-are : (a b c : List Float) (d e : List ℕ) (f g : List Float) → a ≡ stripRoom → b ≡ stripRoom → c ≡ stripRoom
-    → d ≡ entryRoom → e ≡ entryRoom → f ≡ intervalRoom → g ≡ positionRoom → lentOf a b c d e f g ≡ programRooms
+pub rooms-are : (a b c : List Float) (d e f g : List ℕ) (h i : List Float) → a ≡ stripRoom → b ≡ stripRoom → c ≡ stripRoom
+    → d ≡ entryRoom → e ≡ entryRoom → f ≡ firstRoom → g ≡ firstRoom → h ≡ intervalRoom → i ≡ positionRoom → lentOf a b c d e f g h i ≡ programRooms
 unfolding programRooms
-rooms-are a b c d e f g p q r s t u v = rw (p, q, r, s, t, u, v, programRooms)
+rooms-are a b c d e f g h i p q r s t u v w x = rw (p, q, r, s, t, u, v, w, x, programRooms)
 
 -- ---- the input
 

@@ -7,7 +7,8 @@ ghost use mathlib.Core.Path.{_≡_};
 ghost use mathlib.Core.List.{[], _∷_};
 ghost use lib.ListN.{length};
 ghost use Rattle.nesting.specs.Text.{decimal, line, noWord};
-ghost use Rattle.plan_text.specs.Program.{overlongNumber, stripRoom, entryRoom, intervalRoom, positionRoom, textIn, programAnswer};
+ghost use Rattle.plan_text.specs.Program.{overlongNumber, stripRoom, entryRoom, firstRoom, intervalRoom, positionRoom, textIn, programAnswer};
+use index::Bucket;
 use index::Entry;
 
 // 1,365 strips, six numbers to a strip.
@@ -15,6 +16,9 @@ const STRIP_SLOTS: usize = 8190;
 
 // 16,384 entries.
 const ENTRY_SLOTS: usize = 16384;
+
+// 1,365 strips, one bucket number to a strip.
+const FIRST_SLOTS: usize = 1365;
 
 // 4,096 intervals, two numbers to an interval.
 const INTERVAL_SLOTS: usize = 8192;
@@ -32,6 +36,12 @@ fn entry_room() -> [Entry; ENTRY_SLOTS]
     ensures { λ r. ⌜ r ≡ entryRoom ⌝ }
 {
     [0; ENTRY_SLOTS]
+}
+
+fn first_room() -> [Bucket; FIRST_SLOTS]
+    ensures { λ r. ⌜ r ≡ firstRoom ⌝ }
+{
+    [0; FIRST_SLOTS]
 }
 
 fn interval_room() -> [f64; INTERVAL_SLOTS]
@@ -72,6 +82,8 @@ pub fn program_text(bytes: &[u8], out: &mut [u8]) -> usize
     let mut placed = strip_room();
     let mut sheet_entries = entry_room();
     let mut placed_entries = entry_room();
+    let mut sheet_firsts = first_room();
+    let mut placed_firsts = first_room();
     let mut intervals = interval_room();
     let mut positions = position_room();
     plan_text::plan_text(
@@ -81,6 +93,8 @@ pub fn program_text(bytes: &[u8], out: &mut [u8]) -> usize
         &mut placed,
         &mut sheet_entries,
         &mut placed_entries,
+        &mut sheet_firsts,
+        &mut placed_firsts,
         &mut intervals,
         &mut positions,
         out,

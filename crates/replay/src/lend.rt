@@ -5,6 +5,7 @@ use crate::command;
 use crate::command::Command;
 use crate::edit;
 use crate::show;
+use index::Bucket;
 use index::Entry;
 
 // How many of a room's slots are lent: number a of the lengths, at most all.
@@ -22,19 +23,19 @@ pub fn lent(lengths: &[usize], a: usize, most: usize) -> usize
 
 // Job (J), order (O), a room's length (L), a title (T).
 pub fn load(c: Command, bytes: &mut [u8], order: &mut [usize], lengths: &mut [usize])
-    requires { ⌜ 9 ≤ length (now lengths) ⌝ }
+    requires { ⌜ 11 ≤ length (now lengths) ⌝ }
 {
     let letter = c.letter;
     match letter {
         74 => {
-            lengths[7] = command::read_job(c.n, bytes);
+            lengths[9] = command::read_job(c.n, bytes);
         }
         79 => {
-            lengths[8] = command::read_order(c.n, order);
+            lengths[10] = command::read_order(c.n, order);
         }
         76 => {
             let a = c.a;
-            if a < 7 {
+            if a < 9 {
                 lengths[a] = c.n;
             }
         }
@@ -58,6 +59,7 @@ fn touch(c: Command, a: usize, lengths: &[usize], room: &mut [f64]) {
     }
 }
 
+// The same of a room of entries or first buckets.
 fn touch_entries(c: Command, a: usize, lengths: &[usize], room: &mut [Entry]) {
     if of_room(c.letter, c.a, a) {
         let n = lent(lengths, a, room.len());
@@ -87,6 +89,8 @@ pub fn touch_rooms(
     placed: &mut [f64],
     sheet_entries: &mut [Entry],
     placed_entries: &mut [Entry],
+    sheet_firsts: &mut [Bucket],
+    placed_firsts: &mut [Bucket],
     intervals: &mut [f64],
     positions: &mut [f64],
 ) {
@@ -96,7 +100,9 @@ pub fn touch_rooms(
     touch(c, 2, lengths, placed);
     touch_entries(c, 3, lengths, sheet_entries);
     touch_entries(c, 4, lengths, placed_entries);
-    touch(c, 5, lengths, intervals);
-    touch(c, 6, lengths, positions);
+    touch_entries(c, 5, lengths, sheet_firsts);
+    touch_entries(c, 6, lengths, placed_firsts);
+    touch(c, 7, lengths, intervals);
+    touch(c, 8, lengths, positions);
     tail(c.letter);
 }

@@ -20,6 +20,7 @@ ghost use Rattle.report.specs.inner.Replies.{reply, replyOf, refusedBy, 
 use filling::Plan;
 use filling::Refusal;
 use filling::Verdict;
+use index::Bucket;
 use index::Entry;
 use place::Totals;
 
@@ -64,10 +65,13 @@ pub fn clear(
     sheet_entries: &mut [Entry],
     placed_entries: &mut [Entry],
     intervals: &mut [f64],
+    sheet_firsts: &mut [Bucket],
+    placed_firsts: &mut [Bucket],
 )
     ensures { λ _. ⌜ (now (shapes .exit) ≡ zeros posZero (now (shapes .entry))) × (now (sheet .exit) ≡ zeros posZero (now (sheet .entry)))
         × (now (placed .exit) ≡ zeros posZero (now (placed .entry))) × (now («sheet_entries» .exit) ≡ zeros 0 (now («sheet_entries» .entry)))
-        × (now («placed_entries» .exit) ≡ zeros 0 (now («placed_entries» .entry))) × (now (intervals .exit) ≡ zeros posZero (now (intervals .entry))) ⌝ }
+        × (now («placed_entries» .exit) ≡ zeros 0 (now («placed_entries» .entry))) × (now (intervals .exit) ≡ zeros posZero (now (intervals .entry)))
+        × (now («sheet_firsts» .exit) ≡ zeros 0 (now («sheet_firsts» .entry))) × (now («placed_firsts» .exit) ≡ zeros 0 (now («placed_firsts» .entry))) ⌝ }
 {
     rooms::zero(shapes);
     rooms::zero(sheet);
@@ -75,6 +79,8 @@ pub fn clear(
     rooms::zero_numbers(sheet_entries);
     rooms::zero_numbers(placed_entries);
     rooms::zero(intervals);
+    rooms::zero_numbers(sheet_firsts);
+    rooms::zero_numbers(placed_firsts);
 }
 
 // The plan of a filling that ended so, its positions in their room. Only crates of ours call it:

@@ -5,11 +5,14 @@ pub mod columns;
 ghost use mathlib.Core.Path.{_≡_};
 ghost use Prim.Native.Nat.{ℕ, _+_, _-_, _/_, _≤_, _<_, _^_};
 ghost use lib.ListN.{length, getD, set};
+ghost use Rattle.trapezoid.specs.Strip.{capacity};
+ghost use Rattle.index.specs.inner.Listing.{FirstBuckets};
 ghost use Rattle.look.specs.inner.Ready.{Lookable};
 ghost use Rattle.rooms.specs.tracks.inner.Tracks.{nextColumns, lookCounts, slotNumbers};
 ghost use Rattle.search.specs.columns.inner.Stands.{columnX, lastOf};
 ghost use Rattle.search.specs.inner.Searching.{answerAt, looked, searchFrom, Within, nextOf, tracked, searchOf};
 use crate::columns::Columns;
+use index::Bucket;
 use index::Entry;
 use index::Index;
 use look::Answer;
@@ -38,10 +41,14 @@ fn column_step(
     placed_starts: &[usize],
     room: &mut [f64],
     tracks: &mut [usize],
+    sheet_firsts: &[Bucket],
+    placed_firsts: &[Bucket],
 ) -> Answer
     requires { ⌜ Lookable ix (columnX k c) (k .«y_low») (k .«y_high») (now inset) (now apart) (now sheet) (now placed)
         (now «sheet_entries») (now «sheet_starts») (now «placed_entries») (now «placed_starts»)
-        × (k .count ≤ 4000000000) × (slot < 1024) × (slotNumbers ≤ length (now tracks)) × (getD (lookCounts (now tracks)) slot 0 + 1 < 2 ^ 64) ⌝ }
+        × (k .count ≤ 4000000000) × (slot < 1024) × (slotNumbers ≤ length (now tracks)) × (getD (lookCounts (now tracks)) slot 0 + 1 < 2 ^ 64)
+        × FirstBuckets ix (now sheet) (capacity (now sheet)) (now «sheet_firsts»)
+        × FirstBuckets ix (now placed) (capacity (now placed)) (now «placed_firsts») ⌝ }
     ensures { λ r. ⌜ (r ≡ answerAt (length (now (room .entry)) / 2) k (now (inset .entry)) (now (apart .entry)) (now (sheet .entry)) (now (placed .entry)) c)
         × (lookCounts (now (tracks .exit)) ≡ set (lookCounts (now (tracks .entry))) slot (getD (lookCounts (now (tracks .entry))) slot 0 + 1))
         × (nextColumns (now (tracks .exit)) ≡ nextColumns (now (tracks .entry))) ⌝ }
@@ -63,6 +70,8 @@ fn column_step(
         placed_entries,
         placed_starts,
         room,
+        sheet_firsts,
+        placed_firsts,
     )
 }
 
@@ -83,11 +92,15 @@ fn column_search(
     placed_starts: &[usize],
     room: &mut [f64],
     tracks: &mut [usize],
+    sheet_firsts: &[Bucket],
+    placed_firsts: &[Bucket],
 ) -> Found
     requires { ⌜ ((c : ℕ) → from ≤ c → c ≤ last → Lookable ix (columnX k c) (k .«y_low») (k .«y_high») (now inset) (now apart) (now sheet) (now placed)
         (now «sheet_entries») (now «sheet_starts») (now «placed_entries») (now «placed_starts»))
         × (k .count ≤ 4000000000) × (last ≤ 4000000001) × (slot < 1024) × (slotNumbers ≤ length (now tracks))
-        × (getD (lookCounts (now tracks)) slot 0 + (last + 1 - from) < 2 ^ 64) ⌝ }
+        × (getD (lookCounts (now tracks)) slot 0 + (last + 1 - from) < 2 ^ 64)
+        × FirstBuckets ix (now sheet) (capacity (now sheet)) (now «sheet_firsts»)
+        × FirstBuckets ix (now placed) (capacity (now placed)) (now «placed_firsts») ⌝ }
     ensures { λ r. ⌜ (looked r (lookCounts (now (tracks .exit)))
         ≡ searchFrom (answerAt (length (now (room .entry)) / 2) k (now (inset .entry)) (now (apart .entry)) (now (sheet .entry)) (now (placed .entry)))
         slot (last + 1 - from) from (lookCounts (now (tracks .entry))))
@@ -113,6 +126,8 @@ fn column_search(
             placed_starts,
             room,
             tracks,
+            sheet_firsts,
+            placed_firsts,
         ) {
             Answer::NoRoom => {
                 break Found::Overflow;
@@ -143,7 +158,7 @@ fn next_of(found: Found, last: usize) -> usize
 }
 
 // The search of one orientation, from its remembered column. Only crates of ours call it: the
-// entries must be those of the strips.
+// entries must be those of the strips, and the bucket numbers theirs.
 pub fn search(
     ix: Index,
     k: Columns,
@@ -158,10 +173,14 @@ pub fn search(
     placed_starts: &[usize],
     room: &mut [f64],
     tracks: &mut [usize],
+    sheet_firsts: &[Bucket],
+    placed_firsts: &[Bucket],
 ) -> Found
     requires { ⌜ ((c : ℕ) → c ≤ lastOf k → Lookable ix (columnX k c) (k .«y_low») (k .«y_high») (now inset) (now apart) (now sheet) (now placed)
         (now «sheet_entries») (now «sheet_starts») (now «placed_entries») (now «placed_starts»))
-        × (k .count ≤ 4000000000) × (slot < 1024) × (slotNumbers ≤ length (now tracks)) × (getD (lookCounts (now tracks)) slot 0 + 4000000002 < 2 ^ 64) ⌝ }
+        × (k .count ≤ 4000000000) × (slot < 1024) × (slotNumbers ≤ length (now tracks)) × (getD (lookCounts (now tracks)) slot 0 + 4000000002 < 2 ^ 64)
+        × FirstBuckets ix (now sheet) (capacity (now sheet)) (now «sheet_firsts»)
+        × FirstBuckets ix (now placed) (capacity (now placed)) (now «placed_firsts») ⌝ }
     ensures { λ r. ⌜ tracked r (lookCounts (now (tracks .exit))) (nextColumns (now (tracks .exit)))
         ≡ searchOf (answerAt (length (now (room .entry)) / 2) k (now (inset .entry)) (now (apart .entry)) (now (sheet .entry)) (now (placed .entry)))
         k slot (lookCounts (now (tracks .entry))) (nextColumns (now (tracks .entry))) ⌝ }
@@ -185,6 +204,8 @@ pub fn search(
         placed_starts,
         room,
         tracks,
+        sheet_firsts,
+        placed_firsts,
     );
     tracks[at] = next_of(found, last);
     found

@@ -51,24 +51,24 @@ module _ (j : Job) (order : List ℕ) (l : Lent) (positions : ℕ) (e : position
   right-order h g = rw (e, le-ltb positions (j .copies) h, g)
 
 -- ---- refused
-pub job-refused : (bytes order : List ℕ) (l : Lent) (k : Input.Refusal) (r : Started) (shapes sheet : List Float) (entries : List ℕ) → Cleared l shapes sheet entries → readJob bytes ≡ refused k → r ≡ notStarted (Why.Job k) → Begun r (startOf bytes order l) shapes sheet entries
+pub job-refused : (bytes order : List ℕ) (l : Lent) (k : Input.Refusal) (r : Started) (shapes sheet : List Float) (entries firsts : List ℕ) → Cleared l shapes sheet entries firsts → readJob bytes ≡ refused k → r ≡ notStarted (Why.Job k) → Begun r (startOf bytes order l) shapes sheet entries firsts
 unfolding startOf startGiven
-job-refused bytes order l k r shapes sheet entries C e d =
-    subst (λ (x : Started). Begun x (startOf bytes order l) shapes sheet entries) (sym d)
-    (subst (λ (a : Answer). Begun (notStarted (Why.Job k)) (startGiven a order l) shapes sheet entries) (sym e) (not-begun (Why.Job k) l shapes sheet entries C))
+job-refused bytes order l k r shapes sheet entries firsts C e d =
+    subst (λ (x : Started). Begun x (startOf bytes order l) shapes sheet entries firsts) (sym d)
+    (subst (λ (a : Answer). Begun (notStarted (Why.Job k)) (startGiven a order l) shapes sheet entries firsts) (sym e) (not-begun (Why.Job k) l shapes sheet entries firsts C))
 
-pub job-accepted : (bytes order : List ℕ) (l : Lent) (j : Job) (r : Started) (shapes sheet : List Float) (entries : List ℕ) → readJob bytes ≡ accepted j → Begun r (startJob j order l) shapes sheet entries → Begun r (startOf bytes order l) shapes sheet entries
+pub job-accepted : (bytes order : List ℕ) (l : Lent) (j : Job) (r : Started) (shapes sheet : List Float) (entries firsts : List ℕ) → readJob bytes ≡ accepted j → Begun r (startJob j order l) shapes sheet entries firsts → Begun r (startOf bytes order l) shapes sheet entries firsts
 unfolding startOf startGiven
-job-accepted bytes order l j r shapes sheet entries e B = subst (λ (a : Answer). Begun r (startGiven a order l) shapes sheet entries) (sym e) B
+job-accepted bytes order l j r shapes sheet entries firsts e B = subst (λ (a : Answer). Begun r (startGiven a order l) shapes sheet entries firsts) (sym e) B
 
-module _ (j : Job) (order : List ℕ) (l : Lent) (r : Started) (shapes sheet : List Float) (entries : List ℕ) where
+module _ (j : Job) (order : List ℕ) (l : Lent) (r : Started) (shapes sheet : List Float) (entries firsts : List ℕ) where
   -- 30
-  pub few-positions : (positions : ℕ) → positionCapacity (l .positions) ≡ positions → positions < j .copies → r ≡ notStarted Why.PositionRoom → Cleared l shapes sheet entries → Begun r (startJob j order l) shapes sheet entries
-  few-positions positions e h d C = begun-refused j order l r shapes sheet entries Why.PositionRoom (position-room j order l positions e h) d C
+  pub few-positions : (positions : ℕ) → positionCapacity (l .positions) ≡ positions → positions < j .copies → r ≡ notStarted Why.PositionRoom → Cleared l shapes sheet entries firsts → Begun r (startJob j order l) shapes sheet entries firsts
+  few-positions positions e h d C = begun-refused j order l r shapes sheet entries firsts Why.PositionRoom (position-room j order l positions e h) d C
 
   -- 10
-  pub wrong-order : (positions : ℕ) → positionCapacity (l .positions) ≡ positions → j .copies ≤ positions → rearranged j order ≡ false → r ≡ notStarted Why.WrongOrder → Cleared l shapes sheet entries → Begun r (startJob j order l) shapes sheet entries
-  wrong-order positions e h g d C = begun-refused j order l r shapes sheet entries Why.WrongOrder (order-wrong j order l positions e h g) d C
+  pub wrong-order : (positions : ℕ) → positionCapacity (l .positions) ≡ positions → j .copies ≤ positions → rearranged j order ≡ false → r ≡ notStarted Why.WrongOrder → Cleared l shapes sheet entries firsts → Begun r (startJob j order l) shapes sheet entries firsts
+  wrong-order positions e h g d C = begun-refused j order l r shapes sheet entries firsts Why.WrongOrder (order-wrong j order l positions e h g) d C
 
 -- ---- through the tables
 module _ (bytes rows places : List ℕ) (h : Header) (at c : ℕ) (t : (areas : List Float) × (64 ≤ length areas) × (readJob bytes ≡ jobRead (Good h at c) bytes rows areas places)) where
@@ -101,16 +101,17 @@ module _ (bytes rows places : List ℕ) (h : Header) (at c : ℕ) (t : (areas : 
 record Zeroed (s : Start) (l : Lent) : Type 0 where
   placed : zeros posZero (l .rooms .placed) ≡ s .lent .rooms .placed
   placed-entries : zeros 0 (l .rooms .placed-entries) ≡ s .lent .rooms .placed-entries
+  placed-firsts : zeros 0 (l .rooms .placed-firsts) ≡ s .lent .rooms .placed-firsts
   intervals : zeros posZero (l .intervals) ≡ s .lent .intervals
   positions : zeros posZero (l .positions) ≡ s .lent .positions
 
 refused-zeroed : (k : Refusal) (l : Lent) → Zeroed (noStart k l) l
 unfolding noStart onlyPositions zeroRooms laid
-refused-zeroed k l = record { placed = refl; placed-entries = refl; intervals = refl; positions = refl }
+refused-zeroed k l = record { placed = refl; placed-entries = refl; placed-firsts = refl; intervals = refl; positions = refl }
 
 good-zeroed : (p : Planner) (order : List ℕ) (l : Lent) → Zeroed (goodStart p order l) l
 unfolding goodStart firstRooms
-good-zeroed p order l = record { placed = refl; placed-entries = refl; intervals = refl; positions = refl }
+good-zeroed p order l = record { placed = refl; placed-entries = refl; placed-firsts = refl; intervals = refl; positions = refl }
 
 job-zeroed : (j : Job) (order : List ℕ) (l : Lent) → Zeroed (startJob j order l) l
 job-zeroed j order l = go (startVerdict j order l) refl
@@ -124,19 +125,26 @@ unfolding startGiven
 given-zeroed (refused k) order l = refused-zeroed (Why.Job k) l
 given-zeroed (accepted j) order l = job-zeroed j order l
 
-start-same : (v v′ : Verdict) (t t′ : State) (a a′ b b′ c c′ : List Float) (d d′ e e′ : List ℕ) (f f′ g g′ : List Float) → v ≡ v′ → t ≡ t′ → a ≡ a′ → b ≡ b′ → c ≡ c′ → d ≡ d′ → e ≡ e′ → f ≡ f′ → g ≡ g′
-    → _≡_ {A = Start} (record { verdict = v; state = t; lent = lentOf a b c d e f g }) (record { verdict = v′; state = t′; lent = lentOf a′ b′ c′ d′ e′ f′ g′ })
-start-same v v′ t t′ a a′ b b′ c c′ d d′ e e′ f f′ g g′ h1 h2 h3 h4 h5 h6 h7 h8 h9 = rw (h1, h2, h3, h4, h5, h6, h7, h8, h9)
+start-same : (v v′ : Verdict) (t t′ : State) (a a′ b b′ c c′ : List Float) (d d′ e e′ m m′ n n′ : List ℕ) (f f′ g g′ : List Float)
+    → v ≡ v′ → t ≡ t′ → a ≡ a′ → b ≡ b′ → c ≡ c′ → d ≡ d′ → e ≡ e′ → m ≡ m′ → n ≡ n′ → f ≡ f′ → g ≡ g′
+    → _≡_ {A = Start} (record { verdict = v; state = t; lent = lentOf a b c d e m n f g }) (record { verdict = v′; state = t′; lent = lentOf a′ b′ c′ d′ e′ m′ n′ f′ g′ })
+start-same v v′ t t′ a a′ b b′ c c′ d d′ e e′ m m′ n n′ f f′ g g′ h1 h2 h3 h4 h5 h6 h7 h8 h9 h10 h11 = rw (h1, h2, h3, h4, h5, h6, h7, h8, h9, h10, h11)
 
-both-same : (r : Started) (s : Start) (l : Lent) (shapes sheet placed : List Float) (entries placed-entries : List ℕ) (intervals positions : List Float) → Begun r s shapes sheet entries → Zeroed s l
-    → placed ≡ zeros posZero (l .rooms .placed) → placed-entries ≡ zeros 0 (l .rooms .placed-entries) → intervals ≡ zeros posZero (l .intervals) → positions ≡ zeros posZero (l .positions)
-    → answered r (lentOf shapes sheet placed entries placed-entries intervals positions) ≡ s
-both-same r s l shapes sheet placed entries placed-entries intervals positions B Z a b c d =
-    start-same _ _ _ _ _ _ _ _ _ _ _ _ _ _ _ _ _ _ (B .verdict-is) (B .state-is) (B .shapes-are) (B .sheet-is) (a ∙ Z .placed) (B .entries-are) (b ∙ Z .placed-entries) (c ∙ Z .intervals) (d ∙ Z .positions)
+both-same : (r : Started) (s : Start) (l : Lent) (shapes sheet placed : List Float) (entries placed-entries firsts placed-firsts : List ℕ)
+    (intervals positions : List Float) → Begun r s shapes sheet entries firsts → Zeroed s l
+    → placed ≡ zeros posZero (l .rooms .placed) → placed-entries ≡ zeros 0 (l .rooms .placed-entries) → placed-firsts ≡ zeros 0 (l .rooms .placed-firsts)
+    → intervals ≡ zeros posZero (l .intervals) → positions ≡ zeros posZero (l .positions)
+    → answered r (lentOf shapes sheet placed entries placed-entries firsts placed-firsts intervals positions) ≡ s
+both-same r s l shapes sheet placed entries placed-entries firsts placed-firsts intervals positions B Z a b f c d =
+    start-same _ _ _ _ _ _ _ _ _ _ _ _ _ _ _ _ _ _ _ _ _ _ (B .verdict-is) (B .state-is) (B .shapes-are) (B .sheet-is) (a ∙ Z .placed) (B .entries-are)
+    (b ∙ Z .placed-entries) (B .firsts-are) (f ∙ Z .placed-firsts) (c ∙ Z .intervals) (d ∙ Z .positions)
 
-pub whole : (bytes order : List ℕ) (l : Lent) (r : Started) (shapes sheet placed : List Float) (entries placed-entries : List ℕ) (intervals positions : List Float) → Begun r (startOf bytes order l) shapes sheet entries
-    → placed ≡ zeros posZero (l .rooms .placed) → placed-entries ≡ zeros 0 (l .rooms .placed-entries) → intervals ≡ zeros posZero (l .intervals) → positions ≡ zeros posZero (l .positions)
-    → answered r (lentOf shapes sheet placed entries placed-entries intervals positions) ≡ startOf bytes order l
+pub whole : (bytes order : List ℕ) (l : Lent) (r : Started) (shapes sheet placed : List Float) (entries placed-entries firsts placed-firsts : List ℕ)
+    (intervals positions : List Float) → Begun r (startOf bytes order l) shapes sheet entries firsts
+    → placed ≡ zeros posZero (l .rooms .placed) → placed-entries ≡ zeros 0 (l .rooms .placed-entries) → placed-firsts ≡ zeros 0 (l .rooms .placed-firsts)
+    → intervals ≡ zeros posZero (l .intervals) → positions ≡ zeros posZero (l .positions)
+    → answered r (lentOf shapes sheet placed entries placed-entries firsts placed-firsts intervals positions) ≡ startOf bytes order l
 unfolding startOf
-whole bytes order l r shapes sheet placed entries placed-entries intervals positions B a b c d =
-    both-same r (startGiven (readJob bytes) order l) l shapes sheet placed entries placed-entries intervals positions B (given-zeroed (readJob bytes) order l) a b c d
+whole bytes order l r shapes sheet placed entries placed-entries firsts placed-firsts intervals positions B a b f c d =
+    both-same r (startGiven (readJob bytes) order l) l shapes sheet placed entries placed-entries firsts placed-firsts intervals positions B
+    (given-zeroed (readJob bytes) order l) a b f c d

@@ -16,6 +16,7 @@ ghost use Rattle.start.specs.ordered.inner.Beginning.{Cleared, Begun};
 ghost use Rattle.start.specs.Answered.{answered};
 use crate::replies::Started;
 use filling::Refusal;
+use index::Bucket;
 use index::Entry;
 use job::Header;
 use job::JobRead;
@@ -33,12 +34,13 @@ fn begin_job(
     shapes: &mut [f64],
     sheet: &mut [f64],
     sheet_entries: &mut [Entry],
+    sheet_firsts: &mut [Bucket],
 ) -> Started
     requires { ⌜ (256 ≤ length (now rows)) × (2048 ≤ length (now places)) × ((areas : List Float) × (64 ≤ length areas)
         × (readJob (now bytes) ≡ jobRead (Good h at copies) (now bytes) (now rows) areas (now places))) ⌝ }
     ensures { λ r. ⌜ ((j : Job) (l : Lent) → readJob (now (bytes .entry)) ≡ accepted j → Cleared l (now (shapes .entry)) (now (sheet .entry))
-        (now («sheet_entries» .entry)) → positionCapacity (l .positions) ≡ positions → Begun r (startJob j (now (order .entry)) l) (now (shapes .exit))
-        (now (sheet .exit)) (now («sheet_entries» .exit))) ⌝ }
+        (now («sheet_entries» .entry)) (now («sheet_firsts» .entry)) → positionCapacity (l .positions) ≡ positions
+        → Begun r (startJob j (now (order .entry)) l) (now (shapes .exit)) (now (sheet .exit)) (now («sheet_entries» .exit)) (now («sheet_firsts» .exit))) ⌝ }
 {
     let n = copies as usize;
     if positions < n {
@@ -56,6 +58,7 @@ fn begin_job(
             shapes,
             sheet,
             sheet_entries,
+            sheet_firsts,
         );
     }
     replies::refused(Refusal::WrongOrder)
@@ -69,10 +72,11 @@ fn begin(
     shapes: &mut [f64],
     sheet: &mut [f64],
     sheet_entries: &mut [Entry],
+    sheet_firsts: &mut [Bucket],
 ) -> Started
-    ensures { λ r. ⌜ ((l : Lent) → Cleared l (now (shapes .entry)) (now (sheet .entry)) (now («sheet_entries» .entry))
+    ensures { λ r. ⌜ ((l : Lent) → Cleared l (now (shapes .entry)) (now (sheet .entry)) (now («sheet_entries» .entry)) (now («sheet_firsts» .entry))
         → positionCapacity (l .positions) ≡ positions → Begun r (startOf (now (bytes .entry)) (now (order .entry)) l) (now (shapes .exit)) (now (sheet .exit))
-        (now («sheet_entries» .exit))) ⌝ }
+        (now («sheet_entries» .exit)) (now («sheet_firsts» .exit))) ⌝ }
 {
     let j = job::read(bytes);
     let rows = j.rows;
@@ -91,13 +95,14 @@ fn begin(
             shapes,
             sheet,
             sheet_entries,
+            sheet_firsts,
         ),
         JobRead::NoJob(k) => replies::refused(Refusal::Job(k)),
     }
 }
 
 // The public operation `start`: the job's number, 30, 10, then what cannot be prepared; or the state
-// before the first copy, with strips and entries in the rooms and zeros elsewhere.
+// before the first copy, with strips, entries and first buckets in the rooms and zeros elsewhere.
 pub fn start(
     bytes: &[u8],
     order: &[usize],
@@ -106,12 +111,15 @@ pub fn start(
     placed: &mut [f64],
     sheet_entries: &mut [Entry],
     placed_entries: &mut [Entry],
+    sheet_firsts: &mut [Bucket],
+    placed_firsts: &mut [Bucket],
     intervals: &mut [f64],
     positions: &mut [f64],
 ) -> Started
     ensures { λ r. ⌜ answered r (lentOf (now (shapes .exit)) (now (sheet .exit)) (now (placed .exit)) (now («sheet_entries» .exit))
-        (now («placed_entries» .exit)) (now (intervals .exit)) (now (positions .exit))) ≡ startOf (now (bytes .entry)) (now (order .entry))
-        (lentOf (now (shapes .entry)) (now (sheet .entry)) (now (placed .entry)) (now («sheet_entries» .entry)) (now («placed_entries» .entry))
+        (now («placed_entries» .exit)) (now («sheet_firsts» .exit)) (now («placed_firsts» .exit)) (now (intervals .exit)) (now (positions .exit)))
+        ≡ startOf (now (bytes .entry)) (now (order .entry)) (lentOf (now (shapes .entry)) (now (sheet .entry)) (now (placed .entry))
+        (now («sheet_entries» .entry)) (now («placed_entries» .entry)) (now («sheet_firsts» .entry)) (now («placed_firsts» .entry))
         (now (intervals .entry)) (now (positions .entry))) ⌝ }
 {
     let held = positions.len() / 5;
@@ -120,7 +128,17 @@ pub fn start(
     rooms::zero(placed);
     rooms::zero_numbers(sheet_entries);
     rooms::zero_numbers(placed_entries);
+    rooms::zero_numbers(sheet_firsts);
+    rooms::zero_numbers(placed_firsts);
     rooms::zero(intervals);
     rooms::zero(positions);
-    begin(bytes, order, held, shapes, sheet, sheet_entries)
+    begin(
+        bytes,
+        order,
+        held,
+        shapes,
+        sheet,
+        sheet_entries,
+        sheet_firsts,
+    )
 }

@@ -12,6 +12,7 @@ ghost use Rattle.start.specs.ordered.inner.Beginning.{Cleared, Begun};
 use crate::replies;
 use crate::replies::Started;
 use filling::Verdict;
+use index::Bucket;
 use index::Entry;
 use job::Header;
 
@@ -27,14 +28,25 @@ pub fn begin_order(
     shapes: &mut [f64],
     sheet: &mut [f64],
     sheet_entries: &mut [Entry],
+    sheet_firsts: &mut [Bucket],
 ) -> Started
     requires { ⌜ (length (now order) ≤ 4096) × (256 ≤ length (now rows)) × (2048 ≤ length (now places)) ⌝ }
     ensures { λ r. ⌜ ((j : Job) (l : Lent) → FromTables (now (bytes .entry)) (now (rows .entry)) (now (places .entry)) at (h .kinds) j → j .header ≡ h
-        → Cleared l (now (shapes .entry)) (now (sheet .entry)) (now («sheet_entries» .entry)) → startVerdict j (now (order .entry)) l
-        ≡ prepareVerdict (plannerOf j) (l .rooms) → Begun r (startJob j (now (order .entry)) l) (now (shapes .exit)) (now (sheet .exit))
-        (now («sheet_entries» .exit))) ⌝ }
+        → Cleared l (now (shapes .entry)) (now (sheet .entry)) (now («sheet_entries» .entry)) (now («sheet_firsts» .entry))
+        → startVerdict j (now (order .entry)) l ≡ prepareVerdict (plannerOf j) (l .rooms)
+        → Begun r (startJob j (now (order .entry)) l) (now (shapes .exit)) (now (sheet .exit)) (now («sheet_entries» .exit)) (now («sheet_firsts» .exit))) ⌝ }
 {
-    let p = prepare::prepare(bytes, at, h, rows, places, shapes, sheet, sheet_entries);
+    let p = prepare::prepare(
+        bytes,
+        at,
+        h,
+        rows,
+        places,
+        shapes,
+        sheet,
+        sheet_entries,
+        sheet_firsts,
+    );
     let verdict = p.verdict;
     match verdict {
         Verdict::Accepted => {
@@ -46,6 +58,7 @@ pub fn begin_order(
             rooms::zero(shapes);
             rooms::zero(sheet);
             rooms::zero_numbers(sheet_entries);
+            rooms::zero_numbers(sheet_firsts);
             replies::refused(k)
         }
     }

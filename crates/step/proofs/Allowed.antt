@@ -11,6 +11,8 @@ use denote.Array.{each}
 use denote.Floats.{FloatOf}
 use denote.Shadow.{shadow}
 use Rattle.numbers.proofs.Patterns.{nan-fits}
+use Rattle.trapezoid.specs.Strip.{capacity}
+use Rattle.index.specs.inner.Listing.{FirstBuckets}
 use Rattle.job.specs.Jobs.{Job}
 use Rattle.filling.specs.declared.State.{State}
 use Rattle.filling.specs.Rooms.{Rooms}
@@ -120,3 +122,16 @@ module _ {j : Job} {s : State} {w : Rooms} {rows : List ℕ} {areas : List Float
       subst⁻¹ (λ (g : Grid). Standing (g .index) (w .placed) (t .«placed_strips») (w .placed-entries) starts) e
       (subst⁻¹ (λ (t : Totals). Standing (sheetIndex (s .tables .«sheet_bounds»)) (w .placed) (t .«placed_strips») (w .placed-entries) starts) f
       (ready-standing j s w (G .passes) D starts (G .placed-laid)))
+
+  -- ---- the bucket numbers
+  pub allowed-sheet-firsts : (g : Grid) → g ≡ gridOf (s .tables) → FirstBuckets (g .index) (take (6 * s .tables .«sheet_strips») (w .sheet))
+      (capacity (take (6 * s .tables .«sheet_strips») (w .sheet))) (w .sheet-firsts)
+  allowed-sheet-firsts g e =
+      subst⁻¹ (λ (g : Grid). FirstBuckets (g .index) (take (6 * s .tables .«sheet_strips») (w .sheet))
+      (capacity (take (6 * s .tables .«sheet_strips») (w .sheet))) (w .sheet-firsts)) e (G .sheet-kept)
+
+  pub allowed-firsts : (g : Grid) → g ≡ gridOf (s .tables) → (t : Totals) → t ≡ totalsOf s
+      → FirstBuckets (g .index) (w .placed) (t .«placed_strips») (w .placed-firsts)
+  allowed-firsts g e t f =
+      subst⁻¹ (λ (g : Grid). FirstBuckets (g .index) (w .placed) (t .«placed_strips») (w .placed-firsts)) e
+      (subst⁻¹ (λ (t : Totals). FirstBuckets (sheetIndex (s .tables .«sheet_bounds»)) (w .placed) (t .«placed_strips») (w .placed-firsts)) f (G .placed-kept))

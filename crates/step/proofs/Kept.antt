@@ -1,4 +1,4 @@
--- A copy that is refused leaves the strips and the entries as they were. Assumes nothing.
+-- A copy that is refused leaves strips, entries and totals as they were. Assumes nothing.
 use Prim.{⊥}
 use Prim.Native.Nat.{ℕ, _+_, _*_}
 use native.Mathlib.Omega.{arith}
@@ -33,57 +33,70 @@ at-not e = absurd (let z : _≡_ {A = ℕ} 0 1 = cc in omega arith)
 nowhere-not : {r : Refusal} → Nowhere ≡ Refused r → ⊥
 nowhere-not e = absurd (let z : _≡_ {A = ℕ} 0 1 = cc in omega arith)
 
-module _ (ix : Index) (t : Totals) (placed : List Float) (e s : List ℕ) where
-  -- strips and entries stand as before
+module _ (ix : Index) (t : Totals) (placed : List Float) (e s f : List ℕ) where
+  -- strips, entries and totals stand as before
   abbrev Same : PutLeft → Type 0
-  Same f = (f .placed ≡ placed) × (f .entries ≡ e)
+  Same l = (l .placed ≡ placed) × (l .entries ≡ e) × (l .reply .totals ≡ t)
 
   module _ (apart : List Float) (p : Choice) where
     abbrev strips : List Float
     strips = together apart (p .x) (p .y) (t .«placed_strips») placed
 
     abbrev stored : Left
-    stored = storeOf ix apart (p .x) (p .y) (t .«placed_strips») placed e s
+    stored = storeOf ix apart (p .x) (p .y) (t .«placed_strips») placed e s f
 
-    store-short : ltb (standingCapacity placed) (capacity strips) ≡ true → stored ≡ left NoStrips placed e s
+    -- 20, 21
+    abbrev few : Bool
+    few = ltb (standingCapacity placed f) (capacity strips)
+
+    abbrev tight : Bool
+    tight = ltb (length e) (length (entriesOf ix strips (capacity strips)))
+
+    store-short : few ≡ true → stored ≡ left NoStrips placed e s
     unfolding storeOf
     store-short h = rw (h, storeOf)
 
-    store-full : ltb (standingCapacity placed) (capacity strips) ≡ false → ltb (length e) (length (entriesOf ix strips (capacity strips))) ≡ true → stored ≡ left NoEntries placed e s
+    store-full : few ≡ false → tight ≡ true → stored ≡ left NoEntries placed e s
     unfolding storeOf
     store-full h g = rw (h, g, storeOf)
 
-    store-done : ltb (standingCapacity placed) (capacity strips) ≡ false → ltb (length e) (length (entriesOf ix strips (capacity strips))) ≡ false → stored .answer ≡ Done
+    store-done : few ≡ false → tight ≡ false → stored .answer ≡ Done
     unfolding storeOf
     store-done h g = rw (h, g, storeOf)
 
-    stored-kept : (stored .answer ≡ Done) ⊎ ((stored .placed ≡ placed) × (stored .entries ≡ e))
-    stored-kept = go (either (ltb (standingCapacity placed) (capacity strips))) (either (ltb (length e) (length (entriesOf ix strips (capacity strips)))))
-      where
-        same : (a : Stored) → stored ≡ left a placed e s → (stored .placed ≡ placed) × (stored .entries ≡ e)
-        same a q = (ap (λ (f : Left). f .placed) q, ap (λ (f : Left). f .entries) q)
+    -- strips and entries are as before, and no strip counts
+    abbrev Unstored : Type 0
+    Unstored = (stored .placed ≡ placed) × (stored .entries ≡ e) × ((k : ℕ) → afterOf (stored .answer) p t k .totals ≡ t)
 
-        go : (ltb (standingCapacity placed) (capacity strips) ≡ true) ⊎ (ltb (standingCapacity placed) (capacity strips) ≡ false) → (ltb (length e) (length (entriesOf ix strips (capacity strips))) ≡ true) ⊎ (ltb (length e) (length (entriesOf ix strips (capacity strips))) ≡ false)
-            → (stored .answer ≡ Done) ⊎ ((stored .placed ≡ placed) × (stored .entries ≡ e))
-        go (inl h) g = inr (same NoStrips (store-short h))
-        go (inr h) (inl g) = inr (same NoEntries (store-full h g))
+    stored-kept : (stored .answer ≡ Done) ⊎ Unstored
+    stored-kept = go (either few) (either tight)
+      where
+        same : (a : Stored) → stored ≡ left a placed e s → ((k : ℕ) → afterOf a p t k .totals ≡ t) → Unstored
+        same a q h = (ap (λ (l : Left). l .placed) q, ap (λ (l : Left). l .entries) q, λ k. ap (λ (l : Left). afterOf (l .answer) p t k .totals) q ∙ h k)
+
+        go : (few ≡ true) ⊎ (few ≡ false) → (tight ≡ true) ⊎ (tight ≡ false) → (stored .answer ≡ Done) ⊎ Unstored
+        go (inl h) g = inr (same NoStrips (store-short h) (λ k. refl))
+        go (inr h) (inl g) = inr (same NoEntries (store-full h g) (λ k. refl))
         go (inr h) (inr g) = inl (store-done h g)
 
-  put-kept : (p : Choice) (q : Part) (apart : List Float) (r : Refusal) → putOf ix p q t apart placed e s .reply .outcome ≡ Refused r → Same (putOf ix p q t apart placed e s)
+  put-kept : (p : Choice) (q : Part) (apart : List Float) (r : Refusal)
+      → putOf ix p q t apart placed e s f .reply .outcome ≡ Refused r → Same (putOf ix p q t apart placed e s f)
   unfolding putOf putLeft
   put-kept p q apart r h = go (stored-kept (apartPart q apart) p)
     where
-      go : (stored (apartPart q apart) p .answer ≡ Done) ⊎ ((stored (apartPart q apart) p .placed ≡ placed) × (stored (apartPart q apart) p .entries ≡ e)) → Same (putOf ix p q t apart placed e s)
+      go : (stored (apartPart q apart) p .answer ≡ Done) ⊎ Unstored (apartPart q apart) p → Same (putOf ix p q t apart placed e s f)
       go (inl d) = absurd (at-not (sym (ap (λ (a : Stored). afterOf a p t (capacity (apartPart q apart)) .outcome) d) ∙ h))
-      go (inr k) = k
+      go (inr k) = (k .0, k .1, k .2 (capacity (apartPart q apart)))
 
-  settle-kept : (v : Winner) (area : Float) (slot : ℕ) (parts : List ℕ) (apart : List Float) (r : Refusal) → settleOf ix v area slot t parts apart placed e s .reply .outcome ≡ Refused r → Same (settleOf ix v area slot t parts apart placed e s)
+  settle-kept : (v : Winner) (area : Float) (slot : ℕ) (parts : List ℕ) (apart : List Float) (r : Refusal)
+      → settleOf ix v area slot t parts apart placed e s f .reply .outcome ≡ Refused r → Same (settleOf ix v area slot t parts apart placed e s f)
   unfolding withoutOf
   settle-kept (Winners.At p) area slot parts apart r h = put-kept p (partAt parts (slot + p .orientation)) apart r h
   settle-kept Winners.Nowhere area slot parts apart r h = absurd (nowhere-not h)
-  settle-kept Winners.Overflow area slot parts apart r h = (refl, refl)
+  settle-kept Winners.Overflow area slot parts apart r h = (refl, refl, refl)
 
   -- the rooms after a refused copy
-  pub place-kept : (w : Surroundings) (area : Float) (slot n : ℕ) (counts next : List ℕ) (r : Refusal) → placeOf ix w area slot n t placed e s counts next .left .reply .outcome ≡ Refused r → Same (placeOf ix w area slot n t placed e s counts next .left)
+  pub place-kept : (w : Surroundings) (area : Float) (slot n : ℕ) (counts next : List ℕ) (r : Refusal)
+      → placeOf ix w area slot n t placed e s f counts next .left .reply .outcome ≡ Refused r → Same (placeOf ix w area slot n t placed e s f counts next .left)
   unfolding placeOf placeWith
   place-kept w area slot n counts next r h = settle-kept (chooseFrom w slot n 0 (chosen Winners.Nowhere counts next) .winner) area slot (w .parts) (w .apart) r h

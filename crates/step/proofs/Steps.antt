@@ -1,7 +1,7 @@
 -- What code leaves of a step is the definition's. Assumes nothing.
 use Prim.Native.Nat.{ℕ, _+_, _*_, _/_, _≤_}
 use native.Mathlib.Numerals.{add-one}
-use mathlib.Core.Path.{_≡_, refl, sym, ap, subst⁻¹, _∙_}
+use mathlib.Core.Path.{_≡_, refl, sym, ap, subst, subst⁻¹, _∙_}
 use mathlib.Core.List.{List, map}
 use lib.ListN.{length, getD, take, replicate}
 use lib.Ieee.{Float}
@@ -26,6 +26,8 @@ use Rattle.place.specs.declared.Step.{Step}
 use Rattle.place.specs.declared.Outcome.{Outcome}
 use Rattle.place.specs.declared.Outcome.the-variants.{At, Nowhere, Refused}
 use Rattle.place.specs.inner.Placing.{totalsOf, copyOf, verdictOf, Placed, done, placeOf}
+use Rattle.store.specs.inner.Storing.{FirstsLaid}
+use Rattle.filling_laws.proofs.Firsts.{firsts-stay}
 use Rattle.filling_laws.proofs.SameCopy.{stepBy, stepFrom}
 use Rattle.filling_laws.proofs.SameCore.{same-core}
 use Rattle.filling_laws.proofs.Ready.{strips-within}
@@ -58,7 +60,7 @@ module _ {j : Job} {s : State} {w : Rooms} {rows : List ℕ} {areas : List Float
   placedBy g q t counts next =
       placeOf (g .index) (surroundingsIn (length intervals / 2) g (s .tables .«inset_bounds») (s .tables .parts) (w .shapes)
       (take (6 * s .tables .«sheet_strips») (w .sheet)) (take (6 * t .«placed_strips») (w .placed)))
-      (q .area) (q .slot) (q .orientations) t (w .placed) (w .placed-entries) starts counts next
+      (q .area) (q .slot) (q .orientations) t (w .placed) (w .placed-entries) starts (w .placed-firsts) counts next
 
   abbrev pub code : Placed
   code = placedBy (gridOf (s .tables)) (copyOf (s .order) rows areas (s .taken)) (totalsOf s) (s .«look_counts») (s .«next_column»)
@@ -77,33 +79,45 @@ module _ {j : Job} {s : State} {w : Rooms} {rows : List ℕ} {areas : List Float
   abbrev by : ℕ → Float → Placed
   by m a = placedBy (gridOf (s .tables)) (record { slot = 16 * k; orientations = m; area = a }) (totalsOf s) (s .«look_counts») (s .«next_column»)
 
-  core-by : stepFrom s w intervals (by (getD (orientationCounts j) k 0) (getD (map (λ a. a .area) (j .kinds)) k posZero)) ≡ coreStep j s w intervals
+  -- firsts are the bucket numbers of the strips that it leaves
+  abbrev pub Written : List ℕ → Placed → Type 0
+  Written firsts d = FirstsLaid (sheetIndex (s .tables .«sheet_bounds»)) (d .left .placed) (d .left .reply .totals .«placed_strips») (w .placed-firsts) firsts
+
+  pub written-by : (g : Grid) → g ≡ gridOf (s .tables) → (placed : List Float) (n : ℕ) (firsts : List ℕ)
+      → FirstsLaid (g .index) placed n (w .placed-firsts) firsts → FirstsLaid (sheetIndex (s .tables .«sheet_bounds»)) placed n (w .placed-firsts) firsts
+  written-by g e placed n firsts F = subst (λ (g : Grid). FirstsLaid (g .index) placed n (w .placed-firsts) firsts) e F
+
+  abbrev byJob : Placed
+  byJob = by (getD (orientationCounts j) k 0) (getD (map (λ a. a .area) (j .kinds)) k posZero)
+
+  core-by : (firsts : List ℕ) → Written firsts byJob → stepFrom s w intervals firsts byJob ≡ coreStep j s w intervals
   unfolding plannerAt apartRoom insetRoom
-  core-by =
+  core-by firsts F =
       let l = listed G in
       same-core j s w intervals k starts l (strips-within j s w (G .passes) .placed)
       (subst⁻¹ (λ (m : ℕ). 16 * k + getD (orientationCounts j) k 0 ≤ m) many (slots-within j (G .good) k l)) _ (next-first j s w (G .passes) (G .left))
+      firsts (G .placed-kept) F
 
-  core-code : stepFrom s w intervals code ≡ coreStep j s w intervals
-  core-code =
-      sym (ap (λ (m : ℕ). stepFrom s w intervals (by m (getD (map (λ a. a .area) (j .kinds)) k posZero))) (turns-are G)
-      ∙ ap (λ (a : Float). stepFrom s w intervals (by n a)) (G .tabled .area k (known G)))
-      ∙ core-by
+  by-code : byJob ≡ code
+  by-code = ap (λ (m : ℕ). by m (getD (map (λ a. a .area) (j .kinds)) k posZero)) (turns-are G) ∙ ap (λ (a : Float). by n a) (G .tabled .area k (known G))
+
+  core-code : (firsts : List ℕ) → Written firsts code → stepFrom s w intervals firsts code ≡ coreStep j s w intervals
+  core-code firsts F = sym (ap (stepFrom s w intervals firsts) by-code) ∙ core-by firsts (subst⁻¹ (Written firsts) by-code F)
 
   -- ---- the answer
 
-  module _ (r : Step) (placed : List Float) (entries begins tracks : List ℕ) where
+  module _ (r : Step) (placed : List Float) (entries begins tracks firsts : List ℕ) where
     abbrev left : Placed
     left = done r placed entries begins (lookCounts tracks) (nextColumns tracks)
 
     abbrev answered : Stepped → List Float → Next.Step
-    answered a zeroed = stepOf a (rooms (w .shapes) (w .sheet) placed (w .sheet-entries) entries) zeroed
+    answered a zeroed = stepOf a (rooms (w .shapes) (w .sheet) placed (w .sheet-entries) entries (w .sheet-firsts) firsts) zeroed
 
     -- a copy that is taken
     abbrev writtenAs : ℕ → Next.Step
     writtenAs m = answered (record { verdict = Verdicts.Accepted; state = takenOf m s r tracks }) (zeros posZero intervals)
 
-    written : (o : Outcome) → verdictOf o ≡ Verdicts.Accepted → writtenAs (s .taken + 1) ≡ stepBy o s w intervals left
+    written : (o : Outcome) → verdictOf o ≡ Verdicts.Accepted → writtenAs (s .taken + 1) ≡ stepBy o s w intervals firsts left
     unfolding entered
     written (At c) e = ap writtenAs (add-one (s .taken))
     written Nowhere e = ap writtenAs (add-one (s .taken))
@@ -114,28 +128,34 @@ module _ {j : Job} {s : State} {w : Rooms} {rows : List ℕ} {areas : List Float
     unfolding noStep
     no-step why = refl
 
-    refused : left ≡ code → (why : Refusal) → r .outcome ≡ Refused why
-        → answered (record { verdict = Verdicts.Refused why; state = s }) (zeros posZero intervals) ≡ stepFrom s w intervals left
-    refused e why o =
+    refused : left ≡ code → Written firsts left → (why : Refusal) → r .outcome ≡ Refused why
+        → answered (record { verdict = Verdicts.Refused why; state = s }) (zeros posZero intervals) ≡ stepFrom s w intervals firsts left
+    refused e F why o =
         let q = copyOf (s .order) rows areas (s .taken) in
-        let h = place-kept (sheetIndex (s .tables .«sheet_bounds»)) (totalsOf s) (w .placed) (w .placed-entries) starts _ (q .area) (q .slot) (q .orientations)
+        let ix = sheetIndex (s .tables .«sheet_bounds») in
+        let h = place-kept ix (totalsOf s) (w .placed) (w .placed-entries) starts (w .placed-firsts) _ (q .area) (q .slot) (q .orientations)
         (s .«look_counts») (s .«next_column») why (sym (ap (λ (p : Placed). p .left .reply .outcome) e) ∙ o) in
+        let a = ap (λ (p : Placed). p .left .placed) e ∙ h .0 in
+        let t = ap (λ (p : Placed). p .left .reply .totals) e ∙ h .2 in
+        let K = subst (λ (l : List Float). FirstsLaid ix l (s .«placed_strips») (w .placed-firsts) firsts) a
+        (subst (λ (t : Totals). FirstsLaid ix placed (t .«placed_strips») (w .placed-firsts) firsts) t F) in
         let old : Stepped = record { verdict = Verdicts.Refused why; state = s } in
-        ap (λ (l : List Float). stepOf old (rooms (w .shapes) (w .sheet) l (w .sheet-entries) entries) (zeros posZero intervals))
-        (ap (λ (p : Placed). p .left .placed) e ∙ h .0)
-        ∙ (ap (λ (l : List ℕ). stepOf old (rooms (w .shapes) (w .sheet) (w .placed) (w .sheet-entries) l) (zeros posZero intervals))
+        ap (λ (l : List Float). stepOf old (rooms (w .shapes) (w .sheet) l (w .sheet-entries) entries (w .sheet-firsts) firsts) (zeros posZero intervals)) a
+        ∙ (ap (λ (l : List ℕ). stepOf old (rooms (w .shapes) (w .sheet) (w .placed) (w .sheet-entries) l (w .sheet-firsts) firsts) (zeros posZero intervals))
         (ap (λ (p : Placed). p .left .entries) e ∙ h .1)
-        ∙ (no-step why ∙ sym (ap (λ (a : Outcome). stepBy a s w intervals left) o)))
+        ∙ (ap (λ (l : List ℕ). stepOf old (rooms (w .shapes) (w .sheet) (w .placed) (w .sheet-entries) (w .placed-entries) (w .sheet-firsts) l)
+        (zeros posZero intervals)) (firsts-stay ix (w .placed) (s .«placed_strips») (w .placed-firsts) firsts (G .placed-kept) K)
+        ∙ (no-step why ∙ sym (ap (λ (a : Outcome). stepBy a s w intervals firsts left) o))))
 
-    by-verdict : left ≡ code → (v : Verdict) → verdictOf (r .outcome) ≡ v
-        → answered (answerOf s r tracks v) (zeros posZero intervals) ≡ stepFrom s w intervals left
-    by-verdict e Verdicts.Accepted v = written (r .outcome) v
-    by-verdict e (Verdicts.Refused why) v = refused e why (refused-by (r .outcome) why v)
+    by-verdict : left ≡ code → Written firsts left → (v : Verdict) → verdictOf (r .outcome) ≡ v
+        → answered (answerOf s r tracks v) (zeros posZero intervals) ≡ stepFrom s w intervals firsts left
+    by-verdict e F Verdicts.Accepted v = written (r .outcome) v
+    by-verdict e F (Verdicts.Refused why) v = refused e F why (refused-by (r .outcome) why v)
 
-    pub step-answer : left ≡ code → (a : Stepped) → a ≡ answerOf s r tracks (verdictOf (r .outcome)) → (zeroed : List Float) → zeroed ≡ zeros posZero intervals
-        → answered a zeroed ≡ coreStep j s w intervals
-    step-answer e a q zeroed z =
+    pub step-answer : left ≡ code → Written firsts left → (a : Stepped) → a ≡ answerOf s r tracks (verdictOf (r .outcome))
+        → (zeroed : List Float) → zeroed ≡ zeros posZero intervals → answered a zeroed ≡ coreStep j s w intervals
+    step-answer e F a q zeroed z =
         ap (λ (l : List Float). answered a l) z
         ∙ (ap (λ (b : Stepped). answered b (zeros posZero intervals)) q
-        ∙ (by-verdict e (verdictOf (r .outcome)) refl
-        ∙ (ap (stepFrom s w intervals) e ∙ core-code)))
+        ∙ (by-verdict e F (verdictOf (r .outcome)) refl
+        ∙ (ap (stepFrom s w intervals firsts) e ∙ core-code firsts (subst (Written firsts) e F))))

@@ -12,6 +12,7 @@ ghost use Rattle.step.specs.inner.Going.{rooms, Going, takenOf, answerOf
 use filling::Layout;
 use filling::State;
 use filling::Verdict;
+use index::Bucket;
 use index::Entry;
 use place::Step;
 use place::Totals;
@@ -126,14 +127,17 @@ pub fn step_copy(
     entries: &mut [Entry],
     starts: &mut [usize],
     intervals: &mut [f64],
+    sheet_firsts: &[Bucket],
+    firsts: &mut [Bucket],
 ) -> Stepped
-    requires { ⌜ ((j : Job) × Going j state (rooms (now shapes) (now sheet) (now placed) (now «sheet_entries») (now entries))
+    requires { ⌜ ((j : Job) × Going j state (rooms (now shapes) (now sheet) (now placed) (now «sheet_entries») (now entries) (now «sheet_firsts») (now firsts))
         (now rows) (now areas) (now «sheet_starts») (now starts)) ⌝ }
     ensures { λ r. ⌜ ((j : Job) → Going j state (rooms (now (shapes .entry)) (now (sheet .entry)) (now (placed .entry)) (now («sheet_entries» .entry))
-        (now (entries .entry))) (now (rows .entry)) (now (areas .entry)) (now («sheet_starts» .entry)) (now (starts .entry))
-        → stepOf r (rooms (now (shapes .entry)) (now (sheet .entry)) (now (placed .exit)) (now («sheet_entries» .entry)) (now (entries .exit)))
-        (now (intervals .exit)) ≡ coreStep j state (rooms (now (shapes .entry)) (now (sheet .entry)) (now (placed .entry)) (now («sheet_entries» .entry))
-        (now (entries .entry))) (now (intervals .entry))) ⌝ }
+        (now (entries .entry)) (now («sheet_firsts» .entry)) (now (firsts .entry))) (now (rows .entry)) (now (areas .entry)) (now («sheet_starts» .entry))
+        (now (starts .entry)) → stepOf r (rooms (now (shapes .entry)) (now (sheet .entry)) (now (placed .exit)) (now («sheet_entries» .entry))
+        (now (entries .exit)) (now («sheet_firsts» .entry)) (now (firsts .exit))) (now (intervals .exit)) ≡ coreStep j state (rooms (now (shapes .entry))
+        (now (sheet .entry)) (now (placed .entry)) (now («sheet_entries» .entry)) (now (entries .entry)) (now («sheet_firsts» .entry)) (now (firsts .entry)))
+        (now (intervals .entry))) ⌝ }
 {
     let order = state.order;
     let copy = place::copy_at(&order, rows, areas, state.taken);
@@ -161,6 +165,8 @@ pub fn step_copy(
         &mut gains,
         intervals,
         &mut tracks,
+        sheet_firsts,
+        firsts,
     );
     rooms::zero(intervals);
     answer(state, copy.orientations, step, &tracks)

@@ -7,7 +7,7 @@ ghost use lib.ListN.{length, getD, take};
 ghost use lib.Ieee.{Float};
 ghost use Rattle.trapezoid.specs.Strip.{capacity};
 ghost use Rattle.index.specs.Buckets.{buckets};
-ghost use Rattle.index.specs.inner.Listing.{Laid};
+ghost use Rattle.index.specs.inner.Listing.{Laid, FirstBuckets};
 ghost use Rattle.job.specs.Jobs.{Job};
 ghost use Rattle.filling.specs.Rooms.{Rooms};
 ghost use Rattle.filling.specs.Consistent.{sheetIndex, consistent};
@@ -19,6 +19,7 @@ use crate::Stepped;
 use filling::Refusal;
 use filling::State;
 use filling::Verdict;
+use index::Bucket;
 use index::Entry;
 
 // The state as it was, and zeros in the interval room.
@@ -45,15 +46,22 @@ fn agree(
     entries: &[Entry],
     sheet_starts: &mut [usize],
     starts: &mut [usize],
+    sheet_firsts: &[Bucket],
+    firsts: &[Bucket],
 ) -> bool
     requires { ⌜ (kinds ≤ 64) × (256 ≤ length (now rows)) × ((k : ℕ) → k < kinds → getD (now rows) (4 * k + 3) 0 ≤ 16) × (copies ≤ 4096)
         × (length (now «sheet_starts») ≡ buckets + 1) × (length (now starts) ≡ buckets + 1) ⌝ }
     ensures { λ r. ⌜ ((j : Job) (areas : List Float) → Tabled j (now (rows .entry)) areas → length (j .kinds) ≡ kinds → j .copies ≡ copies
-        → r ≡ consistent j state (rooms (now (shapes .entry)) (now (sheet .entry)) (now (placed .entry)) (now («sheet_entries» .entry)) (now (entries .entry))))
+        → r ≡ consistent j state (rooms (now (shapes .entry)) (now (sheet .entry)) (now (placed .entry)) (now («sheet_entries» .entry)) (now (entries .entry))
+        (now («sheet_firsts» .entry)) (now (firsts .entry))))
         × (r ≡ true → Laid (sheetIndex (state .tables .«sheet_bounds»)) (take (6 * state .tables .«sheet_strips») (now (sheet .entry)))
         (capacity (take (6 * state .tables .«sheet_strips») (now (sheet .entry)))) (now («sheet_entries» .entry)) (now («sheet_starts» .exit))
         × Laid (sheetIndex (state .tables .«sheet_bounds»)) (take (6 * state .«placed_strips») (now (placed .entry)))
-        (capacity (take (6 * state .«placed_strips») (now (placed .entry)))) (now (entries .entry)) (now (starts .exit))) ⌝ }
+        (capacity (take (6 * state .«placed_strips») (now (placed .entry)))) (now (entries .entry)) (now (starts .exit))
+        × FirstBuckets (sheetIndex (state .tables .«sheet_bounds»)) (take (6 * state .tables .«sheet_strips») (now (sheet .entry)))
+        (capacity (take (6 * state .tables .«sheet_strips») (now (sheet .entry)))) (now («sheet_firsts» .entry))
+        × FirstBuckets (sheetIndex (state .tables .«sheet_bounds»)) (take (6 * state .«placed_strips») (now (placed .entry)))
+        (capacity (take (6 * state .«placed_strips») (now (placed .entry)))) (now (firsts .entry))) ⌝ }
 {
     let tables = state.tables;
     let inset_bounds = tables.inset_bounds;
@@ -87,6 +95,8 @@ fn agree(
         entries,
         sheet_starts,
         starts,
+        sheet_firsts,
+        firsts,
     )
 }
 
@@ -103,12 +113,15 @@ pub fn step_job(
     placed: &mut [f64],
     entries: &mut [Entry],
     intervals: &mut [f64],
+    sheet_firsts: &[Bucket],
+    firsts: &mut [Bucket],
 ) -> Stepped
     requires { ⌜ ((j : Job) × Opened j (now rows) (now areas) kinds copies) ⌝ }
     ensures { λ r. ⌜ ((j : Job) → Opened j (now (rows .entry)) (now (areas .entry)) kinds copies
-        → stepOf r (rooms (now (shapes .entry)) (now (sheet .entry)) (now (placed .exit)) (now («sheet_entries» .entry)) (now (entries .exit)))
-        (now (intervals .exit)) ≡ stepJob j state (rooms (now (shapes .entry)) (now (sheet .entry)) (now (placed .entry)) (now («sheet_entries» .entry))
-        (now (entries .entry))) (now (intervals .entry))) ⌝ }
+        → stepOf r (rooms (now (shapes .entry)) (now (sheet .entry)) (now (placed .exit)) (now («sheet_entries» .entry)) (now (entries .exit))
+        (now («sheet_firsts» .entry)) (now (firsts .exit))) (now (intervals .exit)) ≡ stepJob j state (rooms (now (shapes .entry)) (now (sheet .entry))
+        (now (placed .entry)) (now («sheet_entries» .entry)) (now (entries .entry)) (now («sheet_firsts» .entry)) (now (firsts .entry)))
+        (now (intervals .entry))) ⌝ }
 {
     let mut sheet_starts = [0usize; 513];
     let mut starts = [0usize; 513];
@@ -124,6 +137,8 @@ pub fn step_job(
         entries,
         &mut sheet_starts,
         &mut starts,
+        sheet_firsts,
+        firsts,
     ) {
         if state.taken < copies {
             return crate::step_copy(
@@ -138,6 +153,8 @@ pub fn step_job(
                 entries,
                 &mut starts,
                 intervals,
+                sheet_firsts,
+                firsts,
             );
         }
         return refuse(Refusal::OrderUsedUp, state, intervals);

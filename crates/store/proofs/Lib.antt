@@ -1,3 +1,4 @@
 pub mod Strips
 pub mod Widths
+pub mod Firsts
 pub mod Whole

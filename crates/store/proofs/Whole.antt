@@ -16,19 +16,20 @@ use Rattle.trapezoid.specs.Strip.{stripAt, capacity, movedBy}
 use Rattle.trapezoid.specs.inner.Writing.{setStrip}
 use Rattle.index.specs.declared.Index.{Index}
 use Rattle.index.specs.Buckets.{buckets, bucketIn, entriesOf, stripNumbers, standingCapacity}
-use Rattle.index.proofs.Standing.{standing-within, standing-few}
+use Rattle.index.proofs.Standing.{standing-within, standing-few, standing-long}
 use Rattle.index.proofs.Steps.{bucket-top}
-use Rattle.index.specs.inner.Listing.{Laid}
+use Rattle.index.specs.inner.Listing.{Laid, FirstBuckets}
 use Rattle.index.proofs.NewIndex.{laid-after}
-use Rattle.enter.specs.inner.EntryRoom.{entriesIn, startsOf, Rooms, Entering, enterOf}
+use Rattle.enter.specs.inner.EntryRoom.{entriesIn, startsOf, Rooms, Entering, enterOf, FirstsWritten}
 use Rattle.enter.specs.inner.Gaps.{rooms, entering}
 use Rattle.enter.proofs.Starts.{enter-fits}
 use Rattle.filling.specs.Rooms.{laid}
 use Rattle.store.specs.declared.Stored.{Stored}
 use Rattle.store.specs.declared.Stored.the-variants.{NoStrips, NoEntries, Done}
-use Rattle.store.specs.inner.Storing.{movedTo, widthAt, widthsTo, Left, left, together, storeOf}
+use Rattle.store.specs.inner.Storing.{movedTo, widthAt, widthsTo, Left, left, together, storeOf, FirstsLaid}
 use Rattle.store.proofs.Strips.{after-length, after-before, after-strip, strips-count, after-laid, strips-same}
 use Rattle.store.proofs.Widths.{entries-same, starts-same, entries-more}
+use Rattle.store.proofs.Firsts.{firsts-stored}
 
 pub widths-start : (ix : Index) (apart : List Float) (x : Float) → 0 ≡ widthsTo ix apart x 0
 unfolding widthsTo
@@ -38,7 +39,7 @@ pub widths-next : (ix : Index) (apart : List Float) (x : Float) (j a w : ℕ) �
 unfolding widthsTo
 widths-next ix apart x j a w e f = rw (e, f)
 
-module _ (ix : Index) (apart : List Float) (x y : Float) (n : ℕ) (p : List Float) (e s : List ℕ) (L : Laid ix p n e s) where
+module _ (ix : Index) (apart : List Float) (x y : Float) (n : ℕ) (p : List Float) (e s fs : List ℕ) (L : Laid ix p n e s) where
   abbrev k : ℕ
   k = capacity apart
 
@@ -48,19 +49,25 @@ module _ (ix : Index) (apart : List Float) (x y : Float) (n : ℕ) (p : List Flo
   count : capacity strips ≡ n + k
   count = strips-count apart x y n p (L .room)
 
-  test-strips : (b : Bool) → ltb (standingCapacity p) (n + k) ≡ b → ltb (standingCapacity p) (capacity strips) ≡ b
-  test-strips b q = ap (ltb (standingCapacity p)) count ∙ q
+  test-strips : (b : Bool) → ltb (standingCapacity p fs) (n + k) ≡ b → ltb (standingCapacity p fs) (capacity strips) ≡ b
+  test-strips b q = ap (ltb (standingCapacity p fs)) count ∙ q
 
-  pub store-short : standingCapacity p < n + k → left NoStrips p e s ≡ storeOf ix apart x y n p e s
+  pub store-short : standingCapacity p fs < n + k → left NoStrips p e s ≡ storeOf ix apart x y n p e s fs
   unfolding storeOf
-  store-short h = rw (test-strips true (lt-ltb (standingCapacity p) (n + k) h), storeOf)
+  store-short h = rw (test-strips true (lt-ltb (standingCapacity p fs) (n + k) h), storeOf)
 
-  module _ (fits : n + k ≤ standingCapacity p) where
+  module _ (fits : n + k ≤ standingCapacity p fs) where
     pub six-in : 6 * (n + k) ≤ length p
-    six-in = standing-within (n + k) p fits
+    six-in = standing-within (n + k) p fs fits
+
+    long-in : n + k ≤ length fs
+    long-in = standing-long (n + k) p fs fits
+
+    pub firsts-in : (k' : ℕ) → k' ≡ k → n + k' ≤ length fs
+    firsts-in k' d = let f = long-in in omega arith
 
     pub few-in : (k' : ℕ) → k' ≡ k → n + k' ≤ stripNumbers
-    few-in k' d = let f = standing-few (n + k) p fits in omega arith
+    few-in k' d = let f = standing-few (n + k) p fs fits in omega arith
 
     abbrev p' : List Float
     p' = movedTo apart x y n p k
@@ -77,11 +84,11 @@ module _ (ix : Index) (apart : List Float) (x y : Float) (n : ℕ) (p : List Flo
     total : length (entriesOf ix p' (n + k)) ≡ getD s buckets 0 + widthsTo ix apart x k
     total = entries-more ix apart x y p' n k (λ i l. after-strip apart x y n p k i l six-in) e s laid-still
 
-    pub store-full : length e - getD s buckets 0 < widthsTo ix apart x k → left NoEntries p e s ≡ storeOf ix apart x y n p e s
+    pub store-full : length e - getD s buckets 0 < widthsTo ix apart x k → left NoEntries p e s ≡ storeOf ix apart x y n p e s fs
     unfolding storeOf
     store-full h =
         rw (
-          test-strips false (le-ltb (standingCapacity p) (n + k) fits),
+          test-strips false (le-ltb (standingCapacity p fs) (n + k) fits),
           lt-ltb (length e) (length (entriesOf ix strips (capacity strips))) (let t = total in let q = ap length entries-are in omega arith),
           storeOf,
         )
@@ -93,11 +100,11 @@ module _ (ix : Index) (apart : List Float) (x y : Float) (n : ℕ) (p : List Flo
       pub six-still : 6 * (n + k) ≤ length p'
       six-still = let l = after-length apart x y n p k in let q = six-in in omega arith
 
-      store-fits : left Done (laid strips p) (laid (entriesOf ix strips (capacity strips)) e) (startsOf ix strips (capacity strips)) ≡ storeOf ix apart x y n p e s
+      store-fits : left Done (laid strips p) (laid (entriesOf ix strips (capacity strips)) e) (startsOf ix strips (capacity strips)) ≡ storeOf ix apart x y n p e s fs
       unfolding storeOf
       store-fits =
           rw (
-            test-strips false (le-ltb (standingCapacity p) (n + k) fits),
+            test-strips false (le-ltb (standingCapacity p fs) (n + k) fits),
             le-ltb (length e) (length (entriesOf ix strips (capacity strips))) (let a = all-in in let q = ap length entries-are in omega arith),
             storeOf,
           )
@@ -106,7 +113,7 @@ module _ (ix : Index) (apart : List Float) (x y : Float) (n : ℕ) (p : List Flo
       unfolding entriesIn laid
       entries-laid = ap (λ (l : List ℕ). l ++ drop (length l) e) (sym entries-are)
 
-      pub store-done : (r : Bool) (q : List Float) (e' s' : List ℕ) → q ≡ p' → entering r e' s' ≡ enterOf ix q (n + k) (rooms e s) → (left Done q e' s' ≡ storeOf ix apart x y n p e s) × (r ≡ true)
+      pub store-done : (r : Bool) (q : List Float) (e' s' : List ℕ) → q ≡ p' → entering r e' s' ≡ enterOf ix q (n + k) (rooms e s) → (left Done q e' s' ≡ storeOf ix apart x y n p e s fs) × (r ≡ true)
       store-done r q e' s' E h =
           let t : entering r e' s' ≡ record { fits = true; after = record { entries = entriesIn ix p' (n + k) e; starts = startsOf ix p' (n + k) } } = h ∙ (ap (λ (z : List Float). enterOf ix z (n + k) (rooms e s)) E ∙ sym (enter-fits ix p' (n + k) (rooms e s) all-in)) in (
             ap (λ (z : Entering). left Done q (z .after .entries) (z .after .starts)) t
@@ -117,11 +124,15 @@ module _ (ix : Index) (apart : List Float) (x y : Float) (n : ℕ) (p : List Flo
             ap (λ (z : Entering). z .fits) t,
           )
 
-      pub done-is : (k' : ℕ) (r : Bool) (q : List Float) (e' s' : List ℕ) → k' ≡ k → q ≡ p' → entering r e' s' ≡ enterOf ix q (n + k') (rooms e s) → (r ≡ true → Laid ix q (n + k') e' s')
-          → (left Done q e' s' ≡ storeOf ix apart x y n p e s) × Laid ix q (n + k) e' s'
-      done-is k' r q e' s' d E h l =
-          let t = store-done r q e' s' E (h ∙ ap (λ (z : ℕ). enterOf ix q (n + z) (rooms e s)) d) in
-          (t .0, subst (λ (z : ℕ). Laid ix q (n + z) e' s') d (l (t .1)))
+      pub done-is : (k' : ℕ) (r : Bool) (q : List Float) (e' s' fs' : List ℕ) → k' ≡ k → q ≡ p' → entering r e' s' ≡ enterOf ix q (n + k') (rooms e s) → (r ≡ true → Laid ix q (n + k') e' s')
+          → FirstBuckets ix p n fs → length fs' ≡ length fs → (r ≡ true → FirstsWritten ix q n (n + k') fs fs')
+          → (left Done q e' s' ≡ storeOf ix apart x y n p e s fs) × Laid ix q (n + k) e' s' × FirstsLaid ix q (n + k) fs fs'
+      done-is k' r q e' s' fs' d E h l B m w =
+          let t = store-done r q e' s' E (h ∙ ap (λ (z : ℕ). enterOf ix q (n + z) (rooms e s)) d) in (
+            t .0,
+            subst (λ (z : ℕ). Laid ix q (n + z) e' s') d (l (t .1)),
+            firsts-stored ix apart x y n k p fs fs' B q E (subst (λ (z : ℕ). FirstsWritten ix q n (n + z) fs fs') d (w (t .1))) m long-in,
+          )
 
     pub six-after : (k' : ℕ) (q : List Float) → k' ≡ k → q ≡ p' → 6 * (n + k') ≤ length q
     six-after k' q d E = let l = ap length E ∙ after-length apart x y n p k in let g = six-in in omega arith
@@ -129,16 +140,16 @@ module _ (ix : Index) (apart : List Float) (x y : Float) (n : ℕ) (p : List Flo
     pub laid-on : (q : List Float) → q ≡ p' → Laid ix q n e s
     laid-on q E = subst⁻¹ (λ (z : List Float). Laid ix z n e s) E laid-still
 
-    pub full-is : (r : Bool) → r ≡ leb (widthsTo ix apart x k) (length e - getD s buckets 0) → r ≡ false → left NoEntries p e s ≡ storeOf ix apart x y n p e s
+    pub full-is : (r : Bool) → r ≡ leb (widthsTo ix apart x k) (length e - getD s buckets 0) → r ≡ false → left NoEntries p e s ≡ storeOf ix apart x y n p e s fs
     full-is r d h = store-full (leb-false (widthsTo ix apart x k) (length e - getD s buckets 0) (sym d ∙ h))
 
     pub room-is : (r : Bool) → r ≡ leb (widthsTo ix apart x k) (length e - getD s buckets 0) → r ≡ true → widthsTo ix apart x k ≤ length e - getD s buckets 0
     room-is r d h = leb-true (widthsTo ix apart x k) (length e - getD s buckets 0) (sym d ∙ h)
 
-  pub short-is : (cap k' : ℕ) → cap ≡ standingCapacity p → k' ≡ k → cap < n + k' → left NoStrips p e s ≡ storeOf ix apart x y n p e s
+  pub short-is : (cap k' : ℕ) → cap ≡ standingCapacity p fs → k' ≡ k → cap < n + k' → left NoStrips p e s ≡ storeOf ix apart x y n p e s fs
   short-is cap k' a b h = store-short (omega arith)
 
-  pub fits-is : (cap k' : ℕ) → cap ≡ standingCapacity p → k' ≡ k → n + k' ≤ cap → n + k ≤ standingCapacity p
+  pub fits-is : (cap k' : ℕ) → cap ≡ standingCapacity p fs → k' ≡ k → n + k' ≤ cap → n + k ≤ standingCapacity p fs
   fits-is cap k' a b h = omega arith
 
 -- two slices hold so few strips

@@ -1,13 +1,14 @@
-// Storing a placed copy (document 01, "Filling"): its apart strips are moved and entered; 20 and 21
-// are tested for the whole copy before the first write.
+// Storing a placed copy (document 01, "Filling"): its apart strips are moved and entered, their first
+// buckets written; 20 and 21 are tested for the whole copy before the first write.
 ghost use mathlib.Core.Path.{_≡_};
 ghost use Prim.Native.Nat.{_+_, _*_, _≤_, _<_};
 ghost use lib.ListN.{length};
 ghost use lib.Dec.{leb};
 ghost use Rattle.trapezoid.specs.Strip.{capacity};
 ghost use Rattle.index.specs.Buckets.{buckets};
-ghost use Rattle.index.specs.inner.Listing.{Laid};
-ghost use Rattle.store.specs.inner.Storing.{movedTo, widthAt, widthsTo, left, storeOf, Entered};
+ghost use Rattle.index.specs.inner.Listing.{Laid, FirstBuckets};
+ghost use Rattle.store.specs.inner.Storing.{movedTo, widthAt, widthsTo, left, storeOf, Entered, FirstsEntered};
+use index::Bucket;
 use index::Entry;
 use index::Index;
 use trapezoid::Trapezoid;
@@ -64,8 +65,9 @@ fn entries_fit(ix: Index, apart: &[f64], x: f64, left: usize) -> bool
     true
 }
 
-// A copy's strips, moved, go after the n placed strips, and into the entries. `gains` is a table of
-// work. Only crates of ours call it: the entries must be those of the placed strips.
+// A copy's strips, moved, go after the n placed strips, into the entries and into the first buckets.
+// `gains` is a table of work. Only crates of ours call it: entries and first buckets must be those of
+// the placed strips.
 pub fn store_copy(
     ix: Index,
     apart: &[f64],
@@ -76,20 +78,22 @@ pub fn store_copy(
     entries: &mut [Entry],
     starts: &mut [usize],
     gains: &mut [usize],
+    firsts: &mut [Bucket],
 ) -> Stored
-    requires { ⌜ Laid ix (now placed) n (now entries) (now starts) × (length (now gains) ≡ buckets) ⌝ }
+    requires { ⌜ Laid ix (now placed) n (now entries) (now starts) × (length (now gains) ≡ buckets) × FirstBuckets ix (now placed) n (now firsts) ⌝ }
     ensures { λ r. ⌜ (left r (now (placed .exit)) (now (entries .exit)) (now (starts .exit)) ≡ storeOf ix (now (apart .entry)) x y n (now (placed .entry))
-        (now (entries .entry)) (now (starts .entry))) × Entered ix n (capacity (now (apart .entry))) (now (placed .exit)) (now (entries .exit))
-        (now (starts .exit)) r ⌝ }
+        (now (entries .entry)) (now (starts .entry)) (now (firsts .entry))) × Entered ix n (capacity (now (apart .entry))) (now (placed .exit))
+        (now (entries .exit)) (now (starts .exit)) r
+        × FirstsEntered ix n (capacity (now (apart .entry))) (now (placed .exit)) (now (firsts .entry)) (now (firsts .exit)) r ⌝ }
 {
     let k = trapezoid::capacity(apart);
-    if index::standing_capacity(placed) < n + k {
+    if index::standing_capacity(placed, firsts) < n + k {
         return Stored::NoStrips;
     }
     let rest = entries.len() - starts[Index::BUCKETS];
     if entries_fit(ix, apart, x, rest) {
         store_moved(apart, x, y, placed, n);
-        enter::enter_copy(ix, placed, n, n + k, entries, starts, gains);
+        enter::enter_copy(ix, placed, n, n + k, entries, starts, gains, firsts);
         return Stored::Done;
     }
     Stored::NoEntries

@@ -24,9 +24,10 @@ use Rattle.better.specs.inner.Turns.{judgedAs, turnOf}
 use Rattle.swaps.specs.inner.Turns.{roundsFor, turns}
 
 -- rooms as long as those that are lent
-abbrev pub Long : Lent → List Float → List ℕ → List Float → Type 0
-Long l placed entries room =
+abbrev pub Long : Lent → List Float → List ℕ → List Float → List ℕ → Type 0
+Long l placed entries room firsts =
     (length (l .rooms .placed) ≡ length placed) × (length (l .rooms .placed-entries) ≡ length entries) × (length (l .intervals) ≡ length room)
+    × (length (l .rooms .placed-firsts) ≡ length firsts)
 
 -- what is kept, as it lies in the tables
 pub record Held : Type 0 where
@@ -42,13 +43,14 @@ abbrev pub keptAt : Planner → Held → Kept
 keptAt p a = keptIn (a .best) p (a .order) (a .tracks) (a .spots)
 
 -- what holds before turn i of n
-pub record Going (g : Given) (n : ℕ) (a₀ : Held) (placed₀ : List Float) (entries₀ : List ℕ) (room₀ : List Float) (i : ℕ) (v : Verdict) (a : Held) : Type 0 where
+pub record Going (g : Given) (n : ℕ) (a₀ : Held) (placed₀ : List Float) (entries₀ : List ℕ) (room₀ : List Float) (firsts₀ : List ℕ)
+    (i : ℕ) (v : Verdict) (a : Held) : Type 0 where
   pub upto : i ≤ n
   pub on : i < n → v ≡ Accepted
   pub few : a .best .improvements + (n - i) ≤ n
   pub in-half : a .best .kept ≤ 1
   pub arranged : (j : Job) → rearranged j (a₀ .order) ≡ true → rearranged j (a .order) ≡ true
-  pub same : (j : Job) → Prepared j g → rearranged j (a₀ .order) ≡ true → (l : Lent) → Long l placed₀ entries₀ room₀
+  pub same : (j : Job) → Prepared j g → rearranged j (a₀ .order) ≡ true → (l : Lent) → Long l placed₀ entries₀ room₀ firsts₀
       → turns j l (eqb i 0) (n - i) (swapsAt v (plannerOf j) a) ≡ turns j l true n (kept (keptAt (plannerOf j) a₀))
 
 -- ---- turns
@@ -111,8 +113,8 @@ later-copies (suc c) n r i e h f = omega arith
 pub few-enough : (b t i n : ℕ) → b + (t - i) ≤ t → i < t → t ≤ n + 1 → n < 4096 → b + 1 < 2 ^ 64
 few-enough b t i n f h l u = omega arith
 
-module _ (g : Given) (n : ℕ) (a₀ : Held) (placed₀ : List Float) (entries₀ : List ℕ) (room₀ : List Float) where
-  pub going-start : a₀ .best .improvements ≡ 0 → a₀ .best .kept ≤ 1 → Going g n a₀ placed₀ entries₀ room₀ 0 Accepted a₀
+module _ (g : Given) (n : ℕ) (a₀ : Held) (placed₀ : List Float) (entries₀ : List ℕ) (room₀ : List Float) (firsts₀ : List ℕ) where
+  pub going-start : a₀ .best .improvements ≡ 0 → a₀ .best .kept ≤ 1 → Going g n a₀ placed₀ entries₀ room₀ firsts₀ 0 Accepted a₀
   going-start e k =
       record {
         upto = omega arith;
@@ -123,24 +125,24 @@ module _ (g : Given) (n : ℕ) (a₀ : Held) (placed₀ : List Float) (entries�
         same = λ j p r l w. let z : n - 0 ≡ n = omega arith in ap (λ (m : ℕ). turns j l true m (kept (keptAt (plannerOf j) a₀))) z;
       }
 
-  module _ (i : ℕ) (v : Verdict) (a : Held) (h : Going g n a₀ placed₀ entries₀ room₀ i v a) where
+  module _ (i : ℕ) (v : Verdict) (a : Held) (h : Going g n a₀ placed₀ entries₀ room₀ firsts₀ i v a) where
     -- a turn's own promise
     abbrev pub Turned : Verdict → Held → Type 0
-    Turned u a' = (j : Job) → Prepared j g → rearranged j (a .order) ≡ true → (l : Lent) → Long l placed₀ entries₀ room₀
+    Turned u a' = (j : Job) → Prepared j g → rearranged j (a .order) ≡ true → (l : Lent) → Long l placed₀ entries₀ room₀ firsts₀
         → swapsAt u (plannerOf j) a' ≡ turnOf j l (eqb i 0) (keptAt (plannerOf j) a)
 
     -- after a turn
     pub going-on : i < n → (v' : Verdict) (a' : Held) → Turned v' a' → ((j : Job) → rearranged j (a .order) ≡ true → rearranged j (a' .order) ≡ true)
-        → a' .best .improvements ≤ a .best .improvements + 1 → a' .best .kept ≤ 1 → Going g n a₀ placed₀ entries₀ room₀ (nextAfter v' i n) v' a'
+        → a' .best .improvements ≤ a .best .improvements + 1 → a' .best .kept ≤ 1 → Going g n a₀ placed₀ entries₀ room₀ firsts₀ (nextAfter v' i n) v' a'
     going-on b v' a' e r few' half' = go v' e
       where
-        before : (j : Job) → Prepared j g → rearranged j (a₀ .order) ≡ true → (l : Lent) → Long l placed₀ entries₀ room₀
+        before : (j : Job) → Prepared j g → rearranged j (a₀ .order) ≡ true → (l : Lent) → Long l placed₀ entries₀ room₀ firsts₀
             → turns j l false (n - i - 1) (turnOf j l (eqb i 0) (keptAt (plannerOf j) a)) ≡ turns j l true n (kept (keptAt (plannerOf j) a₀))
         before j p q l w =
             sym (turns-next j l (eqb i 0) (n - i) (keptAt (plannerOf j) a) (omega arith))
             ∙ (ap (λ (u : Verdict). turns j l (eqb i 0) (n - i) (swapsAt u (plannerOf j) a)) (sym (h .on b)) ∙ h .same j p q l w)
 
-        go : (u : Verdict) → Turned u a' → Going g n a₀ placed₀ entries₀ room₀ (nextAfter u i n) u a'
+        go : (u : Verdict) → Turned u a' → Going g n a₀ placed₀ entries₀ room₀ firsts₀ (nextAfter u i n) u a'
         go Accepted f =
             record {
               upto = omega arith;
@@ -167,6 +169,6 @@ module _ (g : Given) (n : ℕ) (a₀ : Held) (placed₀ : List Float) (entries�
                   ∙ (sym (turns-ended j l false (n - i - 1) k) ∙ (ap (turns j l false (n - i - 1)) (f j p (h .arranged j q) l w) ∙ before j p q l w));
             }
 
-    pub going-end : n ≤ i → (j : Job) → Prepared j g → rearranged j (a₀ .order) ≡ true → (l : Lent) → Long l placed₀ entries₀ room₀
+    pub going-end : n ≤ i → (j : Job) → Prepared j g → rearranged j (a₀ .order) ≡ true → (l : Lent) → Long l placed₀ entries₀ room₀ firsts₀
         → swapsAt v (plannerOf j) a ≡ turns j l true n (kept (keptAt (plannerOf j) a₀))
     going-end b j p q l w = sym (turns-none j l (eqb i 0) (n - i) (swapsAt v (plannerOf j) a) (omega arith)) ∙ h .same j p q l w

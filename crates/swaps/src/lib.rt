@@ -14,7 +14,7 @@ ghost use Rattle.filling.specs.Order.{rearranged};
 ghost use Rattle.filling.specs.Fill.{fillOrder};
 ghost use Rattle.nesting.specs.Rounds.{rounds, firstKept};
 ghost use Rattle.rooms.specs.tracks.inner.Tracks.{trackNumbers, spotNumbers};
-ghost use Rattle.filling_laws.specs.fill_laws.inner.Prepared.{givenIn, Prepared};
+ghost use Rattle.filling_laws.specs.fill_laws.inner.Prepared.{givenIn, Prepared, SheetFirsts};
 ghost use Rattle.better.specs.inner.Keeping.{keptIn, swapsIn};
 ghost use Rattle.better.specs.inner.Turns.{turnOf};
 ghost use Rattle.swaps.specs.inner.Turns.{roundsFor};
@@ -22,6 +22,7 @@ use better::Best;
 use better::Round;
 use choose::Grid;
 use filling::Verdict;
+use index::Bucket;
 use index::Entry;
 use place::Totals;
 
@@ -45,16 +46,20 @@ fn round(
     room: &mut [f64],
     tracks: &mut [usize],
     spots: &mut [f64],
+    sheet_firsts: &[Bucket],
+    firsts: &mut [Bucket],
 ) -> Round
     requires { ⌜ ((j : Job) × Prepared j (givenIn g (now rows) (now areas) (now «inset_bounds») (now parts) (now shapes) (now sheet)
         (now «sheet_entries») (now «sheet_starts»)) × (rearranged j (now order) ≡ true))
         × (6 * g .«apart_strips» ≤ length (now shapes)) × (2 * trackNumbers ≤ length (now tracks)) × (2 * spotNumbers ≤ length (now spots))
-        × (b .improvements + 1 < 2 ^ 64) × (b .kept ≤ 1) × (first ≡ false → 0 < length (now order)) ⌝ }
+        × (b .improvements + 1 < 2 ^ 64) × (b .kept ≤ 1) × (first ≡ false → 0 < length (now order))
+        × SheetFirsts (givenIn g (now rows) (now areas) (now «inset_bounds») (now parts) (now shapes) (now sheet)
+        (now «sheet_entries») (now «sheet_starts»)) (now «sheet_firsts») ⌝ }
     ensures { λ r. ⌜ ((j : Job) → Prepared j (givenIn g (now (rows .entry)) (now (areas .entry)) (now («inset_bounds» .entry)) (now (parts .entry))
         (now (shapes .entry)) (now (sheet .entry)) (now («sheet_entries» .entry)) (now («sheet_starts» .entry)))
         → rearranged j (now (order .entry)) ≡ true
         → (l : Lent) → length (l .rooms .placed) ≡ length (now (placed .entry)) → length (l .rooms .placed-entries) ≡ length (now (entries .entry))
-        → length (l .intervals) ≡ length (now (room .entry))
+        → length (l .intervals) ≡ length (now (room .entry)) → length (l .rooms .placed-firsts) ≡ length (now (firsts .entry))
         → swapsIn (r .verdict) (r .best) (plannerOf j) (now (order .exit)) (now (tracks .exit)) (now (spots .exit))
         ≡ turnOf j l first (keptIn b (plannerOf j) (now (order .entry)) (now (tracks .entry)) (now (spots .entry))))
         × ((j : Job) → rearranged j (now (order .entry)) ≡ true → rearranged j (now (order .exit)) ≡ true)
@@ -90,10 +95,11 @@ fn round(
             room,
             &mut tracks[track..track_end],
             &mut spots[spot..spot_end],
+            sheet_firsts,
+            firsts,
         );
         let verdict = f.verdict;
-        let filled = f.totals;
-        return better::judge(first, verdict, filled, drawn, d.i, d.k, order);
+        return better::judge(first, verdict, f.totals, drawn, d.i, d.k, order);
     }
     Round {
         verdict: Verdict::Accepted,
@@ -148,16 +154,21 @@ pub fn rounds(
     room: &mut [f64],
     tracks: &mut [usize],
     spots: &mut [f64],
+    sheet_firsts: &[Bucket],
+    firsts: &mut [Bucket],
 ) -> Round
     requires { ⌜ ((j : Job) × Prepared j (givenIn g (now rows) (now areas) (now «inset_bounds») (now parts) (now shapes) (now sheet)
         (now «sheet_entries») (now «sheet_starts»)) × (rearranged j (now order) ≡ true))
         × (6 * g .«apart_strips» ≤ length (now shapes)) × (2 * trackNumbers ≤ length (now tracks)) × (2 * spotNumbers ≤ length (now spots))
-        × (n < 4096) ⌝ }
+        × (n < 4096)
+        × SheetFirsts (givenIn g (now rows) (now areas) (now «inset_bounds») (now parts) (now shapes) (now sheet)
+        (now «sheet_entries») (now «sheet_starts»)) (now «sheet_firsts») ⌝ }
     ensures { λ r. ⌜ ((j : Job) → Prepared j (givenIn g (now (rows .entry)) (now (areas .entry)) (now («inset_bounds» .entry)) (now (parts .entry))
         (now (shapes .entry)) (now (sheet .entry)) (now («sheet_entries» .entry)) (now («sheet_starts» .entry)))
         → rearranged j (now (order .entry)) ≡ true
         → (l : Lent) → length (l .rooms .placed) ≡ length (now (placed .entry)) → length (l .rooms .placed-entries) ≡ length (now (entries .entry))
-        → length (l .intervals) ≡ length (now (room .entry)) → j .header .seed ≡ seed
+        → length (l .intervals) ≡ length (now (room .entry)) → length (l .rooms .placed-firsts) ≡ length (now (firsts .entry))
+        → j .header .seed ≡ seed
         → swapsIn (r .verdict) (r .best) (plannerOf j) (now (order .exit)) (now (tracks .exit)) (now (spots .exit))
         ≡ rounds j l (roundsFor (length (now (order .entry))) n) (firstKept j (now (order .entry)) (fillOrder j l (now (order .entry)))))
         × ((j : Job) → rearranged j (now (order .entry)) ≡ true → rearranged j (now (order .exit)) ≡ true)
@@ -186,6 +197,8 @@ pub fn rounds(
             room,
             tracks,
             spots,
+            sheet_firsts,
+            firsts,
         );
         verdict = r.verdict;
         best = r.best;

@@ -18,7 +18,7 @@ ghost use Rattle.nesting.specs.Rounds.{rounds, firstKept};
 ghost use Rattle.nesting.specs.Nest.{nested};
 ghost use Rattle.accounts.specs.tables.inner.Tabled.{Tabled};
 ghost use Rattle.rooms.specs.tracks.inner.Tracks.{trackNumbers, spotNumbers};
-ghost use Rattle.filling_laws.specs.fill_laws.inner.Prepared.{Prepared};
+ghost use Rattle.filling_laws.specs.fill_laws.inner.Prepared.{Prepared, SheetFirsts};
 ghost use Rattle.report.specs.offcut.inner.Reaching.{Parted};
 ghost use Rattle.report.specs.inner.Replies.{reply, replyOf};
 ghost use Rattle.better.specs.inner.Keeping.{swapsIn};
@@ -26,6 +26,7 @@ ghost use Rattle.swaps.specs.inner.Turns.{roundsFor};
 ghost use Rattle.swaps.specs.search_plan.inner.Tabled.{givenBy};
 use better::Round;
 use filling::Tables;
+use index::Bucket;
 use index::Entry;
 use report::NestResult;
 
@@ -79,16 +80,20 @@ pub fn search(
     intervals: &mut [f64],
     tracks: &mut [usize],
     spots: &mut [f64],
+    sheet_firsts: &[Bucket],
+    placed_firsts: &mut [Bucket],
 ) -> Round
     requires { ⌜ ((j : Job) × Prepared j (givenBy tables (now rows) (now areas) (now shapes) (now sheet) (now «sheet_entries») (now «sheet_starts»))
         × (rearranged j (now order) ≡ true))
         × (6 * tables .«sheet_strips» ≤ length (now sheet)) × (6 * tables .«apart_strips» ≤ length (now shapes))
-        × (2 * trackNumbers ≤ length (now tracks)) × (2 * spotNumbers ≤ length (now spots)) × (n < 4096) ⌝ }
+        × (2 * trackNumbers ≤ length (now tracks)) × (2 * spotNumbers ≤ length (now spots)) × (n < 4096)
+        × SheetFirsts (givenBy tables (now rows) (now areas) (now shapes) (now sheet) (now «sheet_entries») (now «sheet_starts»)) (now «sheet_firsts») ⌝ }
     ensures { λ r. ⌜ ((j : Job) → Prepared j (givenBy tables (now (rows .entry)) (now (areas .entry)) (now (shapes .entry)) (now (sheet .entry))
         (now («sheet_entries» .entry)) (now («sheet_starts» .entry)))
         → rearranged j (now (order .entry)) ≡ true
         → (l : Lent) → length (l .rooms .placed) ≡ length (now (placed .entry)) → length (l .rooms .placed-entries) ≡ length (now («placed_entries» .entry))
-        → length (l .intervals) ≡ length (now (intervals .entry)) → j .header .seed ≡ seed
+        → length (l .intervals) ≡ length (now (intervals .entry)) → length (l .rooms .placed-firsts) ≡ length (now («placed_firsts» .entry))
+        → j .header .seed ≡ seed
         → swapsIn (r .verdict) (r .best) (plannerOf j) (now (order .exit)) (now (tracks .exit)) (now (spots .exit))
         ≡ rounds j l (roundsFor (length (now (order .entry))) n) (firstKept j (now (order .entry)) (fillOrder j l (now (order .entry)))))
         × ((j : Job) → rearranged j (now (order .entry)) ≡ true → rearranged j (now (order .exit)) ≡ true)
@@ -116,6 +121,8 @@ pub fn search(
         intervals,
         tracks,
         spots,
+        sheet_firsts,
+        placed_firsts,
     )
 }
 
@@ -192,16 +199,20 @@ pub fn search_plan(
     placed_entries: &mut [Entry],
     intervals: &mut [f64],
     positions: &mut [f64],
+    sheet_firsts: &[Bucket],
+    placed_firsts: &mut [Bucket],
 ) -> NestResult
     requires { ⌜ ((j : Job) × Prepared j (givenBy tables (now rows) (now areas) (now shapes) (now sheet) (now «sheet_entries») (now «sheet_starts»))
         × (rearranged j (now order) ≡ true) × (length (j .kinds) ≡ kinds))
         × (6 * tables .«sheet_strips» ≤ length (now sheet)) × (6 * tables .«apart_strips» ≤ length (now shapes))
-        × (5 * length (now order) ≤ length (now positions)) × (n < 4096) ⌝ }
+        × (5 * length (now order) ≤ length (now positions)) × (n < 4096)
+        × SheetFirsts (givenBy tables (now rows) (now areas) (now shapes) (now sheet) (now «sheet_entries») (now «sheet_starts»)) (now «sheet_firsts») ⌝ }
     ensures { λ r. ⌜ ((j : Job) (l : Lent) → Prepared j (givenBy tables (now (rows .entry)) (now (areas .entry)) (now (shapes .entry)) (now (sheet .entry))
         (now («sheet_entries» .entry)) (now («sheet_starts» .entry)))
         → rearranged j (now (order .entry)) ≡ true → length (j .kinds) ≡ kinds → j .header .seed ≡ seed
         → length (l .rooms .placed) ≡ length (now (placed .entry)) → length (l .rooms .placed-entries) ≡ length (now («placed_entries» .entry))
-        → length (l .intervals) ≡ length (now (intervals .entry)) → now (positions .entry) ≡ zeros posZero (l .positions)
+        → length (l .intervals) ≡ length (now (intervals .entry)) → length (l .rooms .placed-firsts) ≡ length (now («placed_firsts» .entry))
+        → now (positions .entry) ≡ zeros posZero (l .positions)
         → reply r (now (positions .exit)) ≡ replyOf (nested j l
         (rounds j l (roundsFor (length (now (order .entry))) n) (firstKept j (now (order .entry)) (fillOrder j l (now (order .entry))))))) ⌝ }
 {
@@ -225,6 +236,8 @@ pub fn search_plan(
         intervals,
         &mut tracks,
         &mut spots,
+        sheet_firsts,
+        placed_firsts,
     );
     report_kept(
         r,

@@ -9,13 +9,13 @@ use Rattle.report.specs.readied.inner.Zeroed.{Zeroed}
 
 -- what preparing is lent; the search has rooms of its own
 abbrev pub rooms : Lent
-rooms = lentOf (replicate 8190 posZero) (replicate 8190 posZero) [] (replicate 16384 0) [] [] []
+rooms = lentOf (replicate 8190 posZero) (replicate 8190 posZero) [] (replicate 16384 0) [] (replicate 1365 0) [] [] []
 
 zero-room : {A : Type 0} (n : ℕ) (z : A) → replicate n z ≡ zeros z (replicate n z)
 unfolding zeros
 zero-room n z = sym (ap (λ (k : ℕ). replicate k z) (length-replicate n z))
 
-pub rooms-zero : Zeroed rooms (replicate 8190 posZero) (replicate 8190 posZero) [] (replicate 16384 0) [] [] []
+pub rooms-zero : Zeroed rooms (replicate 8190 posZero) (replicate 8190 posZero) [] (replicate 16384 0) [] [] [] (replicate 1365 0) []
 unfolding zeros
 rooms-zero =
     record {
@@ -26,4 +26,6 @@ rooms-zero =
       placed-entries-zero = refl;
       intervals-zero = refl;
       positions-zero = refl;
+      sheet-firsts-zero = zero-room 1365 0;
+      placed-firsts-zero = refl;
     }

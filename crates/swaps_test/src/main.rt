@@ -6,13 +6,14 @@ ghost use mathlib.Core.Path.{_≡_};
 ghost use Prim.Native.Nat.{_*_, _≤_};
 ghost use lib.ListN.{length};
 ghost use Rattle.job.specs.Jobs.{Job};
-ghost use Rattle.filling_laws.specs.fill_laws.inner.Prepared.{Prepared};
+ghost use Rattle.filling_laws.specs.fill_laws.inner.Prepared.{Prepared, SheetFirsts};
 ghost use Rattle.report.specs.readied.inner.Zeroed.{ReadInto};
 ghost use Rattle.swaps.specs.search_plan.inner.Tabled.{givenBy};
 use better::Round;
 use filling::Refusal;
 use filling::Tables;
 use filling::Verdict;
+use index::Bucket;
 use index::Entry;
 use job::Header;
 use job::JobRead;
@@ -68,15 +69,18 @@ fn search(
     sheet: &[f64],
     sheet_entries: &[Entry],
     sheet_starts: &[usize],
+    sheet_firsts: &[Bucket],
 )
     requires { ⌜ ((j : Job) × Prepared j (givenBy tables (now rows) (now areas) (now shapes) (now sheet) (now «sheet_entries») (now «sheet_starts»))
         × (j .header ≡ h) × (length (j .kinds) ≡ h .kinds))
-        × (6 * tables .«sheet_strips» ≤ length (now sheet)) × (6 * tables .«apart_strips» ≤ length (now shapes)) ⌝ }
+        × (6 * tables .«sheet_strips» ≤ length (now sheet)) × (6 * tables .«apart_strips» ≤ length (now shapes))
+        × SheetFirsts (givenBy tables (now rows) (now areas) (now shapes) (now sheet) (now «sheet_entries») (now «sheet_starts»)) (now «sheet_firsts») ⌝ }
 {
     let kinds = h.kinds as usize;
     let rounds = h.rounds as usize;
     let mut placed = [0.0; 8190];
     let mut placed_entries = [0u16; 16384];
+    let mut placed_firsts = [0u16; 1365];
     let mut intervals = [0.0; 8192];
     let mut tracks = swaps::search_plan::two_tracks();
     let mut spots = swaps::search_plan::two_spots();
@@ -98,6 +102,8 @@ fn search(
         &mut intervals,
         &mut tracks,
         &mut spots,
+        sheet_firsts,
+        &mut placed_firsts,
     );
     print_round(r, &order, n);
 }
@@ -109,6 +115,7 @@ fn prepare_job(bytes: &[u8], at: u32, h: Header, rows: &[u64], areas: &[f64], pl
     let mut shapes = [0.0; 8190];
     let mut sheet = [0.0; 8190];
     let mut sheet_entries = [0u16; 16384];
+    let mut sheet_firsts = [0u16; 1365];
     let p = prepare::prepare(
         bytes,
         at,
@@ -118,6 +125,7 @@ fn prepare_job(bytes: &[u8], at: u32, h: Header, rows: &[u64], areas: &[f64], pl
         &mut shapes,
         &mut sheet,
         &mut sheet_entries,
+        &mut sheet_firsts,
     );
     let tables = p.tables;
     let sheet_starts = p.sheet_starts;
@@ -132,6 +140,7 @@ fn prepare_job(bytes: &[u8], at: u32, h: Header, rows: &[u64], areas: &[f64], pl
             &sheet,
             &sheet_entries,
             &sheet_starts,
+            &sheet_firsts,
         ),
         Verdict::Refused(k) => print_refusal(k),
     }

@@ -7,6 +7,7 @@
 ghost use mathlib.Core.Path.{_≡_};
 ghost use Prim.Native.Nat.{_≤_};
 ghost use lib.ListN.{length};
+use index::Bucket;
 use index::Entry;
 use replay::records::Part;
 use replay::show;
@@ -16,6 +17,12 @@ fn entry_room() -> [Entry; 132000]
     ensures { λ r. ⌜ 132000 ≡ length r ⌝ }
 {
     [1; 132000]
+}
+
+fn first_room() -> [Bucket; 66666]
+    ensures { λ r. ⌜ 66666 ≡ length r ⌝ }
+{
+    [1; 66666]
 }
 
 fn strip_room() -> [f64; 8190]
@@ -56,6 +63,8 @@ fn print_with(
 ) {
     let mut sheet_entries = entry_room();
     let mut placed_entries = entry_room();
+    let mut sheet_firsts = first_room();
+    let mut placed_firsts = first_room();
     let mut intervals = interval_room();
     let mut positions = position_room();
     let mut out = program::print_plan::buffer();
@@ -67,6 +76,8 @@ fn print_with(
         placed,
         &mut sheet_entries[..m],
         &mut placed_entries[..m],
+        &mut sheet_firsts,
+        &mut placed_firsts,
         &mut intervals,
         &mut positions,
         &mut out,
@@ -87,6 +98,8 @@ fn print_filling(
     let order = [0usize; 8];
     let mut sheet_entries = entry_room();
     let mut placed_entries = entry_room();
+    let mut sheet_firsts = first_room();
+    let mut placed_firsts = first_room();
     let mut intervals = interval_room();
     let mut positions = [1.0; 40];
     let n = at_most(copies, 8);
@@ -99,6 +112,8 @@ fn print_filling(
         placed,
         &mut sheet_entries[..m],
         &mut placed_entries[..m],
+        &mut sheet_firsts,
+        &mut placed_firsts,
         &mut intervals,
         &mut positions,
     );

@@ -14,40 +14,47 @@ use Rattle.choose.proofs.orientation.Reads as orientation-reads
 use Rattle.choose.proofs.better.Reads as better-reads
 
 abbrev Inv-loop : tie.InvT-loop
-Inv-loop g slot n inset-bounds parts shapes sheet sheet-entries sheet-starts placed placed-entries placed-starts room₀ tracks₀ best₀ o₀ room tracks best o =
+Inv-loop g slot n inset-bounds parts shapes sheet sheet-entries sheet-starts placed placed-entries placed-starts room₀ tracks₀ sheet-firsts placed-firsts best₀
+    o₀ room tracks best o =
     Picks g inset-bounds parts shapes sheet placed room₀ slot n tracks₀ room tracks best o
 
 abbrev μ-loop : tie.MeasureT-loop
-μ-loop g slot n inset-bounds parts shapes sheet sheet-entries sheet-starts placed placed-entries placed-starts room₀ tracks₀ best₀ o₀ room tracks best o = n - o
+μ-loop g slot n inset-bounds parts shapes sheet sheet-entries sheet-starts placed placed-entries placed-starts room₀ tracks₀ sheet-firsts placed-firsts best₀ o₀
+    room tracks best o =
+    n - o
 
 sum-fits : (s o n : ℕ) → o < n → s + n ≤ 1024 → (s + o < 2 ^ 64) × (o + 1 < 2 ^ 64) × (s + o < 1024)
 sum-fits s o n h k = (omega arith, omega arith, omega arith)
 
 loop-holds : tie.Need-loop-holds Inv-loop μ-loop
 loop-holds c =
-    let c11 = c .before .before .before .before .before .before .before .before .before .before .before in
-    let p = c11 .pre in
+    let c13 = c .before .before .before .before .before .before .before .before .before .before .before .before .before in
+    let p = c13 .pre in
     record { upto = omega arith; wide = refl; long = refl; small = λ q l m. p .3 q m; same = at-first _ _ _ _ }
 
 add-orientation : tie.Need-add-orientation Inv-loop μ-loop
 add-orientation c =
-    let c13 = c .before .before .before .before .before .before .before .before .before .before .before .before .before in
-    record { fits = sum-fits _ _ _ (c .loop-test .taken) (c13 .pre .1) .0 }
+    let c15 = c .before .before .before .before .before .before .before .before .before .before .before .before .before .before .before in
+    record { fits = sum-fits _ _ _ (c .loop-test .taken) (c15 .pre .1) .0 }
 
 orientation-requires : tie.Need-orientation-requires Inv-loop μ-loop
 orientation-requires c κs =
-    let c15 = c .before .before .before .before .before .before .before .before .before .before .before .before .before .before .before in
-    let a = c15 .args in
-    let p = c15 .pre in
+    let c16 = c .before .before .before .before .before .before .before .before .before .before .before .before .before .before .before .before in
+    let c17 = c16 .before in
+    let a = c17 .args in
+    let p = c17 .pre in
     let l = c .before .before .before .loop in
     let v = l .inv in
     let h = c .before .before .loop-test .taken in (
-      subst⁻¹ (λ (m : ℕ). Ready (a .g .index) (surroundingsIn (m / 2) (a .g) (a .inset-bounds .now) (a .parts .now) (a .shapes .now) (a .sheet .now) (a .placed .now))
+      subst⁻¹ (λ (m : ℕ). Ready (a .g .index) (surroundingsIn (m / 2) (a .g) (a .inset-bounds .now) (a .parts .now) (a .shapes .now) (a .sheet .now)
+          (a .placed .now))
           (a .sheet-entries .now) (a .sheet-starts .now) (a .placed-entries .now) (a .placed-starts .now) (a .slot + l .o)) (v .wide) (p .0 (l .o) h),
       sum-fits (a .slot) (l .o) (a .n) h (p .1) .2,
       subst (λ (m : ℕ). slotNumbers ≤ m) (sym (v .long)) (p .2),
       v .small (l .o) (omega arith) h,
       p .4,
+      p .5,
+      p .6,
     )
 
 better-requires : tie.Need-better-requires Inv-loop μ-loop
@@ -56,8 +63,8 @@ better-requires c κs = search needs
 add-o : tie.Need-add-o Inv-loop μ-loop
 add-o c =
     let c8 = c .before .before .before .before .before .before .before .before in
-    let c21 = c8 .before .before .before .before .before .before .before .before .before .before .before .before .before in
-    record { fits = sum-fits (c21 .args .slot) _ _ (c8 .loop-test .taken) (c21 .pre .1) .1 }
+    let c23 = c8 .before .before .before .before .before .before .before .before .before .before .before .before .before .before .before in
+    record { fits = sum-fits (c23 .args .slot) _ _ (c8 .loop-test .taken) (c23 .pre .1) .1 }
 
 loop-less : tie.Need-loop-less Inv-loop μ-loop
 loop-less c = search needs
@@ -66,8 +73,8 @@ loop-again : tie.Need-loop-again Inv-loop μ-loop
 loop-again c =
     let c8 = c .before .before .before .before .before .before .before .before in
     let c9 = c8 .before in
-    let c21 = c9 .before .before .before .before .before .before .before .before .before .before .before .before in
-    let a = c21 .args in
+    let c23 = c9 .before .before .before .before .before .before .before .before .before .before .before .before .before .before in
+    let a = c23 .args in
     let l = c9 .loop in
     let s = c .before .before .before .before .before .orientation in
     let k = s .kept .1 .1 .1 .1 .1 .1 .1 .1 .1 .1 .1 .1 in
@@ -83,8 +90,8 @@ same-length-2 c = c .before .loop .inv .long
 
 returns : tie.Need-returns Inv-loop μ-loop
 returns c =
-    let c13 = c .before .before .before .before .before .before .before .before .before .before .before .before .before in
-    let a = c13 .args in
+    let c15 = c .before .before .before .before .before .before .before .before .before .before .before .before .before .before .before in
+    let a = c15 .args in
     let l = c .before .loop in
     at-last (a .g) (a .inset-bounds .now) (a .parts .now) (a .shapes .now) (a .sheet .now) (a .placed .now) (a .room .now) (a .slot) (a .n) (a .tracks .now)
     (l .room) (l .room) (l .tracks) (l .tracks) (l .best) (l .best) (l .best) (l .o) (l .inv) (c .loop-test .left)

@@ -29,26 +29,26 @@ search-part-requires c κs =
     let c2 = c .before .before in
     let c3 = c2 .before in
     let c4 = c3 .before in
-    let c16 = c4 .before .before .before .before .before .before .before .before .before .before .before .before in
-    let a = c16 .args in
-    let p = c16 .pre in
+    let c18 = c4 .before .before .before .before .before .before .before .before .before .before .before .before .before .before in
+    let a = c18 .args in
+    let p = c18 .pre in
     let r = ready-parts (a .g .index) (surroundingsIn (length (a .room .now) / 2) (a .g) (a .inset-bounds .now) (a .parts .now) (a .shapes .now) (a .sheet .now)
     (a .placed .now))
     (a .sheet-entries .now) (a .sheet-starts .now) (a .placed-entries .now) (a .placed-starts .now) (a .slot) (c4 .bounds-at .result)
     (c3 .part-at .result) (c2 .new .result)
     (p .0) (c4 .bounds-at .ensures) (c3 .part-at .ensures) (c2 .new .ensures) in
-    (r .0, r .1, p .1, p .2, p .3, p .4)
+    (r .0, r .1, p .1, p .2, p .3, p .4, p .5, p .6)
 
 winner-of-requires : tie.Need-winner-of-requires
 winner-of-requires c κs =
     let c7 = c .before .before .before .before .before .before .before in
     let c9 = c7 .before .before in
-    let c21 = c9 .before .before .before .before .before .before .before .before .before .before .before .before in
-    let a = c21 .args in
+    let c23 = c9 .before .before .before .before .before .before .before .before .before .before .before .before .before .before in
+    let a = c23 .args in
     ready-few (a .g .index) (surroundingsIn (length (a .room .now) / 2) (a .g) (a .inset-bounds .now) (a .parts .now) (a .shapes .now) (a .sheet .now)
     (a .placed .now))
     (a .sheet-entries .now) (a .sheet-starts .now) (a .placed-entries .now) (a .placed-starts .now) (a .slot) (c9 .bounds-at .result) (c7 .new .result)
-    (c21 .pre .0) (c9 .bounds-at .ensures) (c7 .new .ensures)
+    (c23 .pre .0) (c9 .bounds-at .ensures) (c7 .new .ensures)
 
 same-length : tie.Need-same-length
 same-length c = search needs
@@ -62,9 +62,10 @@ returns c =
     let c8 = c5 .before .before .before in
     let c9 = c8 .before in
     let c10 = c9 .before in
-    let c22 = c10 .before .before .before .before .before .before .before .before .before .before .before .before in
-    let a = c22 .args in
-    orient-is (surroundingsIn (length (a .room .now) / 2) (a .g) (a .inset-bounds .now) (a .parts .now) (a .shapes .now) (a .sheet .now) (a .placed .now)) (a .slot)
+    let c24 = c10 .before .before .before .before .before .before .before .before .before .before .before .before .before .before in
+    let a = c24 .args in
+    orient-is (surroundingsIn (length (a .room .now) / 2) (a .g) (a .inset-bounds .now) (a .parts .now) (a .shapes .now) (a .sheet .now) (a .placed .now))
+    (a .slot)
     (a .o)
     (lookCounts (a .tracks .now)) (nextColumns (a .tracks .now)) _ _ (c10 .bounds-at .result) (c9 .part-at .result) (c8 .new .result) (c5 .search-part .result)
     (c .winner-of .result)

@@ -5,6 +5,7 @@ use Prim.Native.Nat.{_*_, _-_, _/_}
 use lib.Ieee.{Float}
 use lib.ListN.{length, drop}
 use lib.Seq.{length-take-le}
+use native.Mathlib.Omega.{arith}
 use Rattle.rooms.specs.tracks.inner.Tracks.{nextColumns, lookCounts}
 use Rattle.look.specs.inner.Ready.{Lookable}
 use Rattle.search.specs.columns.inner.Stands.{columnX}
@@ -24,8 +25,8 @@ mul-end c = search needs
 
 slice-aggregate-strips-of : tie.Need-slice-aggregate-strips-of
 slice-aggregate-strips-of c =
-    let c11 = c .before .before .before .before .before .before .before .before .before .before .before in
-    sym (length-take-le (6 * c11 .args .g .«apart_strips») (c11 .args .shapes .now) (c11 .pre .5))
+    let c13 = c .before .before .before .before .before .before .before .before .before .before .before .before .before in
+    sym (length-take-le (6 * c13 .args .g .«apart_strips») (c13 .args .shapes .now) (c13 .pre .5))
 
 mul-strips-of : tie.Need-mul-strips-of
 mul-strips-of c = search needs
@@ -44,11 +45,13 @@ strips-of-requires c κs = search needs
 
 slice-aggregate-strips-of-2 : tie.Need-slice-aggregate-strips-of-2
 slice-aggregate-strips-of-2 c =
-    let c14 = c .before .before .before .before .before .before .before .before .before .before .before .before .before .before in
-    sym (length-take-le (6 * c14 .args .g .«apart_strips») (c14 .args .shapes .now) (c14 .pre .5))
+    let c16 = c .before .before .before .before .before .before .before .before .before .before .before .before .before .before .before .before in
+    sym (length-take-le (6 * c16 .args .g .«apart_strips») (c16 .args .shapes .now) (c16 .pre .5))
 
 mul-strips-of-2 : tie.Need-mul-strips-of-2
-mul-strips-of-2 c = search needs
+mul-strips-of-2 c =
+    let c16 = c .before .before .before .before .before .before .before .before .before .before .before .before .before .before .before .before in
+    record { fits = omega (arith, c16 .pre .5, c16 .good .1 .1 .1 .1 .0 .1) }
 
 sub-strips-of-2 : tie.Need-sub-strips-of-2
 sub-strips-of-2 c = search needs
@@ -66,22 +69,27 @@ search-requires : tie.Need-search-requires
 search-requires c κs =
     let c2 = c .before .before in
     let c18 = c2 .before .before .before .before .before .before .before .before .before .before .before .before .before .before .before .before in
-    let a = c18 .args in
-    let p = c18 .pre in
+    let c20 = c18 .before .before in
+    let a = c20 .args in
+    let p = c20 .pre in
     let n = 6 * a .g .«apart_strips» in
     let s = a .shapes .now in
     let ei = c .before .before .before .before .before .strips-of .ensures ∙ ap (insetPart (a .p)) (rest-is n s) in (
       (λ d h.
-          subst⁻¹ (λ (z : List Float). Lookable (a .g .index) (columnX (a .k) d) (a .k .«y_low») (a .k .«y_high») z (c2 .strips-of2 .result .now) (a .sheet .now)
+          subst⁻¹ (λ (z : List Float). Lookable (a .g .index) (columnX (a .k) d) (a .k .«y_low») (a .k .«y_high») z (c2 .strips-of2 .result .now)
+          (a .sheet .now)
           (a .placed .now)
           (a .sheet-entries .now) (a .sheet-starts .now) (a .placed-entries .now) (a .placed-starts .now)) ei
-          (subst⁻¹ (λ (z : List Float). Lookable (a .g .index) (columnX (a .k) d) (a .k .«y_low») (a .k .«y_high») (insetPart (a .p) (drop n s)) z (a .sheet .now)
+          (subst⁻¹ (λ (z : List Float). Lookable (a .g .index) (columnX (a .k) d) (a .k .«y_low») (a .k .«y_high») (insetPart (a .p) (drop n s)) z
+          (a .sheet .now)
           (a .placed .now)
           (a .sheet-entries .now) (a .sheet-starts .now) (a .placed-entries .now) (a .placed-starts .now)) (c2 .strips-of2 .ensures) (p .0 d h))),
       p .1,
       p .2,
       p .3,
       p .4,
+      p .6,
+      p .7,
     )
 
 same-length : tie.Need-same-length
@@ -94,8 +102,8 @@ returns : tie.Need-returns
 returns c =
     let c7 = c .before .before .before .before .before .before .before in
     let c10 = c7 .before .before .before in
-    let c23 = c10 .before .before .before .before .before .before .before .before .before .before .before .before .before in
-    let a = c23 .args in
+    let c25 = c10 .before .before .before .before .before .before .before .before .before .before .before .before .before .before .before in
+    let a = c25 .args in
     let n = 6 * a .g .«apart_strips» in
     let s = a .shapes .now in
     let ei = c10 .strips-of .ensures ∙ ap (insetPart (a .p)) (rest-is n s) in

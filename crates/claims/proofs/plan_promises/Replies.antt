@@ -9,12 +9,13 @@ use Rattle.filling.specs.declared.Refusal.the-variants as Why
 use Rattle.filling.specs.declared.Verdict.{Verdict}
 use Rattle.filling.specs.declared.Verdict.the-variants.{Accepted, Refused}
 use Rattle.filling.specs.Shapes.{plannerOf}
-use Rattle.filling.specs.Rooms.{Lent}
+use Rattle.filling.specs.Rooms.{Lent, zeros, zeroRooms}
 use Rattle.filling.specs.Start.{Start, startVerdict, noStart, goodStart, startJob, startGiven, startOf}
 use Rattle.filling.specs.Fill.{Filling, filled, stopped, fillOrder, Planned, notPlanned, plannedWith, plannedBy, fillJob, fillGiven, fillOf}
 use Rattle.filling.proofs.Steps.{refused≢accepted, accepted≢refused, same-refusal}
 use Rattle.filling.proofs.Begin.{start-refused, start-good}
 use Rattle.filling.proofs.Runs.{fill-stopped, fill-runs}
+use Rattle.filling.proofs.FirstBuckets.{planned-rooms, not-planned-rooms, zero-numbers}
 use Rattle.nesting.specs.Rounds.{Kept, Swaps, kept, ended, swapSearch}
 use Rattle.nesting.specs.Nest.{nestVerdict, nested, nestJob, nestGiven, nestOf}
 use Rattle.claims.proofs.plan_promises.Demand1.{nest-stops, nest-runs}
@@ -122,3 +123,13 @@ pub nest-replies : (bytes : List ℕ) (l : Lent)
     → ((k : Refusal) → nestOf bytes l .verdict ≡ Refused k → nestOf bytes l ≡ notPlanned k l)
     × (nestOf bytes l .verdict ≡ Accepted → KeptAs bytes l (nestOf bytes l))
 nest-replies bytes l = replies l (KeptAs bytes l) (nestOf bytes l) (nest-is bytes l)
+
+-- a whole plan leaves no standing strip: every bucket number is zero, whatever it answers
+pub nest-firsts : (bytes : List ℕ) (l : Lent)
+    → (nestOf bytes l .lent .rooms .sheet-firsts ≡ zeros 0 (l .rooms .sheet-firsts))
+    × (nestOf bytes l .lent .rooms .placed-firsts ≡ zeros 0 (l .rooms .placed-firsts))
+nest-firsts bytes l = zero-numbers (nestOf bytes l .lent .rooms) (l .rooms) (go (nestOf bytes l) (nest-is bytes l))
+  where
+    go : (r : Planned) → PlanIs l (KeptAs bytes l) r → r .lent .rooms ≡ zeroRooms (l .rooms)
+    go r (plan-no k e) = ap (λ (q : Planned). q .lent .rooms) e ∙ not-planned-rooms k l
+    go r (plan-yes d h) = ap (λ (q : Planned). q .lent .rooms) (h .4) ∙ planned-rooms (h .0) l (h .1 .state) (h .1 .improvements)

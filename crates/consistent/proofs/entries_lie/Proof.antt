@@ -1,5 +1,8 @@
 -- `consistent::entries_lie` meets its contract. Assumes nothing.
+use Prim.Native.Nat.{ℕ}
 use native.Mathlib.Omega.{arith}
+use mathlib.Core.Path.{subst⁻¹}
+use Rattle.index.specs.inner.Listing.{FirstBuckets}
 use Rattle.consistent.proofs.strip_tests.Bounding.{never}
 use Rattle.consistent.proofs.Cases.{room-for, walked-at, walked-wrong, walked-laid}
 use borrow.Author.Needs.{needs}
@@ -12,8 +15,13 @@ capacity-requires c κs = search needs
 walk-all-requires : tie.Need-walk-all-requires
 walk-all-requires c κs =
     let c1 = c .before in
-    let c5 = c1 .before .before .before .before in
-    (room-for (c1 .capacity .result) (c5 .args .part .now) (let a = c1 .capacity .ensures in omega arith), c5 .pre)
+    let c6 = c1 .before .before .before .before .before in
+    let a = c6 .args in
+    let e = c1 .capacity .ensures in (
+      room-for (c1 .capacity .result) (a .part .now) (omega (arith, e)),
+      c6 .pre .0,
+      subst⁻¹ (λ (n : ℕ). FirstBuckets (a .ix) (a .part .now) n (a .firsts .now)) e (c6 .pre .1),
+    )
 
 enum-told : tie.Need-enum-told
 enum-told c = search needs
@@ -28,11 +36,11 @@ returns : tie.Need-returns
 returns c =
     let c4 = c .before .before .before .before in
     let c6 = c4 .before .before in
-    let c10 = c6 .before .before .before .before in (
-      walked-at (c10 .args .ix) (c10 .args .part .now) (c6 .capacity .result) (c10 .args .entries .now) (c10 .args .entries .now) (c6 .capacity .ensures)
+    let c11 = c6 .before .before .before .before .before in (
+      walked-at (c11 .args .ix) (c11 .args .part .now) (c6 .capacity .result) (c11 .args .entries .now) (c11 .args .entries .now) (c6 .capacity .ensures)
           (c4 .walk-all .ensures .0) (c .enum-told .given .1),
-      λ e. walked-laid (c10 .args .ix) (c10 .args .part .now) (c6 .capacity .result)
-          (c10 .args .entries .now) _ (c6 .capacity .ensures) (c4 .walk-all .ensures .1) (c .enum-told .given .1),
+      λ e. walked-laid (c11 .args .ix) (c11 .args .part .now) (c6 .capacity .result)
+          (c11 .args .entries .now) _ (c6 .capacity .ensures) (c4 .walk-all .ensures .1) (c .enum-told .given .1),
     )
 
 same-length-2 : tie.Need-same-length-2
@@ -41,8 +49,8 @@ same-length-2 c = search needs
 returns-2 : tie.Need-returns-2
 returns-2 c =
     let c6 = c .before .before .before .before .before .before in
-    let c10 = c6 .before .before .before .before in (
-      walked-wrong (c10 .args .ix) (c10 .args .part .now) (c6 .capacity .result) (c10 .args .entries .now) (c10 .args .entries .now) (c6 .capacity .ensures)
+    let c11 = c6 .before .before .before .before .before in (
+      walked-wrong (c11 .args .ix) (c11 .args .part .now) (c6 .capacity .result) (c11 .args .entries .now) (c11 .args .entries .now) (c6 .capacity .ensures)
           (c .before .before .before .before .walk-all .ensures .0) (c .enum-told2 .given .1),
       never,
     )

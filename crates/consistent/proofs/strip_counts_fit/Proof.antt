@@ -18,9 +18,10 @@ standing-capacity-requires c κs = search needs
 
 returns : tie.Need-returns
 returns c =
-    let c5 = c .before .before .before .before .before in (
-      sym (counts-sheet (c5 .args .sheet-strips) (c5 .args .apart-strips) (c5 .args .placed-strips) (c5 .args .sheet .now) (c5 .args .shapes .now)
-          (c5 .args .placed .now) (let a = c .before .standing-capacity .ensures in let b = c .if1 .taken in omega arith)),
+    let c7 = c .before .before .before .before .before .before .before in (
+      sym (counts-sheet (c7 .args .sheet-strips) (c7 .args .apart-strips) (c7 .args .placed-strips) (c7 .args .sheet .now) (c7 .args .shapes .now)
+          (c7 .args .placed .now) (c7 .args .sheet-firsts .now) (c7 .args .placed-firsts .now)
+          (let a = c .before .standing-capacity .ensures in let b = c .if1 .taken in omega arith)),
       never,
     )
 
@@ -29,9 +30,10 @@ capacity-requires c κs = search needs
 
 returns-2 : tie.Need-returns-2
 returns-2 c =
-    let c7 = c .before .before .before .before .before .before .before in (
-      sym (counts-apart (c7 .args .sheet-strips) (c7 .args .apart-strips) (c7 .args .placed-strips) (c7 .args .sheet .now) (c7 .args .shapes .now)
-          (c7 .args .placed .now) (let a = c .before .before .before .standing-capacity .ensures in let b = c .before .before .if1 .left in omega arith)
+    let c9 = c .before .before .before .before .before .before .before .before .before in (
+      sym (counts-apart (c9 .args .sheet-strips) (c9 .args .apart-strips) (c9 .args .placed-strips) (c9 .args .sheet .now) (c9 .args .shapes .now)
+          (c9 .args .placed .now) (c9 .args .sheet-firsts .now) (c9 .args .placed-firsts .now)
+          (let a = c .before .before .before .standing-capacity .ensures in let b = c .before .before .if1 .left in omega arith)
           (let a = c .before .capacity .ensures in let b = c .if2 .taken in omega arith)),
       never,
     )
@@ -41,20 +43,21 @@ standing-capacity-requires-2 c κs = search needs
 
 returns-3 : tie.Need-returns-3
 returns-3 c =
-    let c8 = c .before .before .before .before .before .before .before .before in
-    let s : c8 .args .sheet-strips ≤ standingCapacity
-    (c8 .args .sheet .now) = (let a = c .before .before .before .before .standing-capacity .ensures in let b = c .before .before .before .if1 .left in omega
+    let c10 = c .before .before .before .before .before .before .before .before .before .before in
+    let s : c10 .args .sheet-strips ≤ standingCapacity
+    (c10 .args .sheet .now) (c10 .args .sheet-firsts .now) =
+    omega (arith, c .before .before .before .before .standing-capacity .ensures, c .before .before .before .if1 .left) in
+    let a : c10 .args .apart-strips ≤ capacity (c10 .args .shapes .now) = (let a = c .before .before .capacity .ensures in let b = c .before .if2 .left in omega
     arith) in
-    let a : c8 .args .apart-strips ≤ capacity (c8 .args .shapes .now) = (let a = c .before .before .capacity .ensures in let b = c .before .if2 .left in omega
-    arith) in
-    let e = ap (leb (c8 .args .placed-strips)) (c .standing-capacity2 .ensures) in (
-      e ∙ counts-placed (c8 .args .sheet-strips) (c8 .args .apart-strips) (c8 .args .placed-strips) (c8 .args .sheet .now) (c8 .args .shapes .now)
-          (c8 .args .placed .now) s a,
+    let e = ap (leb (c10 .args .placed-strips)) (c .standing-capacity2 .ensures) in (
+      e ∙ counts-placed (c10 .args .sheet-strips) (c10 .args .apart-strips) (c10 .args .placed-strips) (c10 .args .sheet .now) (c10 .args .shapes .now)
+          (c10 .args .placed .now) (c10 .args .sheet-firsts .now) (c10 .args .placed-firsts .now) s a,
       λ q. (
-        standing-within (c8 .args .sheet-strips) (c8 .args .sheet .now) s,
-        room-for (c8 .args .apart-strips) (c8 .args .shapes .now) a,
+        standing-within (c10 .args .sheet-strips) (c10 .args .sheet .now) (c10 .args .sheet-firsts .now) s,
+        room-for (c10 .args .apart-strips) (c10 .args .shapes .now) a,
         standing-within
-            (c8 .args .placed-strips) (c8 .args .placed .now) (leb-true (c8 .args .placed-strips) (standingCapacity (c8 .args .placed .now)) (sym e ∙ q)),
+            (c10 .args .placed-strips) (c10 .args .placed .now) (c10 .args .placed-firsts .now)
+            (leb-true (c10 .args .placed-strips) (standingCapacity (c10 .args .placed .now) (c10 .args .placed-firsts .now)) (sym e ∙ q)),
       ),
     )
 

@@ -10,8 +10,7 @@ use Rattle.trapezoid.specs.Strip.{capacity}
 use Rattle.index.specs.Buckets.{standingCapacity}
 use Rattle.strips.specs.declared.Rect.{Rect}
 use Rattle.filling.specs.declared.State.{State}
-use Rattle.filling.specs.Rooms.{Rooms}
-use Rattle.filling.specs.Consistent.{stripsFit, boundsFit, resolutionFits, layoutFits, entriesLie, entriesFor}
+use Rattle.filling.specs.Consistent.{stripsFit, boundsFit, resolutionFits, layoutFits, numbersLie, entriesFor, firstsFor}
 use Rattle.consistent.specs.slot_tests.inner.Slots.{Slots, slots, slotsTest}
 
 -- orientation, x and y of the copies taken are not judged
@@ -34,10 +33,6 @@ stateOf taken placed-strips right area resolution bounds sheet-strips apart-stri
       layout = record { orientation = orientation; x = x; y = y; «unplaced_area» = area; right = right };
     }
 
-abbrev pub roomsOf : List Float → List Float → List Float → List ℕ → List ℕ → Rooms
-roomsOf shapes sheet placed sheet-entries placed-entries =
-    record { shapes = shapes; sheet = sheet; placed = placed; sheet-entries = sheet-entries; placed-entries = placed-entries }
-
 -- the slots, with the two parts of the shapes room
 abbrev pub slotsOf : Rect → Float → ℕ → List Float → List ℕ → List Float → ℕ → List ℕ → List ℕ → Slots
 slotsOf bounds resolution taken inset-bounds parts shapes apart-strips next looks =
@@ -49,13 +44,17 @@ unfoldable pub stateTest : ℕ → ℕ → Float → Rect → Float → Float �
 stateTest taken copies resolution bounds right area ordered =
     leb taken copies && (resolutionFits resolution && (boundsFit bounds && (layoutFits right area && ordered)))
 
-unfoldable pub countsTest : ℕ → ℕ → ℕ → List Float → List Float → List Float → Bool
-countsTest sheet-strips apart-strips placed-strips sheet shapes placed =
-    leb sheet-strips (standingCapacity sheet) && (leb apart-strips (capacity shapes) && leb placed-strips (standingCapacity placed))
+unfoldable pub countsTest : ℕ → ℕ → ℕ → List Float → List Float → List Float → List ℕ → List ℕ → Bool
+countsTest sheet-strips apart-strips placed-strips sheet shapes placed sheet-firsts placed-firsts =
+    leb sheet-strips (standingCapacity sheet sheet-firsts) && (leb apart-strips (capacity shapes) && leb placed-strips (standingCapacity placed placed-firsts))
 
-unfoldable pub standingTest : Rect → List Float → List Float → List ℕ → List ℕ → Bool
-standingTest bounds sheet placed sheet-entries placed-entries =
-    stripsFit sheet && (stripsFit placed && (entriesLie (entriesFor bounds sheet) sheet-entries && entriesLie (entriesFor bounds placed) placed-entries))
+-- strips, numbers and entries of a part: the numbers first, since the walk of the entries reads them
+unfoldable pub stripRoomTest : Rect → List Float → List ℕ → List ℕ → Bool
+stripRoomTest bounds part entries firsts = stripsFit part && (numbersLie (firstsFor bounds part) firsts && numbersLie (entriesFor bounds part) entries)
+
+unfoldable pub standingTest : Rect → List Float → List Float → List ℕ → List ℕ → List ℕ → List ℕ → Bool
+standingTest bounds sheet placed sheet-entries placed-entries sheet-firsts placed-firsts =
+    stripRoomTest bounds sheet sheet-entries sheet-firsts && stripRoomTest bounds placed placed-entries placed-firsts
 
 unfoldable pub roomsTest : Slots → List ℕ → ℕ → Bool → Bool → Bool
 roomsTest w rows kinds counted stands = counted && (slotsTest w rows kinds && stands)

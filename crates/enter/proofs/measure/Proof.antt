@@ -16,7 +16,7 @@ use Rattle.enter.proofs.measure.Reads as reads
 use Rattle.enter.proofs.measure.Lts as lts
 use Rattle.enter.proofs.span_marks.span_of.Reads as span-of-reads
 use Rattle.enter.proofs.span_marks.width_of.Reads as width-of-reads
-use Rattle.enter.proofs.sooner.Reads as sooner-reads
+use Rattle.index.proofs.fewer.Reads as fewer-reads
 use Rattle.enter.proofs.later.Reads as later-reads
 use Rattle.enter.proofs.span_marks.keep.Reads as keep-reads
 
@@ -86,7 +86,7 @@ loop-again c = let l = c .before .before .before .before .before .before .before
       omega (arith, s, l .inv .4, c .before .before .before .before .before .before .before .before .before .before .before .width-of .ensures),
       omega (arith, l .inv .5, c .before .before .before .before .before .before .before .before .before .before .if1 .left),
       omega (arith, l .inv .6, c .before .before .before .before .before .before .before .later .ensures, u, E .1),
-      within-turn (g .ix) (g .standing .now) (g .from) (l .i) _ _ (l .first) (l .end) _ _ (E .0) (E .1) (c .before .before .before .before .before .before .before .before .before .sooner .ensures) (c .before .before .before .before .before .before .before .later .ensures) (l .inv .7),
+      within-turn (g .ix) (g .standing .now) (g .from) (l .i) _ _ (l .first) (l .end) _ _ (E .0) (E .1) (c .before .before .before .before .before .before .before .before .before .fewer .ensures) (c .before .before .before .before .before .before .before .later .ensures) (l .inv .7),
       kept-turn (g .ix) (g .standing .now) (g .from) (l .i) _ _ (l .firsts) (l .lasts) _ _ (l .inv .0) (E .0) (E .1) (c .before .before .before .before .keep .ensures .0) (c .before .before .before .before .keep .ensures .1) (l .inv .8),
     )
 
@@ -110,8 +110,8 @@ returns-2 c = let l = c .before .loop in
       λ q. absurd (mathlib.Core.Bool.true≢false q),
     )
 
-sooner-requires : tie.Need-sooner-requires Inv-loop μ-loop
-sooner-requires c κs = tt
+fewer-requires : tie.Need-fewer-requires Inv-loop μ-loop
+fewer-requires c κs = tt
 
 later-requires : tie.Need-later-requires Inv-loop μ-loop
 later-requires c κs = tt
@@ -130,7 +130,7 @@ measure-spec =
     same-length-2
     returns
     add-more
-    sooner-requires
+    fewer-requires
     add-later
     later-requires
     sub-keep

@@ -1,12 +1,14 @@
 -- Document 01, "Index": the entry room after strips are enteredFrom, and refusal 21. Definitions only. Assumes nothing.
-use Prim.Native.Nat.{ℕ, _+_}
+use Prim.Native.Nat.{ℕ, _+_, _≤_, _<_}
+use mathlib.Core.Path.{_≡_}
 use mathlib.Core.Bool.{Bool, true, false}
 use mathlib.Core.List.{List, _++_, map, flatMap}
-use lib.ListN.{length, drop}
+use lib.ListN.{length, getD, drop}
 use lib.Dec.{leb}
 use lib.Ieee.{Float}
+use Rattle.trapezoid.specs.Strip.{stripAt}
 use Rattle.index.specs.declared.Index.{Index}
-use Rattle.index.specs.Buckets.{buckets, upFrom, entriesOf}
+use Rattle.index.specs.Buckets.{buckets, upFrom, bucketIn, entriesOf}
 use Rattle.index.specs.inner.Listing.{enteredFrom}
 
 -- "Entries lie by bucket, then strip number.": the room with the entries of the first n standing strips, and what it held after them
@@ -37,3 +39,9 @@ enterOf ix standing n r =
       | true ↦ record { fits = true; after = record { entries = entriesIn ix standing n (r .entries); starts = startsOf ix standing n } }
       | false ↦ record { fits = false; after = r }
     ]
+
+-- the numbers of the strips from `from` to below `to` are written: the bucket of each one's x0; the others are as they were
+pub record FirstsWritten (ix : Index) (standing : List Float) (from to : ℕ) (before after : List ℕ) : Type 0 where
+  pub below : (i : ℕ) → i < from → getD after i 0 ≡ getD before i 0
+  pub new : (i : ℕ) → from ≤ i → i < to → getD after i 0 ≡ bucketIn ix (stripAt standing i .x0)
+  pub above : (i : ℕ) → to ≤ i → getD after i 0 ≡ getD before i 0

@@ -29,20 +29,22 @@ slice-aggregate-fill-copies-2 c = search needs
 
 fill-copies-requires : tie.Need-fill-copies-requires
 fill-copies-requires c κs =
-    let c7 = c .before .before .before .before .before .before .before in
-    let c8 = c7 .before in
-    let c11 = c8 .before .before .before in
-    let c27 = c11 .before .before .before .before .before .before .before .before .before .before .before .before .before .before .before .before in
-    let p = c27 .pre in
-    let r = c11 .reset in (
+    let c8 = c .before .before .before .before .before .before .before .before in
+    let c9 = c8 .before in
+    let c12 = c9 .before .before .before in
+    let c28 = c12 .before .before .before .before .before .before .before .before .before .before .before .before .before .before .before .before in
+    let c30 = c28 .before .before in
+    let p = c30 .pre in
+    let r = c12 .reset in (
       p .0,
       p .1,
       subst (λ (n : ℕ). trackNumbers ≤ n) (sym (r .kept .0)) (p .2),
       p .3,
       r .ensures .0,
       r .ensures .1,
-      c8 .no-starts .ensures,
-      c7 .no-gains .ensures,
+      c9 .no-starts .ensures,
+      c8 .no-gains .ensures,
+      p .4,
     )
 
 same-length : tie.Need-same-length
@@ -60,10 +62,13 @@ same-length-4 c = search needs
 same-length-5 : tie.Need-same-length-5
 same-length-5 c = search needs
 
+same-length-6 : tie.Need-same-length-6
+same-length-6 c = search needs
+
 returns : tie.Need-returns
 returns c =
-    let c12 = c .before .before .before .before .before .before .before .before .before .before .before .before in
-    c12 .fill-copies .ensures
+    let c14 = c .before .before .before .before .before .before .before .before .before .before .before .before .before .before in
+    c14 .fill-copies .ensures
 
 pub fill-order-spec : {M : Type 1} → statement M
 fill-order-spec =
@@ -80,4 +85,5 @@ fill-order-spec =
     same-length-3
     same-length-4
     same-length-5
+    same-length-6
     returns)

@@ -1,5 +1,5 @@
 -- None is refused where the rooms suffice: a start, as many calls as the job has copies, and a filling. Assumes nothing.
-use Prim.Native.Nat.{ℕ, zero, suc, _+_, _*_, _/_, _≤_, _<_, min}
+use Prim.Native.Nat.{ℕ, zero, suc, _+_, _*_, _≤_, _<_}
 use native.Mathlib.Nat.{mul-le-mul-left, mul-le-mul-right, le-trans}
 use native.Mathlib.Omega.{arith}
 use mathlib.Core.Path.{_≡_, refl, sym, ap, _∙_}
@@ -10,7 +10,7 @@ use borrow.Author.Tests.{le-ltb}
 use lib.Ieee.{Float}
 use Rattle.numbers.specs.Numbers.{posZero}
 use Rattle.trapezoid.specs.Strip.{capacity}
-use Rattle.index.specs.Buckets.{stripNumbers, standingCapacity}
+use Rattle.index.specs.Buckets.{standingCapacity}
 use Rattle.job.specs.Jobs.{Job, accepted, readJob}
 use Rattle.filling.specs.declared.State.{State}
 use Rattle.filling.specs.declared.Refusal.the-variants as Why
@@ -22,13 +22,13 @@ use Rattle.filling.specs.Choice.{Choice, choices, best}
 use Rattle.filling.specs.Rooms.{Rooms, Lent, intervalCapacity, positionCapacity, laid}
 use Rattle.filling.specs.Order.{rearranged}
 use Rattle.filling.specs.State.{standingOf, orderOf, tracksOf}
-use Rattle.filling.specs.Consistent.{sheetIndex, entriesFor}
+use Rattle.filling.specs.Consistent.{sheetIndex, entriesFor, firstsFor}
 use Rattle.filling.specs.Start.{apartStrips, insetStrips, prepareVerdict, firstState, firstRooms, startVerdict, goodStart, startGiven, startOf}
 use Rattle.filling.specs.NextCopy.{newStrips, storeVerdict, winnerVerdict, copyVerdict, roomsAfter, stored, placeNext, coreStep, stepGiven, nextCopyOf}
 use Rattle.filling.specs.Fill.{filled, fillFrom, fillOrder, plannedWith, plannedBy, fillJob, fillGiven, fillOf}
 use Rattle.filling.specs.Calls.{Call, nextCopy, callStep, afterCalls}
 use Rattle.filling.specs.Plain.{Plain, plainStart, plainTake}
-use Rattle.filling.proofs.Reading.{Sixfold, sixfold-append, capacity-append, length-laid, length-zeros}
+use Rattle.filling.proofs.Reading.{Sixfold, sixfold-append, capacity-append, laid-capacity, length-laid, length-zeros}
 use Rattle.filling.proofs.Sizes.{Sized, sized}
 use Rattle.filling.proofs.Steps.{standing-sixfold, new-sixfold, Linked, Nexts, ChoicesNow, TracksNow, Took, Outcome, took, unchanged, in-job, place-taken, core-outcome, after-taken, refused≢accepted}
 use Rattle.filling.proofs.FillSteps.{fill-on}
@@ -41,12 +41,6 @@ use Rattle.filling.specs.promises.Ample.{Ample, AmpleIntervals, AmpleSta
 use Rattle.filling.proofs.promises.Few.{entries-few, new-few, standing-few, stands-few, counts-below, look-few}
 
 -- ---- rooms that suffice
-
-laid-capacity : (l room : List Float) → Sixfold l → capacity l ≤ standingCapacity room → standingCapacity (laid l room) ≡ standingCapacity room
-unfolding standingCapacity capacity
-laid-capacity l room q b =
-    let c : length l / 6 ≤ min (length room / 6) stripNumbers = b in
-    ap (λ (u : ℕ). min (u / 6) stripNumbers) (length-laid l room (omega arith))
 
 module _ (j : Job) (z : Sized j) (s : State) (w : Rooms) (h : Linked j s w) (m n : ℕ) (a : Ample j m n w) (k : ℕ) (ks : List ℕ) (e : Nexts j s k ks) where
   abbrev P : Planner
@@ -91,7 +85,7 @@ module _ (j : Job) (z : Sized j) (s : State) (w : Rooms) (h : Linked j s w) (m n
   winner-fits : (cs : List Choice) → winnerVerdict P w k St cs ≡ Accepted
   unfolding winnerVerdict storeVerdict refuseIf
   winner-fits [] = refl
-  winner-fits (c ∷ cs) = rw (le-ltb (standingCapacity (w .placed)) (capacity (Now (best c cs))) (le-trans (now-few (best c cs)) (a .placed)), le-ltb (length (w .placed-entries)) (length (entriesFor (P .bounds) (Now (best c cs)))) (entered-few (best c cs)))
+  winner-fits (c ∷ cs) = rw (le-ltb (standingCapacity (w .placed) (w .placed-firsts)) (capacity (Now (best c cs))) (le-trans (now-few (best c cs)) (a .placed)), le-ltb (length (w .placed-entries)) (length (entriesFor (P .bounds) (Now (best c cs)))) (entered-few (best c cs)))
 
   module _ (iv : List Float) (r : AmpleIntervals j m n iv) where
     look-below : (i : ℕ) → i < length (getD (P .shapes) k []) → (c : ℕ) → length (intervalsAt P St (getD (getD (P .shapes) k []) i noShape) c) ≤ intervalCapacity iv
@@ -113,11 +107,11 @@ module _ (j : Job) (z : Sized j) (s : State) (w : Rooms) (h : Linked j s w) (m n
     unfolding coreStep placeNext
     core-fits = rw (e, h .plan, h .stand, place-taken P St (getD (tracksOf j s) k []) k s w iv copy-fits)
 
-  placed-long : (d : Choice) → standingCapacity (laid (Now d) (w .placed)) ≡ standingCapacity (w .placed)
+  placed-long : (d : Choice) → standingCapacity (laid (Now d) (w .placed)) (laid (firstsFor (P .bounds) (Now d)) (w .placed-firsts)) ≡ standingCapacity (w .placed) (w .placed-firsts)
   placed-long d =
       let b = le-trans (now-few d) (a .placed) in
       let q : Sixfold (Now d) = sixfold-append St (newStrips P k d) (standing-sixfold P (standingOf s)) (new-sixfold P k d) in
-      laid-capacity (Now d) (w .placed) q b
+      laid-capacity (P .bounds) (Now d) (w .placed) (w .placed-firsts) q b
 
   -- and the rooms still suffice
   rooms-still : (cs : List Choice) → Ample j m n (roomsAfter P k w St cs)
@@ -200,7 +194,7 @@ unfolding startVerdict prepareVerdict refuseIf
 start-fits j order l r a =
     let p = plannerOf j in
     let w = l .rooms in
-    rw (le-ltb (positionCapacity (l .positions)) (j .copies) (a .positions), r, le-ltb (standingCapacity (w .sheet)) (capacity (p .sheet)) (a .sheet), le-ltb (length (w .sheet-entries)) (length (entriesFor (p .bounds) (p .sheet))) (a .sheet-entries), le-ltb (capacity (w .shapes)) (capacity (apartStrips p ++ insetStrips p)) (a .shapes))
+    rw (le-ltb (positionCapacity (l .positions)) (j .copies) (a .positions), r, le-ltb (standingCapacity (w .sheet) (w .sheet-firsts)) (capacity (p .sheet)) (a .sheet), le-ltb (length (w .sheet-entries)) (length (entriesFor (p .bounds) (p .sheet))) (a .sheet-entries), le-ltb (capacity (w .shapes)) (capacity (apartStrips p ++ insetStrips p)) (a .shapes))
 
 first-ample : (j : Job) (m n : ℕ) (w : Rooms) → Ample j m n w → Ample j m n (firstRooms (plannerOf j) w)
 unfolding firstRooms standingCapacity capacity
@@ -208,7 +202,7 @@ first-ample j m n w a =
     record {
       apart = a .apart;
       inset = a .inset;
-      placed = rw (length-zeros posZero (w .placed)) (a .placed);
+      placed = rw (length-zeros posZero (w .placed), length-zeros 0 (w .placed-firsts)) (a .placed);
       placed-entries = rw (length-zeros 0 (w .placed-entries)) (a .placed-entries);
     }
 

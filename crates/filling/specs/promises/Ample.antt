@@ -15,7 +15,7 @@ use Rattle.filling.specs.Calls.{Call, nextCopy}
 -- rooms that hold what a start stores
 pub record AmpleStart (j : Job) (l : Lent) : Type 0 where
   pub positions : j .copies ≤ positionCapacity (l .positions)
-  pub sheet : capacity (plannerOf j .sheet) ≤ standingCapacity (l .rooms .sheet)
+  pub sheet : capacity (plannerOf j .sheet) ≤ standingCapacity (l .rooms .sheet) (l .rooms .sheet-firsts)
   pub sheet-entries : length (entriesFor (plannerOf j .bounds) (plannerOf j .sheet)) ≤ length (l .rooms .sheet-entries)
   pub shapes : capacity (apartStrips (plannerOf j) ++ insetStrips (plannerOf j)) ≤ capacity (l .rooms .shapes)
 
@@ -23,7 +23,7 @@ pub record AmpleStart (j : Job) (l : Lent) : Type 0 where
 pub record Ample (j : Job) (m n : ℕ) (w : Rooms) : Type 0 where
   pub apart : (k o : ℕ) → capacity (shapeOf (plannerOf j) k o .apart) ≤ m
   pub inset : (k o : ℕ) → capacity (shapeOf (plannerOf j) k o .inset) ≤ n
-  pub placed : j .copies * m ≤ standingCapacity (w .placed)
+  pub placed : j .copies * m ≤ standingCapacity (w .placed) (w .placed-firsts)
   pub placed-entries : 512 * (j .copies * m) ≤ length (w .placed-entries)
 
 -- an interval room that holds whatever a look at a copy of the job can count

@@ -1,10 +1,9 @@
--- A filling's answer depends on the lengths of the placed rooms and of the interval room, not on what they hold. Assumes nothing.
+-- A filling's answer depends on the lengths of the placed rooms, bucket numbers included, and of the interval room, not on what they hold. Assumes nothing.
 use Prim.Native.Nat.{ℕ, zero, suc, _+_, _-_, _*_, _/_}
 use native.Mathlib.Omega.{arith}
 use mathlib.Core.Path.{_≡_, refl, sym, ap, ap₂, _∙_}
 use mathlib.Core.List.{List, [], _∷_, _++_}
 use lib.ListN.{length, getD, take, drop, length-append, length-drop}
-use lib.Seq.{take-append-le}
 use lib.Ieee.{Float}
 use Rattle.trapezoid.specs.Strip.{capacity}
 use Rattle.job.specs.Jobs.{Job}
@@ -23,6 +22,7 @@ use Rattle.filling.specs.NextCopy.{newStrips, storeVerdict, winnerVerdict, copy
 use Rattle.filling.specs.Fill.{fillFrom}
 use Rattle.filling.proofs.FillSteps.{fill-on, fill-stops, fill-ends}
 use Rattle.filling.proofs.Steps.{place-refused, place-taken, no-step-refused}
+use Rattle.filling_laws.proofs.Firsts.{take-front}
 
 -- two rooms that hold the same planner and the same standing strips, of equal lengths where copies are stored
 pub record Alike (j : Job) (s : State) (w w′ : Rooms) : Type 0 where
@@ -30,22 +30,23 @@ pub record Alike (j : Job) (s : State) (w w′ : Rooms) : Type 0 where
   pub standing : placedStrips s w ≡ placedStrips s w′
   pub placed : length (w .placed) ≡ length (w′ .placed)
   pub entries : length (w .placed-entries) ≡ length (w′ .placed-entries)
+  pub firsts : length (w .placed-firsts) ≡ length (w′ .placed-firsts)
 
 -- ---- what a step tests
 
-store-same : (p : Planner) (w w′ : Rooms) (strips : List Float) → length (w .placed) ≡ length (w′ .placed) → length (w .placed-entries) ≡ length (w′ .placed-entries) → storeVerdict p w strips ≡ storeVerdict p w′ strips
+store-same : (p : Planner) (w w′ : Rooms) (strips : List Float) → length (w .placed) ≡ length (w′ .placed) → length (w .placed-entries) ≡ length (w′ .placed-entries) → length (w .placed-firsts) ≡ length (w′ .placed-firsts) → storeVerdict p w strips ≡ storeVerdict p w′ strips
 unfolding storeVerdict Rattle.index.specs.Buckets.standingCapacity capacity
-store-same p w w′ strips a b = rw (a, b)
+store-same p w w′ strips a b d = rw (a, b, d)
 
-winner-same : (p : Planner) (w w′ : Rooms) (k : ℕ) (st : List Float) (cs : List Choice) → length (w .placed) ≡ length (w′ .placed) → length (w .placed-entries) ≡ length (w′ .placed-entries) → winnerVerdict p w k st cs ≡ winnerVerdict p w′ k st cs
+winner-same : (p : Planner) (w w′ : Rooms) (k : ℕ) (st : List Float) (cs : List Choice) → length (w .placed) ≡ length (w′ .placed) → length (w .placed-entries) ≡ length (w′ .placed-entries) → length (w .placed-firsts) ≡ length (w′ .placed-firsts) → winnerVerdict p w k st cs ≡ winnerVerdict p w′ k st cs
 unfolding winnerVerdict
-winner-same p w w′ k st [] a b = refl
-winner-same p w w′ k st (c ∷ cs) a b = store-same p w w′ (st ++ newStrips p k (best c cs)) a b
+winner-same p w w′ k st [] a b d = refl
+winner-same p w w′ k st (c ∷ cs) a b d = store-same p w w′ (st ++ newStrips p k (best c cs)) a b d
 
 verdict-same : (p : Planner) (w w′ : Rooms) (iv iv′ : List Float) (k : ℕ) (st : List Float) (ss : List Shape) (ts : List Track) (fs : List Found)
-    → length (w .placed) ≡ length (w′ .placed) → length (w .placed-entries) ≡ length (w′ .placed-entries) → length iv ≡ length iv′ → copyVerdict p w iv k st ss ts fs ≡ copyVerdict p w′ iv′ k st ss ts fs
+    → length (w .placed) ≡ length (w′ .placed) → length (w .placed-entries) ≡ length (w′ .placed-entries) → length (w .placed-firsts) ≡ length (w′ .placed-firsts) → length iv ≡ length iv′ → copyVerdict p w iv k st ss ts fs ≡ copyVerdict p w′ iv′ k st ss ts fs
 unfolding copyVerdict
-verdict-same p w w′ iv iv′ k st ss ts fs a b c = rw (c, winner-same p w w′ k st (choices p 0 ss fs) a b)
+verdict-same p w w′ iv iv′ k st ss ts fs a b d c = rw (c, winner-same p w w′ k st (choices p 0 ss fs) a b d)
 
 -- ---- what a step leaves
 
@@ -56,20 +57,17 @@ length-same xs room room′ e =
     ∙ (ap (λ (z : ℕ). length xs + z) (length-drop (length xs) room ∙ (ap (λ (z : ℕ). z - length xs) e ∙ sym (length-drop (length xs) room′)))
     ∙ sym (length-append xs (drop (length xs) room′)))
 
-take-front : (xs room : List Float) → take (6 * capacity xs) (laid xs room) ≡ take (6 * capacity xs) xs
-unfolding laid capacity
-take-front xs room = take-append-le (6 * (length xs / 6)) xs (drop (length xs) room) (omega arith)
-
 module _ (j : Job) (s : State) (w w′ : Rooms) (h : Alike j s w w′) (p : Planner) (k : ℕ) (ts : List Track) (st : List Float) where
   after-alike : (cs : List Choice) → Alike j (stateAfter p k ts s st cs) (roomsAfter p k w st cs) (roomsAfter p k w′ st cs)
   unfolding stateAfter stateWith roomsAfter stored placedStrips plannerAt
-  after-alike [] = record { planner = h .planner; standing = h .standing; placed = h .placed; entries = h .entries }
+  after-alike [] = record { planner = h .planner; standing = h .standing; placed = h .placed; entries = h .entries; firsts = h .firsts }
   after-alike (c ∷ cs) =
       record {
         planner = h .planner;
         standing = take-front (st ++ newStrips p k (best c cs)) (w .placed) ∙ sym (take-front (st ++ newStrips p k (best c cs)) (w′ .placed));
         placed = length-same _ (w .placed) (w′ .placed) (h .placed);
         entries = length-same _ (w .placed-entries) (w′ .placed-entries) (h .entries);
+        firsts = length-same _ (w .placed-firsts) (w′ .placed-firsts) (h .firsts);
       }
 
 -- ---- a step
@@ -104,7 +102,7 @@ module _ (j : Job) (iv iv′ : List Float) (wide : length iv ≡ length iv′) (
     other = next-is j s w′ iv′ k ks e ∙ ap₂ (λ (q : Planner) (l : List Float). placeCopy q l ts k s w′ iv′) (sym (h .planner)) (sym (h .standing))
 
     verdict′ : (v : Verdict) → copyVerdict p w iv k st ss ts fs ≡ v → copyVerdict p w′ iv′ k st ss ts fs ≡ v
-    verdict′ v d = sym (verdict-same p w w′ iv iv′ k st ss ts fs (h .placed) (h .entries) wide) ∙ d
+    verdict′ v d = sym (verdict-same p w w′ iv iv′ k st ss ts fs (h .placed) (h .entries) (h .firsts) wide) ∙ d
 
     refuses : (r : Refusal) → copyVerdict p w iv k st ss ts fs ≡ Refused r → fillFrom j iv (suc n) s w ≡ fillFrom j iv′ (suc n) s w′
     refuses r d =

@@ -36,6 +36,7 @@ use Rattle.filling.proofs.Demand3.{Kept, first-kept}
 use Rattle.filling.proofs.Numbers31.{WithinBounds}
 use Rattle.filling.proofs.WithinBounds.{jobs-within}
 use Rattle.filling.proofs.Never31.{Own, first-fine, first-few, first-sheet, first-placed}
+use Rattle.filling.proofs.FirstBuckets.{first-firsts}
 use Rattle.place.specs.declared.Totals.{Totals}
 use Rattle.filling_laws.specs.fill_laws.inner.Prepared.{stateBy, roomsBy}
 use Rattle.filling_laws.proofs.fill_laws.Alike.{Alike, fill-alike}
@@ -73,14 +74,14 @@ module _ (j : Job) (few : capacity (plannerOf j .sheet) ≤ stripNumbers) (order
   enough : Lent
   enough =
       record {
-        rooms = record { shapes = apartStrips P ++ insetStrips P; sheet = P .sheet; placed = []; sheet-entries = entriesFor (P .bounds) (P .sheet); placed-entries = [] };
+        rooms = record { shapes = apartStrips P ++ insetStrips P; sheet = P .sheet; placed = []; sheet-entries = entriesFor (P .bounds) (P .sheet); placed-entries = []; sheet-firsts = replicate (capacity (P .sheet)) 0; placed-firsts = [] };
         intervals = [];
         positions = replicate (5 * j .copies) posZero;
       }
 
   prepared : prepareVerdict P (enough .rooms) ≡ Accepted
   unfolding prepareVerdict enough standingCapacity
-  prepared = refuse-none _ _ _ (le-ltb (min (capacity (P .sheet)) stripNumbers) (capacity (P .sheet)) (omega (arith, few))) (refuse-none _ _ _ (not-below (length (entriesFor (P .bounds) (P .sheet)))) (refuse-none _ _ _ (not-below (capacity (apartStrips P ++ insetStrips P))) refl))
+  prepared = refuse-none _ _ _ (le-ltb (min (min (capacity (P .sheet)) (length {A = ℕ} (replicate (capacity (P .sheet)) 0))) stripNumbers) (capacity (P .sheet)) (let e = length-replicate {A = ℕ} (capacity (P .sheet)) 0 in omega (arith, few, e))) (refuse-none _ _ _ (not-below (length (entriesFor (P .bounds) (P .sheet)))) (refuse-none _ _ _ (not-below (capacity (apartStrips P ++ insetStrips P))) refl))
 
   started : startVerdict j order enough ≡ Accepted
   unfolding startVerdict enough
@@ -88,7 +89,7 @@ module _ (j : Job) (few : capacity (plannerOf j .sheet) ≤ stripNumbers) (order
 
 -- ---- what holds of a job before its first copy, whatever the placed rooms hold
 
-module _ (bytes : List ℕ) (j : Job) (read : readJob bytes ≡ accepted j) (few : capacity (plannerOf j .sheet) ≤ stripNumbers) (order : List ℕ) (r : rearranged j order ≡ true) (lent : Rooms) (placed : List Float) (entries : List ℕ) where
+module _ (bytes : List ℕ) (j : Job) (read : readJob bytes ≡ accepted j) (few : capacity (plannerOf j .sheet) ≤ stripNumbers) (order : List ℕ) (r : rearranged j order ≡ true) (lent : Rooms) (placed : List Float) (entries firsts : List ℕ) where
   abbrev p : Planner
   p = plannerOf j
 
@@ -99,7 +100,7 @@ module _ (bytes : List ℕ) (j : Job) (read : readJob bytes ≡ accepted j) (few
   before = firstState p order
 
   abbrev w : Rooms
-  w = roomsBy p lent placed entries
+  w = roomsBy p lent placed entries firsts
 
   plan : plannerAt j (before .tables) w ≡ p
   unfolding plannerAt
@@ -114,7 +115,7 @@ module _ (bytes : List ℕ) (j : Job) (read : readJob bytes ≡ accepted j) (few
 
   counts : stripCountsFit (before .tables) (before .«placed_strips») w ≡ true
   unfolding stripCountsFit firstState
-  counts = go (leb (tablesOf p .«sheet_strips») (standingCapacity (firstRooms p lent .sheet))) (leb (tablesOf p .«apart_strips») (capacity (firstRooms p lent .shapes))) (leb 0 (standingCapacity (firstRooms p lent .placed))) (first-counts j z lent few) (le-leb 0 (standingCapacity placed) (omega arith))
+  counts = go (leb (tablesOf p .«sheet_strips») (standingCapacity (firstRooms p lent .sheet) (firstRooms p lent .sheet-firsts))) (leb (tablesOf p .«apart_strips») (capacity (firstRooms p lent .shapes))) (leb 0 (standingCapacity (firstRooms p lent .placed) (firstRooms p lent .placed-firsts))) (first-counts j z lent few) (le-leb 0 (standingCapacity placed firsts) (omega arith))
     where
       go : (a b c : Bool) {d : Bool} → a && (b && c) ≡ true → d ≡ true → a && (b && d) ≡ true
       go true true c e f = f
@@ -138,18 +139,20 @@ module _ (bytes : List ℕ) (j : Job) (read : readJob bytes ≡ accepted j) (few
         parts = parts;
         sheet-entries = first-sheet j lent;
         placed-entries = first-placed j z order n entries;
+        firsts = first-firsts j order lent w refl refl;
       }
 
-  alike : (l : Lent) → length (l .rooms .placed) ≡ length placed → length (l .rooms .placed-entries) ≡ length entries → Alike j before w (firstRooms p (l .rooms))
+  alike : (l : Lent) → length (l .rooms .placed) ≡ length placed → length (l .rooms .placed-entries) ≡ length entries → length (l .rooms .placed-firsts) ≡ length firsts → Alike j before w (firstRooms p (l .rooms))
   unfolding firstRooms
-  alike l a b =
+  alike l a b c =
       record {
         planner = plan ∙ sym (first-linked j z order (l .rooms) .plan);
         standing = stand ∙ sym (first-linked j z order (l .rooms) .stand);
         placed = sym (length-zeros posZero (l .rooms .placed) ∙ a);
         entries = sym (length-zeros 0 (l .rooms .placed-entries) ∙ b);
+        firsts = sym (length-zeros 0 (l .rooms .placed-firsts) ∙ c);
       }
 
-  pub fill-first : (l : Lent) → length (l .rooms .placed) ≡ length placed → length (l .rooms .placed-entries) ≡ length entries → fillFrom j (l .intervals) (length order) before w ≡ fillOrder j l order
+  pub fill-first : (l : Lent) → length (l .rooms .placed) ≡ length placed → length (l .rooms .placed-entries) ≡ length entries → length (l .rooms .placed-firsts) ≡ length firsts → fillFrom j (l .intervals) (length order) before w ≡ fillOrder j l order
   unfolding fillOrder
-  fill-first l a b = fill-alike j (l .intervals) (l .intervals) refl (length order) before w (firstRooms p (l .rooms)) (alike l a b)
+  fill-first l a b c = fill-alike j (l .intervals) (l .intervals) refl (length order) before w (firstRooms p (l .rooms)) (alike l a b c)

@@ -9,7 +9,7 @@ use lib.Seq.{drop-cons, take-suc-set, set-at, length-take-le}
 use lib.Ieee.{Float, nan}
 use Rattle.numbers.specs.Numbers.{posZero}
 use Rattle.index.specs.declared.Index.{Index}
-use Rattle.index.specs.inner.Listing.{Laid}
+use Rattle.index.specs.inner.Listing.{Laid, FirstBuckets}
 use Rattle.strips.specs.declared.Rect.{Rect}
 use Rattle.job.specs.Jobs.{Job}
 use Rattle.job.proofs.Accepted.{job-good}
@@ -33,6 +33,7 @@ use Rattle.filling.proofs.Steps.{Took, unchanged, took, core-outcome, refused�
 use Rattle.filling.proofs.WithinBounds.{jobs-within}
 use Rattle.filling.proofs.Never31.{Own, own-took}
 use Rattle.choose.specs.inner.Choosing.{surroundings}
+use Rattle.store.specs.inner.Storing.{FirstsLaid}
 use Rattle.place.specs.declared.Totals.{Totals}
 use Rattle.place.specs.declared.Outcome.{Outcome}
 use Rattle.place.specs.declared.Outcome.the-variants.{Refused}
@@ -47,11 +48,11 @@ use Rattle.filling_laws.proofs.ReadyOrder.{kind-in, slots-within}
 use Rattle.filling_laws.proofs.fill_laws.Begin.{own-first, fill-first}
 
 -- what holds after i copies
-pub record Held (j : Job) (lent : Rooms) (order : List ℕ) (wide i : ℕ) (t : Totals) (placed : List Float) (entries looks next orientation : List ℕ) (x y : List Float) : Type 0 where
+pub record Held (j : Job) (lent : Rooms) (order : List ℕ) (wide i : ℕ) (t : Totals) (placed : List Float) (entries firsts looks next orientation : List ℕ) (x y : List Float) : Type 0 where
   pub plain : Plain
-  pub own : Own j order (stateBy (plannerOf j) order i next looks t orientation x y) (roomsBy (plannerOf j) lent placed entries) plain
-  pub same : (l : Lent) → length (l .rooms .placed) ≡ length placed → length (l .rooms .placed-entries) ≡ length entries → length (l .intervals) ≡ wide
-      → fillFrom j (l .intervals) (length order - i) (stateBy (plannerOf j) order i next looks t orientation x y) (roomsBy (plannerOf j) lent placed entries) ≡ fillOrder j l order
+  pub own : Own j order (stateBy (plannerOf j) order i next looks t orientation x y) (roomsBy (plannerOf j) lent placed entries firsts) plain
+  pub same : (l : Lent) → length (l .rooms .placed) ≡ length placed → length (l .rooms .placed-entries) ≡ length entries → length (l .intervals) ≡ wide → length (l .rooms .placed-firsts) ≡ length firsts
+      → fillFrom j (l .intervals) (length order - i) (stateBy (plannerOf j) order i next looks t orientation x y) (roomsBy (plannerOf j) lent placed entries firsts) ≡ fillOrder j l order
 
 -- ---- before the first copy
 
@@ -60,16 +61,16 @@ first-is : (p : Planner) (order : List ℕ) (orientation : List ℕ) (x y : List
 unfolding firstState emptyLayout laid
 first-is p order orientation x y = refl
 
-pub held-first : (j : Job) (g : Given) (h : Prepared j g) (order : List ℕ) → rearranged j order ≡ true → (wide : ℕ) (t : Totals) (placed : List Float) (entries looks next orientation : List ℕ) (x y : List Float)
-    → t ≡ record { «placed_strips» = 0; right = g .bounds .left; «unplaced_area» = posZero } → looks ≡ replicate 1024 0 → next ≡ replicate 1024 1 → Held j (h .lent) order wide 0 t placed entries looks next orientation x y
-held-first j g h order r wide t placed entries looks next orientation x y a b c =
+pub held-first : (j : Job) (g : Given) (h : Prepared j g) (order : List ℕ) → rearranged j order ≡ true → (wide : ℕ) (t : Totals) (placed : List Float) (entries firsts looks next orientation : List ℕ) (x y : List Float)
+    → t ≡ record { «placed_strips» = 0; right = g .bounds .left; «unplaced_area» = posZero } → looks ≡ replicate 1024 0 → next ≡ replicate 1024 1 → Held j (h .lent) order wide 0 t placed entries firsts looks next orientation x y
+held-first j g h order r wide t placed entries firsts looks next orientation x y a b c =
     record {
       plain = plainStart (plannerOf j) order;
-      own = subst (λ (s : State). Own j order s (roomsBy (plannerOf j) (h .lent) placed entries) (plainStart (plannerOf j) order)) (sym state) (own-first (h .bytes) j (h .read) (h .few) order r (h .lent) placed entries);
-      same = λ l d e f.
+      own = subst (λ (s : State). Own j order s (roomsBy (plannerOf j) (h .lent) placed entries firsts) (plainStart (plannerOf j) order)) (sym state) (own-first (h .bytes) j (h .read) (h .few) order r (h .lent) placed entries firsts);
+      same = λ l d e f g.
           let n : length order - 0 ≡ length order = omega arith in
-          ap₂ (λ (m : ℕ) (s : State). fillFrom j (l .intervals) m s (roomsBy (plannerOf j) (h .lent) placed entries)) n state
-          ∙ fill-first (h .bytes) j (h .read) (h .few) order r (h .lent) placed entries l d e;
+          ap₂ (λ (m : ℕ) (s : State). fillFrom j (l .intervals) m s (roomsBy (plannerOf j) (h .lent) placed entries firsts)) n state
+          ∙ fill-first (h .bytes) j (h .read) (h .few) order r (h .lent) placed entries firsts l d e g;
     }
   where
     totals : t ≡ record { «placed_strips» = 0; right = plannerOf j .bounds .left; «unplaced_area» = posZero }
@@ -111,9 +112,9 @@ stateIn ts order taken next looks t orientation x y =
 -- ---- the code's step is the definition's
 
 -- what place_next leaves
-abbrev pub codeWith : Given → ℕ → Float → ℕ → ℕ → Totals → List Float → List ℕ → List ℕ → List ℕ → List ℕ → Placed
-codeWith g room area slot n t placed entries starts looks next =
-    placeOf (g .index) (surroundings room (g .bounds) (g .resolution) (g .inset-bounds) (g .parts) (g .apart) (g .inset) (g .sheet) (take (6 * t .«placed_strips») placed)) area slot n t placed entries starts looks next
+abbrev pub codeWith : Given → ℕ → Float → ℕ → ℕ → Totals → List Float → List ℕ → List ℕ → List ℕ → List ℕ → List ℕ → Placed
+codeWith g room area slot n t placed entries starts firsts looks next =
+    placeOf (g .index) (surroundings room (g .bounds) (g .resolution) (g .inset-bounds) (g .parts) (g .apart) (g .inset) (g .sheet) (take (6 * t .«placed_strips») placed)) area slot n t placed entries starts firsts looks next
 
 same-given : {a a′ : Index} {b b′ : Rect} {c c′ : Float} {rows : List ℕ} {areas : List Float} {d d′ : List Float} {e e′ : List ℕ} {f f′ f₁ f₁′ f₂ f₂′ : List Float} {es es′ ss : List ℕ}
     → a ≡ a′ → b ≡ b′ → c ≡ c′ → d ≡ d′ → e ≡ e′ → f ≡ f′ → f₁ ≡ f₁′ → f₂ ≡ f₂′ → es ≡ es′ → given a b c rows areas d e f f₁ f₂ es ss ≡ given a′ b′ c′ rows areas d′ e′ f′ f₁′ f₂′ es′ ss
@@ -143,12 +144,12 @@ module _ (j : Job) (g : Given) (h : Prepared j g) (order : List ℕ) (r : rearra
       subst (λ (n : ℕ). 16 * getD order i 0 + n ≤ 1024) (h .tabled .orientations (getD order i 0) k)
       (slots-within j (job-good (h .bytes) j (h .read) .good) (getD order i 0) (let e = kinds-many j in omega arith))
 
-  module _ (wide i : ℕ) (t : Totals) (placed : List Float) (entries looks next orientation : List ℕ) (x y : List Float) (b : Held j (h .lent) order wide i t placed entries looks next orientation x y) (below : i < length order) where
+  module _ (wide i : ℕ) (t : Totals) (placed : List Float) (entries firsts looks next orientation : List ℕ) (x y : List Float) (b : Held j (h .lent) order wide i t placed entries firsts looks next orientation x y) (below : i < length order) where
     abbrev S : State
     S = stateBy P order i next looks t orientation x y
 
     abbrev W : Rooms
-    W = roomsBy P (h .lent) placed entries
+    W = roomsBy P (h .lent) placed entries firsts
 
     abbrev k : ℕ
     k = getD order i 0
@@ -165,23 +166,39 @@ module _ (j : Job) (g : Given) (h : Prepared j g) (order : List ℕ) (r : rearra
     next-order : drop i (orderOf j S) ≡ k ∷ drop (suc i) order
     next-order = ap (drop i) (b .own .order-kept) ∙ drop-cons order i 0 below
 
-    module _ (starts : List ℕ) (L : Laid (g .index) placed (t .«placed_strips») entries starts) where
+    module _ (starts : List ℕ) (L : Laid (g .index) placed (t .«placed_strips») entries starts) (K : FirstBuckets (g .index) placed (t .«placed_strips») firsts) where
       -- what place_next leaves of this copy
       abbrev pub Left : Placed
-      Left = codeWith g (wide / 2) (getD (g .areas) (getD order i 0) nan) (16 * getD order i 0) (getD (g .rows) (4 * getD order i 0 + 3) 0) t placed entries starts looks next
+      Left = codeWith g (wide / 2) (getD (g .areas) (getD order i 0) nan) (16 * getD order i 0) (getD (g .rows) (4 * getD order i 0 + 3) 0) t placed entries starts firsts looks next
 
       code-is : (iv : List Float) → length iv ≡ wide
           → Left ≡ codeOf (plannerAt j (S .tables) W) k S W iv (S .tables .«inset_bounds») (S .tables .parts) (apartRoom (S .tables) (W .shapes)) (insetRoom (S .tables) (W .shapes)) n starts (L .room) slots
       unfolding plannerAt tablesOf
       code-is iv e =
-          ap (λ (g′ : Given). codeWith g′ (wide / 2) (getD (g .areas) k nan) (16 * k) (getD (g .rows) (4 * k + 3) 0) t placed entries starts looks next) given-is
-          ∙ (ap₂ (λ (a : Float) (m : ℕ). codeWith Own′ (wide / 2) a (16 * k) m t placed entries starts looks next) (sym (h .tabled .area k (kind-below i below))) (sym (h .tabled .orientations k (kind-below i below)))
-          ∙ ap (λ (m : ℕ). codeWith Own′ (m / 2) (getD (map (λ a. a .area) (j .kinds)) k posZero) (16 * k) n t placed entries starts looks next) (sym e))
+          ap (λ (g′ : Given). codeWith g′ (wide / 2) (getD (g .areas) k nan) (16 * k) (getD (g .rows) (4 * k + 3) 0) t placed entries starts firsts looks next) given-is
+          ∙ (ap₂ (λ (a : Float) (m : ℕ). codeWith Own′ (wide / 2) a (16 * k) m t placed entries starts firsts looks next) (sym (h .tabled .area k (kind-below i below))) (sym (h .tabled .orientations k (kind-below i below)))
+          ∙ ap (λ (m : ℕ). codeWith Own′ (m / 2) (getD (map (λ a. a .area) (j .kinds)) k posZero) (16 * k) n t placed entries starts firsts looks next) (sym e))
 
-      step-is : (iv : List Float) → length iv ≡ wide → (D : Placed) → D ≡ Left → stepFrom S W iv D ≡ coreStep j S W iv
-      step-is iv e D d = ap (stepFrom S W iv) (d ∙ code-is iv e) ∙ same-core j S W iv k starts kind (L .room) slots (drop (suc i) order) next-order
+      -- the numbers of the strips that stand after it
+      abbrev Numbers : Index → List ℕ → Placed → Type 0
+      Numbers ix firsts′ D = FirstsLaid ix (D .left .placed) (D .left .reply .totals .«placed_strips») firsts firsts′
 
-      module _ (q : Step) (placed′ : List Float) (entries′ starts′ looks′ next′ : List ℕ) (d : done q placed′ entries′ starts′ looks′ next′ ≡ Left) where
+      own-firsts : FirstBuckets (sheetIndex (plannerAt j (S .tables) W .bounds)) placed (t .«placed_strips») firsts
+      unfolding plannerAt tablesOf
+      own-firsts = subst (λ (z : Index). FirstBuckets z placed (t .«placed_strips») firsts) (h .index) K
+
+      own-numbers : (firsts′ : List ℕ) (D : Placed) → Numbers (g .index) firsts′ D → Numbers (sheetIndex (plannerAt j (S .tables) W .bounds)) firsts′ D
+      unfolding plannerAt tablesOf
+      own-numbers firsts′ D F = subst (λ (z : Index). Numbers z firsts′ D) (h .index) F
+
+      step-is : (iv : List Float) → length iv ≡ wide → (D : Placed) → D ≡ Left → (firsts′ : List ℕ) → Numbers (g .index) firsts′ D → stepFrom S W iv firsts′ D ≡ coreStep j S W iv
+      step-is iv e D d firsts′ F =
+          ap (stepFrom S W iv firsts′) (d ∙ code-is iv e)
+          ∙ same-core j S W iv k starts kind (L .room) slots (drop (suc i) order) next-order firsts′ own-firsts
+          (subst (Numbers (sheetIndex (plannerAt j (S .tables) W .bounds)) firsts′) (d ∙ code-is iv e) (own-numbers firsts′ D F))
+
+      module _ (q : Step) (placed′ : List Float) (entries′ starts′ looks′ next′ firsts′ : List ℕ) (d : done q placed′ entries′ starts′ looks′ next′ ≡ Left)
+          (F : FirstsLaid (g .index) placed′ (q .totals .«placed_strips») firsts firsts′) where
         abbrev D : Placed
         D = done q placed′ entries′ starts′ looks′ next′
 
@@ -189,11 +206,11 @@ module _ (j : Job) (g : Given) (h : Prepared j g) (order : List ℕ) (r : rearra
         count = omega arith
 
         -- a refusal ends the filling
-        pub held-stops : (c : Refusal) → q .outcome ≡ Refused c → (l : Lent) → length (l .rooms .placed) ≡ length placed → length (l .rooms .placed-entries) ≡ length entries → length (l .intervals) ≡ wide → fillOrder j l order ≡ stopped c
-        held-stops c o l u v w =
+        pub held-stops : (c : Refusal) → q .outcome ≡ Refused c → (l : Lent) → length (l .rooms .placed) ≡ length placed → length (l .rooms .placed-entries) ≡ length entries → length (l .intervals) ≡ wide → length (l .rooms .placed-firsts) ≡ length firsts → fillOrder j l order ≡ stopped c
+        held-stops c o l u v w z =
             let iv = l .intervals in
-            let e : coreStep j S W iv .verdict ≡ Verdicts.Refused c = ap (λ (z : Next.Step). z .verdict) (sym (step-is iv w D d)) ∙ (ap (λ (z : Outcome). stepBy z S W iv D .verdict) o ∙ no-step-refused c S W iv) in
-            sym (b .same l u v w) ∙ (ap (λ (m : ℕ). fillFrom j iv m S W) count ∙ fill-stops j iv (length order - suc i) S W c e)
+            let e : coreStep j S W iv .verdict ≡ Verdicts.Refused c = ap (λ (z : Next.Step). z .verdict) (sym (step-is iv w D d firsts′ F)) ∙ (ap (λ (z : Outcome). stepBy z S W iv firsts′ D .verdict) o ∙ no-step-refused c S W iv) in
+            sym (b .same l u v w z) ∙ (ap (λ (m : ℕ). fillFrom j iv m S W) count ∙ fill-stops j iv (length order - suc i) S W c e)
 
         -- a copy taken
         module _ (orientation′ : List ℕ) (x′ y′ : List Float) (fo : orientation′ ≡ set orientation i (orientationNumber (q .outcome))) (fx : x′ ≡ set x i (outcomeX (q .outcome))) (fy : y′ ≡ set y i (yOf (q .outcome)))
@@ -202,7 +219,7 @@ module _ (j : Job) (g : Given) (h : Prepared j g) (order : List ℕ) (r : rearra
           S′ = stateBy P order (suc i) next′ looks′ (q .totals) orientation′ x′ y′
 
           abbrev W′ : Rooms
-          W′ = roomsBy P (h .lent) placed′ entries′
+          W′ = roomsBy P (h .lent) placed′ entries′ firsts′
 
           in-numbers : i < length {A = ℕ} (replicate 4096 0)
           in-numbers = let e = length-replicate {A = ℕ} 4096 0 in omega arith
@@ -219,15 +236,16 @@ module _ (j : Job) (g : Given) (h : Prepared j g) (order : List ℕ) (r : rearra
           ys-now : set (laid (take i y) (replicate 4096 posZero)) i (yOf (q .outcome)) ≡ laid (take (suc i) y′) (replicate 4096 posZero)
           ys-now = written y (replicate 4096 posZero) i (yOf (q .outcome)) posZero iy in-floats ∙ ap (λ (z : List Float). laid (take (suc i) z) (replicate 4096 posZero)) (sym fy)
 
-          state-now : (iv : List Float) → takenWith S W iv D .state ≡ S′
+          state-now : (iv : List Float) → takenWith S W iv firsts′ D .state ≡ S′
           unfolding entered
           state-now iv =
               ap (λ (z : List ℕ). stateIn (tablesOf P) (S .order) (suc i) next′ looks′ (q .totals) z (set (laid (take i x) (replicate 4096 posZero)) i (outcomeX (q .outcome))) (set (laid (take i y) (replicate 4096 posZero)) i (yOf (q .outcome)))) numbers-now
               ∙ ap₂ (λ (z v : List Float). stateIn (tablesOf P) (S .order) (suc i) next′ looks′ (q .totals) (laid (take (suc i) orientation′) (replicate 4096 0)) z v) xs-now ys-now
 
-          module _ (taken : (iv : List Float) → stepFrom S W iv D ≡ takenWith S W iv D) (lp : length placed′ ≡ length placed) (le : length entries′ ≡ length entries) where
-            core-is : (iv : List Float) → length iv ≡ wide → coreStep j S W iv ≡ takenWith S W iv D
-            core-is iv e = sym (step-is iv e D d) ∙ taken iv
+          module _ (taken : (iv : List Float) → stepFrom S W iv firsts′ D ≡ takenWith S W iv firsts′ D) (lp : length placed′ ≡ length placed) (le : length entries′ ≡ length entries)
+              (lf : length firsts′ ≡ length firsts) where
+            core-is : (iv : List Float) → length iv ≡ wide → coreStep j S W iv ≡ takenWith S W iv firsts′ D
+            core-is iv e = sym (step-is iv e D d firsts′ F) ∙ taken iv
 
             accepted-is : (iv : List Float) → length iv ≡ wide → coreStep j S W iv .verdict ≡ Verdicts.Accepted
             accepted-is iv e = ap (λ (z : Next.Step). z .verdict) (core-is iv e)
@@ -250,14 +268,14 @@ module _ (j : Job) (g : Given) (h : Prepared j g) (order : List ℕ) (r : rearra
                 subst₂ (λ (s : State) (w : Rooms). Own j order s w (plainTake P (b .plain) (b .plain .to-come))) (state-is iv e) (rooms-is iv e)
                 (own-took j (sized (h .bytes) j (h .read)) (jobs-within (h .bytes) j (h .read)) order S W (b .plain) (b .own) (coreStep j S W iv) (took-it iv e))
 
-            pub held-next : Held j (h .lent) order wide (suc i) (q .totals) placed′ entries′ looks′ next′ orientation′ x′ y′
+            pub held-next : Held j (h .lent) order wide (suc i) (q .totals) placed′ entries′ firsts′ looks′ next′ orientation′ x′ y′
             held-next =
                 record {
                   plain = plainTake P (b .plain) (b .plain .to-come);
                   own = own-now (replicate wide posZero) (length-replicate wide posZero);
-                  same = λ l u v w.
+                  same = λ l u v w z.
                       let iv = l .intervals in
                       sym (ap₂ (fillFrom j iv (length order - suc i)) (state-is iv w) (rooms-is iv w))
                       ∙ (sym (fill-on j iv (length order - suc i) S W (accepted-is iv w))
-                      ∙ (ap (λ (m : ℕ). fillFrom j iv m S W) (sym count) ∙ b .same l (u ∙ lp) (v ∙ le) w));
+                      ∙ (ap (λ (m : ℕ). fillFrom j iv m S W) (sym count) ∙ b .same l (u ∙ lp) (v ∙ le) w (z ∙ lf)));
                 }

@@ -80,12 +80,25 @@ metIn ix first b p = eqb b first || eqb (bucketIn ix (p .x0)) b
 unfoldable pub entryOf : Index → Moving → ℕ → ℕ → Trapezoid → List Interval
 entryOf ix m first b p = elim (metIn ix first b p) [ true ↦ pairOf m p | false ↦ [] ]
 
+-- the same with f, the kept number of the bucket of x0
+unfoldable pub entryBy : Moving → ℕ → ℕ → ℕ → Trapezoid → List Interval
+entryBy m first b f p = elim (eqb b first || eqb f b) [ true ↦ pairOf m p | false ↦ [] ]
+
 -- of the c entries from e on
 unfoldable pub listEntries : Index → Moving → ℕ → ℕ → List Float → List ℕ → ℕ → ℕ → List Interval
 listEntries ix m first b standing entries c e = flatMap (λ j. entryOf ix m first b (stripAt standing (getD entries j 0))) (upFrom c e)
 
 unfoldable pub listBucket : Index → Moving → ℕ → List Float → List ℕ → List ℕ → ℕ → List Interval
 listBucket ix m first standing entries starts b = listEntries ix m first b standing entries (getD starts (b + 1) 0 - getD starts b 0) (getD starts b 0)
+
+-- the same two with the kept numbers
+unfoldable pub listEntriesBy : Moving → ℕ → ℕ → List Float → List ℕ → List ℕ → ℕ → ℕ → List Interval
+listEntriesBy m first b standing firsts entries c e =
+    flatMap (λ j. entryBy m first b (getD firsts (getD entries j 0) 0) (stripAt standing (getD entries j 0))) (upFrom c e)
+
+unfoldable pub listBucketBy : Moving → ℕ → List Float → List ℕ → List ℕ → List ℕ → ℕ → List Interval
+listBucketBy m first standing firsts entries starts b =
+    listEntriesBy m first b standing firsts entries (getD starts (b + 1) 0 - getD starts b 0) (getD starts b 0)
 
 unfoldable pub listMoving : Index → List Float → List ℕ → List ℕ → Moving → List Interval
 listMoving ix standing entries starts m =
@@ -111,6 +124,11 @@ pub record Laid (ix : Index) (standing : List Float) (n : ℕ) (entries starts :
   pub within : (b : ℕ) → b < buckets + 1 → getD starts b 0 ≤ length entries
   pub block : (b : ℕ) → b < buckets → slice (getD starts b 0) (getD starts (b + 1) 0) entries ≡ enteredFrom ix standing n b
   pub room : 6 * n ≤ length standing
+
+-- the first n numbers are the first buckets of the first n standing strips (document 02, W3)
+pub record FirstBuckets (ix : Index) (standing : List Float) (n : ℕ) (firsts : List ℕ) : Type 0 where
+  pub long : n ≤ length firsts
+  pub right : (i : ℕ) → i < n → getD firsts i 0 ≡ bucketIn ix (stripAt standing i .x0)
 
 -- a finite double of at most n either way; it may be minus zero
 pub record Bounded (n : ℕ) (x : Float) : Type 0 where

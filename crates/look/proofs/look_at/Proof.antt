@@ -17,19 +17,23 @@ use Rattle.look.proofs.height.height.Reads as height-reads
 
 forbidden-requires : tie.Need-forbidden-requires
 forbidden-requires c κs =
-    let c10 = c .before .before .before .before .before .before .before .before .before .before in
-    let g = c10 .args in
-    let p = c10 .pre in
-    sheet-usable (g .ix) (g .x) (g .y-low) (g .y-high) (g .inset .now) (g .apart .now) (g .sheet .now) (g .placed .now) (g .sheet-entries .now)
-    (g .sheet-starts .now) (g .placed-entries .now) (g .placed-starts .now) p
+    let c12 = c .before .before .before .before .before .before .before .before .before .before .before .before in
+    let g = c12 .args in
+    let q = c12 .pre in (
+      sheet-usable (g .ix) (g .x) (g .y-low) (g .y-high) (g .inset .now) (g .apart .now) (g .sheet .now) (g .placed .now) (g .sheet-entries .now)
+          (g .sheet-starts .now) (g .placed-entries .now) (g .placed-starts .now) (q .0),
+      q .1,
+    )
 
 forbidden-requires-2 : tie.Need-forbidden-requires-2
 forbidden-requires-2 c κs =
-    let c14 = c .before .before .before .before .before .before .before .before .before .before .before .before .before .before in
-    let g = c14 .args in
-    let p = c14 .pre in
-    placed-usable (g .ix) (g .x) (g .y-low) (g .y-high) (g .inset .now) (g .apart .now) (g .sheet .now) (g .placed .now) (g .sheet-entries .now)
-    (g .sheet-starts .now) (g .placed-entries .now) (g .placed-starts .now) p
+    let c16 = c .before .before .before .before .before .before .before .before .before .before .before .before .before .before .before .before in
+    let g = c16 .args in
+    let q = c16 .pre in (
+      placed-usable (g .ix) (g .x) (g .y-low) (g .y-high) (g .inset .now) (g .apart .now) (g .sheet .now) (g .placed .now) (g .sheet-entries .now)
+          (g .sheet-starts .now) (g .placed-entries .now) (g .placed-starts .now) (q .0),
+      q .2,
+    )
 
 same-length : tie.Need-same-length
 same-length c = search needs
@@ -39,9 +43,9 @@ unfolding lookOf
 returns c =
     let c3 = c .before .before .before in
     let c7 = c3 .before .before .before .before in
-    let c18 = c7 .before .before .before .before .before .before .before .before .before .before .before in
-    let g = c18 .args in
-    let p = c18 .pre in
+    let c20 = c7 .before .before .before .before .before .before .before .before .before .before .before .before .before in
+    let g = c20 .args in
+    let p = c20 .pre .0 in
     let E = both-pushed (g .room .now) _ _ _ _ _ _ (c7 .forbidden .ensures) (c3 .forbidden2 .ensures) in
     let w = kept-length (g .room .now) _ 0 _ _ E in
     refused (g .room .now) _ _ (lists (g .ix) (g .x) (g .y-low) (g .y-high) (g .inset .now) (g .apart .now) (g .sheet .now) (g .placed .now)
@@ -57,9 +61,9 @@ height-requires c κs =
     let c1 = c .before in
     let c4 = c1 .before .before .before in
     let c8 = c4 .before .before .before .before in
-    let c19 = c8 .before .before .before .before .before .before .before .before .before .before .before in
-    let g = c19 .args in
-    let p = c19 .pre in
+    let c21 = c8 .before .before .before .before .before .before .before .before .before .before .before .before .before in
+    let g = c21 .args in
+    let p = c21 .pre .0 in
     let E = both-pushed (g .room .now) _ _ _ _ _ _ (c8 .forbidden .ensures) (c4 .forbidden2 .ensures) in
     let w = kept-length (g .room .now) _ 0 _ _ E in
     let h : c4 .forbidden2 .result ≤ length (g .room .now) / 2 = subst (λ (k : ℕ). c4 .forbidden2 .result ≤ k / 2) w (c1 .if1 .left) in (
@@ -84,9 +88,9 @@ unfolding lookOf
 returns-2 c =
     let c7 = c .before .before .before .before .before .before .before in
     let c11 = c7 .before .before .before .before in
-    let c22 = c11 .before .before .before .before .before .before .before .before .before .before .before in
-    let g = c22 .args in
-    let p = c22 .pre in
+    let c24 = c11 .before .before .before .before .before .before .before .before .before .before .before .before .before in
+    let g = c24 .args in
+    let p = c24 .pre .0 in
     let E = both-pushed (g .room .now) _ _ _ _ _ _ (c11 .forbidden .ensures) (c7 .forbidden2 .ensures) in
     let w = kept-length (g .room .now) _ 0 _ _ E in
     let h : c7 .forbidden2 .result ≤ length (g .room .now) / 2 = subst (λ (k : ℕ). c7 .forbidden2 .result ≤ k / 2) w

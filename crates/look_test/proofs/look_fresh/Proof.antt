@@ -1,6 +1,7 @@
 -- `look_test::look_fresh` meets its contract. Assumes nothing.
 use Prim.Native.Nat.{ℕ}
 use mathlib.Core.Path.{sym, _∙_}
+use native.Mathlib.Omega.{arith}
 use lib.ListN.{length-replicate}
 use Rattle.look_test.proofs.Tested.{lookable}
 use Rattle.look_test.proofs.look_fresh.Statement.{statement}
@@ -30,43 +31,61 @@ slice-aggregate-enter-both-4 c = sym (length-replicate {A = ℕ} 513 1)
 slice-aggregate-enter-both-5 : tie.Need-slice-aggregate-enter-both-5
 slice-aggregate-enter-both-5 c = sym (length-replicate {A = ℕ} 512 1)
 
+slice-aggregate-enter-both-6 : tie.Need-slice-aggregate-enter-both-6
+slice-aggregate-enter-both-6 c = sym (length-replicate {A = ℕ} 1020 1)
+
+slice-aggregate-enter-both-7 : tie.Need-slice-aggregate-enter-both-7
+slice-aggregate-enter-both-7 c = sym (length-replicate {A = ℕ} 1020 1)
+
 enter-both-requires : tie.Need-enter-both-requires
 enter-both-requires c κs =
-    let c13 = c .before .before .before .before .before .before .before .before .before .before .before .before .before in
-    let p = c13 .pre in
-    (p .2, p .3, length-replicate {A = ℕ} 513 1, length-replicate {A = ℕ} 513 1, length-replicate {A = ℕ} 512 1)
+    let c15 = c .before .before .before .before .before .before .before .before .before .before .before .before .before .before .before in
+    let p = c15 .pre in
+    let k = length-replicate {A = ℕ} 1020 1 in
+    (p .2, p .3, length-replicate {A = ℕ} 513 1, length-replicate {A = ℕ} 513 1, length-replicate {A = ℕ} 512 1, omega (arith, k), omega (arith, k))
 
 slice-aggregate-look-twice : tie.Need-slice-aggregate-look-twice
 slice-aggregate-look-twice c =
-    let c7 = c .before .before .before .before .before .before .before in
-    let c15 = c7 .before .before .before .before .before .before .before .before in
-    c15 .table .ensures ∙ sym (c7 .enter-both .kept .1 .1 .1 .0)
+    let c9 = c .before .before .before .before .before .before .before .before .before in
+    let c19 = c9 .before .before .before .before .before .before .before .before .before .before in
+    c19 .table .ensures ∙ sym (c9 .enter-both .kept .1 .1 .1 .0)
 
 slice-aggregate-look-twice-2 : tie.Need-slice-aggregate-look-twice-2
 slice-aggregate-look-twice-2 c =
-    let c8 = c .before .before .before .before .before .before .before .before in
-    sym (c8 .enter-both .kept .1 .1 .1 .1 .0 ∙ length-replicate {A = ℕ} 513 1)
+    let c10 = c .before .before .before .before .before .before .before .before .before .before in
+    sym (c10 .enter-both .kept .1 .1 .1 .1 .0 ∙ length-replicate {A = ℕ} 513 1)
 
 slice-aggregate-look-twice-3 : tie.Need-slice-aggregate-look-twice-3
 slice-aggregate-look-twice-3 c =
-    let c9 = c .before .before .before .before .before .before .before .before .before in
-    let c16 = c9 .before .before .before .before .before .before .before in
-    c16 .table2 .ensures ∙ sym (c9 .enter-both .kept .1 .1 .1 .1 .1 .0)
+    let c11 = c .before .before .before .before .before .before .before .before .before .before .before in
+    let c20 = c11 .before .before .before .before .before .before .before .before .before in
+    c20 .table2 .ensures ∙ sym (c11 .enter-both .kept .1 .1 .1 .1 .1 .0)
 
 slice-aggregate-look-twice-4 : tie.Need-slice-aggregate-look-twice-4
 slice-aggregate-look-twice-4 c =
-    let c10 = c .before .before .before .before .before .before .before .before .before .before in
-    sym (c10 .enter-both .kept .1 .1 .1 .1 .1 .1 .0 ∙ length-replicate {A = ℕ} 513 1)
+    let c12 = c .before .before .before .before .before .before .before .before .before .before .before .before in
+    sym (c12 .enter-both .kept .1 .1 .1 .1 .1 .1 .0 ∙ length-replicate {A = ℕ} 513 1)
+
+slice-aggregate-look-twice-5 : tie.Need-slice-aggregate-look-twice-5
+slice-aggregate-look-twice-5 c =
+    let c14 = c .before .before .before .before .before .before .before .before .before .before .before .before .before .before in
+    sym (c14 .enter-both .kept .1 .1 .1 .1 .1 .1 .1 .1 .0 ∙ length-replicate {A = ℕ} 1020 1)
+
+slice-aggregate-look-twice-6 : tie.Need-slice-aggregate-look-twice-6
+slice-aggregate-look-twice-6 c =
+    let c15 = c .before .before .before .before .before .before .before .before .before .before .before .before .before .before .before in
+    sym (c15 .enter-both .kept .1 .1 .1 .1 .1 .1 .1 .1 .1 .0 ∙ length-replicate {A = ℕ} 1020 1)
 
 look-twice-requires : tie.Need-look-twice-requires
 look-twice-requires c κs =
-    let c11 = c .before .before .before .before .before .before .before .before .before .before .before in
-    let c17 = c11 .before .before .before .before .before .before in
-    let c25 = c17 .before .before .before .before .before .before .before .before in
-    let n = c17 .new in
-    let e = c11 .enter-both .ensures (c .before .before .before .before .before .if1 .taken) in
-    let p = c25 .pre in
-    lookable _ _ _ _ _ _ _ _ _ _ _ _ _ (n .result) (n .ensures) (p .0) (p .1) (e .0) (e .1)
+    let c7 = c .before .before .before .before .before .before .before in
+    let c15 = c7 .before .before .before .before .before .before .before .before in
+    let c23 = c15 .before .before .before .before .before .before .before .before in
+    let c31 = c23 .before .before .before .before .before .before .before .before in
+    let n = c23 .new in
+    let e = c15 .enter-both .ensures (c7 .if1 .taken) in
+    let p = c31 .pre in
+    (lookable _ _ _ _ _ _ _ _ _ _ _ _ _ (n .result) (n .ensures) (p .0) (p .1) (e .0 .laid) (e .1 .laid), e .0 .kept, e .1 .kept)
 
 same-length : tie.Need-same-length
 same-length c = c .before .before .look-twice .kept .1 .1 .1 .1 .1 .1 .1 .1 .1 .1 .1 .1 .0
@@ -92,11 +111,15 @@ look-fresh-spec =
     slice-aggregate-enter-both-3
     slice-aggregate-enter-both-4
     slice-aggregate-enter-both-5
+    slice-aggregate-enter-both-6
+    slice-aggregate-enter-both-7
     enter-both-requires
     slice-aggregate-look-twice
     slice-aggregate-look-twice-2
     slice-aggregate-look-twice-3
     slice-aggregate-look-twice-4
+    slice-aggregate-look-twice-5
+    slice-aggregate-look-twice-6
     look-twice-requires
     same-length
     returns

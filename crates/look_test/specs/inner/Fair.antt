@@ -5,7 +5,7 @@ use lib.ListN.{length, getD}
 use lib.Ieee.{Float, nan}
 use Rattle.trapezoid.specs.Strip.{capacity}
 use Rattle.index.specs.declared.Index.{Index}
-use Rattle.index.specs.inner.Listing.{Laid, Bounded}
+use Rattle.index.specs.inner.Listing.{Laid, FirstBuckets, Bounded}
 use Rattle.look.specs.inner.Ready.{BoundedStrips}
 
 -- the ends of the sheet, the column and the two heights
@@ -24,5 +24,6 @@ pub record FairStrips (sheet placed inset apart : List Float) : Type 0 where
   pub aparts : BoundedStrips apart
 
 -- all strips of a room are entered
-abbrev pub Entered : Index → List Float → List ℕ → List ℕ → Type 0
-Entered ix standing entries starts = Laid ix standing (capacity standing) entries starts
+pub record Entered (ix : Index) (standing : List Float) (entries starts firsts : List ℕ) : Type 0 where
+  pub laid : Laid ix standing (capacity standing) entries starts
+  pub kept : FirstBuckets ix standing (capacity standing) firsts

@@ -5,7 +5,7 @@ use Prim.Native.Nat.{_/_, _+_, _-_, _*_}
 use lib.ListN.{length, take}
 use Rattle.rooms.specs.tracks.inner.Tracks.{nextColumns, lookCounts}
 use Rattle.choose.specs.inner.Choosing.{surroundingsIn}
-use Rattle.place.proofs.Readying.{ready-of}
+use Rattle.place.proofs.Readying.{ready-of, prefix-firsts}
 use Rattle.place.proofs.Putting.{chosen-among, settled-under, place-is, prefix-length}
 use borrow.Author.Needs.{needs}
 use Rattle.place.proofs.place_copy.Statement.{statement}
@@ -16,28 +16,30 @@ use Rattle.choose.proofs.choose.Reads as choose-reads
 use Rattle.place.proofs.settle.Reads as settle-reads
 
 mul-end : tie.Need-mul-end
-mul-end c = record {
-  fits = omega (
-    arith,
-    c .before .before .before .before .before .before .before .before .before .before .before .before .pre .4 .laid .room,
-    c .before .before .before .before .before .before .before .before .before .before .before .before .good .1 .1 .1 .1 .1 .1 .1 .1 .1 .0 .0,
-  );
-}
+mul-end c =
+    let c14 = c .before .before .before .before .before .before .before .before .before .before .before .before .before .before in
+    record {
+      fits = omega (
+        arith,
+        c14 .pre .4 .laid .room,
+        c14 .good .1 .1 .1 .1 .1 .1 .1 .1 .1 .0 .0,
+      );
+    }
 
 slice-reshare-prefix-choose : tie.Need-slice-reshare-prefix-choose
 slice-reshare-prefix-choose c = search needs
 
 slice-aggregate-choose : tie.Need-slice-aggregate-choose
 slice-aggregate-choose c =
-    let c13 = c .before .before .before .before .before .before .before .before .before .before .before .before .before in
-    let a = c13 .args in prefix-length (a .t .«placed_strips») (a .placed .now) (c13 .pre .4 .laid .room)
+    let c15 = c .before .before .before .before .before .before .before .before .before .before .before .before .before .before .before in
+    let a = c15 .args in prefix-length (a .t .«placed_strips») (a .placed .now) (c15 .pre .4 .laid .room)
 
 choose-requires : tie.Need-choose-requires
 choose-requires c κs =
     let c16 = c .before .before .before .before .before .before .before .before .before .before .before .before .before .before .before .before in
-    let c17 = c16 .before in
-    let a = c17 .args in
-    let p = c17 .pre in
+    let c20 = c16 .before .before .before .before in
+    let a = c20 .args in
+    let p = c20 .pre in
     let w = surroundingsIn (length (a .room .now) / 2) (a .g) (a .inset-bounds .now) (a .parts .now) (a .shapes .now) (a .sheet .now)
     (take (6 * a .t .«placed_strips») (a .placed .now)) in (
       (λ o h. ready-of (a .g .index) (a .placed .now) (a .t .«placed_strips») (a .entries .now) (a .starts .now) (p .4) w (a .sheet-entries .now)
@@ -47,24 +49,27 @@ choose-requires c κs =
       p .2,
       p .3,
       p .6,
+      p .7,
+      prefix-firsts (a .g .index) (a .placed .now) (a .t .«placed_strips») (a .entries .now) (a .starts .now) (p .4) (a .firsts .now) (p .8),
     )
 
 settle-requires : tie.Need-settle-requires
 settle-requires c κs =
-    let c8 = c .before .before .before .before .before .before .before .before in
-    let c24 = c8 .before .before .before .before .before .before .before .before .before .before .before .before .before .before .before .before in
-    let c26 = c24 .before .before in
-    let a = c26 .args in
-    let p = c26 .pre in
+    let c9 = c .before .before .before .before .before .before .before .before .before in
+    let c25 = c9 .before .before .before .before .before .before .before .before .before .before .before .before .before .before .before .before in
+    let c30 = c25 .before .before .before .before .before in
+    let a = c30 .args in
+    let p = c30 .pre in
     let w = surroundingsIn (length (a .room .now) / 2) (a .g) (a .inset-bounds .now) (a .parts .now) (a .shapes .now) (a .sheet .now)
     (take (6 * a .t .«placed_strips») (a .placed .now)) in (
       p .4 .laid,
       p .5,
       (λ o h. p .0 o h .parted),
-      chosen-among w (a .copy .slot) (a .copy .orientations) (c8 .choose .result) (lookCounts (a .tracks .now)) (nextColumns (a .tracks .now)) _ _
-          (c8 .choose .ensures),
+      chosen-among w (a .copy .slot) (a .copy .orientations) (c9 .choose .result) (lookCounts (a .tracks .now)) (nextColumns (a .tracks .now)) _ _
+          (c9 .choose .ensures),
       p .1,
       p .6,
+      p .8,
     )
 
 same-length : tie.Need-same-length
@@ -85,25 +90,30 @@ same-length-5 c = search needs
 same-length-6 : tie.Need-same-length-6
 same-length-6 c = search needs
 
+same-length-7 : tie.Need-same-length-7
+same-length-7 c = search needs
+
 returns : tie.Need-returns
 returns c =
-    let c8 = c .before .before .before .before .before .before .before .before in
-    let c17 = c8 .before .before .before .before .before .before .before .before .before in
-    let c33 = c17 .before .before .before .before .before .before .before .before .before .before .before .before .before .before .before .before in
-    let c35 = c33 .before .before in
-    let a = c35 .args in
+    let c10 = c .before .before .before .before .before .before .before .before .before .before in
+    let c20 = c10 .before .before .before .before .before .before .before .before .before .before in
+    let c36 = c20 .before .before .before .before .before .before .before .before .before .before .before .before .before .before .before .before in
+    let c41 = c36 .before .before .before .before .before in
+    let a = c41 .args in
     let w = surroundingsIn (length (a .room .now) / 2) (a .g) (a .inset-bounds .now) (a .parts .now) (a .shapes .now) (a .sheet .now)
     (take (6 * a .t .«placed_strips») (a .placed .now)) in
-    let C = c17 .choose .ensures in
-    let E = c8 .settle .ensures in (
+    let C = c20 .choose .ensures in
+    let E = c10 .settle .ensures in (
       place-is (a .g .index) w (a .copy .area) (a .copy .slot) (a .copy .orientations) (a .t) (a .placed .now) (a .entries .now) (a .starts .now)
-          (lookCounts (a .tracks .now)) (nextColumns (a .tracks .now)) (c17 .choose .result) (c8 .settle .result) _ _ _ _ _ C (E .0),
+          (a .firsts .now)
+          (lookCounts (a .tracks .now)) (nextColumns (a .tracks .now)) (c20 .choose .result) (c10 .settle .result) _ _ _ _ _ C (E .0),
       E .1,
-      settled-under (a .g .index) (a .copy .orientations) (c17 .choose .result) (a .copy .area) (a .copy .slot) (a .t) (a .parts .now)
+      settled-under (a .g .index) (a .copy .orientations) (c20 .choose .result) (a .copy .area) (a .copy .slot) (a .t) (a .parts .now)
           (take (6 * a .g .«apart_strips») (a .shapes .now))
-          (a .placed .now) (a .entries .now) (a .starts .now) (c8 .settle .result) _ _ _
-          (chosen-among w (a .copy .slot) (a .copy .orientations) (c17 .choose .result) (lookCounts (a .tracks .now)) (nextColumns (a .tracks .now)) _ _ C)
+          (a .placed .now) (a .entries .now) (a .starts .now) (a .firsts .now) (c10 .settle .result) _ _ _
+          (chosen-among w (a .copy .slot) (a .copy .orientations) (c20 .choose .result) (lookCounts (a .tracks .now)) (nextColumns (a .tracks .now)) _ _ C)
           (E .0),
+      E .2,
     )
 
 pub place-copy-spec : {M : Type 1} → statement M
@@ -121,4 +131,5 @@ place-copy-spec =
     same-length-4
     same-length-5
     same-length-6
+    same-length-7
     returns)

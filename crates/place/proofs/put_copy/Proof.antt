@@ -3,7 +3,7 @@ use mathlib.Core.Path.{sym}
 use Prim.Native.Nat.{_-_, _*_}
 use lib.ListN.{take}
 use lib.Seq.{length-take-le}
-use Rattle.place.proofs.Putting.{put-is, put-laid}
+use Rattle.place.proofs.Putting.{put-is, put-laid, put-firsts}
 use Rattle.store.proofs.Whole.{sum-fits}
 use borrow.Author.Needs.{needs}
 use Rattle.place.proofs.put_copy.Statement.{statement}
@@ -20,8 +20,8 @@ mul-end c = search needs
 
 slice-aggregate-strips-of : tie.Need-slice-aggregate-strips-of
 slice-aggregate-strips-of c =
-    let c7 = c .before .before .before .before .before .before .before in
-    sym (length-take-le (6 * c7 .args .g .«apart_strips») (c7 .args .shapes .now) (c7 .pre .2))
+    let c8 = c .before .before .before .before .before .before .before .before in
+    sym (length-take-le (6 * c8 .args .g .«apart_strips») (c8 .args .shapes .now) (c8 .pre .2))
 
 mul-strips-of : tie.Need-mul-strips-of
 mul-strips-of c = search needs
@@ -43,17 +43,17 @@ capacity-requires c κs = tt
 
 store-copy-requires : tie.Need-store-copy-requires
 store-copy-requires c κs =
-    let c14 = c .before .before .before .before .before .before .before .before .before .before .before .before .before .before in
-    let p = c14 .pre in (p .0, p .1)
+    let c16 = c .before .before .before .before .before .before .before .before .before .before .before .before .before .before .before .before in
+    let p = c16 .pre in (p .0, p .1, p .3)
 
 after-requires : tie.Need-after-requires
 after-requires c κs =
-    let c13 = c .before .before .before .before .before .before .before .before .before .before .before .before .before in
-    let c14 = c13 .before in
-    let c23 = c14 .before .before .before .before .before .before .before .before .before in
-    let a = c23 .args in
-    sum-fits (a .placed .now) (c14 .strips-of .result .now) (a .t .«placed_strips») _ (c23 .pre .0 .room) (c23 .good .1 .1 .1 .1 .1 .0 .0)
-    (c13 .capacity .ensures) (c14 .strips-of .ok .0)
+    let c16 = c .before .before .before .before .before .before .before .before .before .before .before .before .before .before .before .before in
+    let c17 = c16 .before in
+    let c27 = c17 .before .before .before .before .before .before .before .before .before .before in
+    let a = c27 .args in
+    sum-fits (a .placed .now) (c17 .strips-of .result .now) (a .t .«placed_strips») _ (c27 .pre .0 .room) (c27 .good .1 .1 .1 .1 .1 .0 .0)
+    (c16 .capacity .ensures) (c17 .strips-of .ok .0)
 
 same-length : tie.Need-same-length
 same-length c = search needs
@@ -67,21 +67,29 @@ same-length-3 c = search needs
 same-length-4 : tie.Need-same-length-4
 same-length-4 c = search needs
 
+same-length-5 : tie.Need-same-length-5
+same-length-5 c = search needs
+
 returns : tie.Need-returns
 returns c =
-    let c9 = c .before .before .before .before .before .before .before .before .before in
-    let c14 = c9 .before .before .before .before .before in
-    let c15 = c14 .before in
-    let c24 = c15 .before .before .before .before .before .before .before .before .before in
-    let a = c24 .args in
+    let c11 = c .before .before .before .before .before .before .before .before .before .before .before in
+    let c17 = c11 .before .before .before .before .before .before in
+    let c18 = c17 .before in
+    let c28 = c18 .before .before .before .before .before .before .before .before .before .before in
+    let a = c28 .args in
     let n = 6 * a .g .«apart_strips» in
-    let E = c9 .store-copy .ensures in (
-      put-is (a .g .index) (a .p) (a .q) (a .t) (take n (a .shapes .now)) (a .placed .now) (a .entries .now) (a .starts .now) (c15 .strips-of .result .now)
-          (c14 .capacity .result) (c9 .store-copy .result) _ _ _ (c .after .result) (c15 .strips-of .ensures) (c14 .capacity .ensures) (c .after .ensures)
+    let E = c11 .store-copy .ensures in (
+      put-is (a .g .index) (a .p) (a .q) (a .t) (take n (a .shapes .now)) (a .placed .now) (a .entries .now) (a .starts .now) (a .firsts .now)
+          (c18 .strips-of .result .now)
+          (c17 .capacity .result) (c11 .store-copy .result) _ _ _ (c .after .result) (c18 .strips-of .ensures) (c17 .capacity .ensures) (c .after .ensures)
           (E .0),
-      put-laid (a .g .index) (a .p) (a .q) (a .t) (take n (a .shapes .now)) (a .placed .now) (a .entries .now) (a .starts .now) (c15 .strips-of .result .now)
-          (c14 .capacity .result) (c9 .store-copy .result) _ _ _ (c .after .result) (c15 .strips-of .ensures) (c14 .capacity .ensures) (c .after .ensures)
+      put-laid (a .g .index) (a .p) (a .q) (a .t) (take n (a .shapes .now)) (a .placed .now) (a .entries .now) (a .starts .now) (a .firsts .now)
+          (c18 .strips-of .result .now)
+          (c17 .capacity .result) (c11 .store-copy .result) _ _ _ (c .after .result) (c18 .strips-of .ensures) (c17 .capacity .ensures) (c .after .ensures)
           (E .1),
+      put-firsts (a .g .index) (a .p) (a .t) _ (a .firsts .now) _ (c17 .capacity .result) _ (c11 .store-copy .result) (c .after .result)
+          (c17 .capacity .ensures)
+          (c .after .ensures) (E .2),
     )
 
 pub put-copy-spec : {M : Type 1} → statement M
@@ -102,4 +110,5 @@ put-copy-spec =
     same-length-2
     same-length-3
     same-length-4
+    same-length-5
     returns)

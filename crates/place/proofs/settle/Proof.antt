@@ -5,7 +5,8 @@ use lib.ListN.{take}
 use Rattle.choose.specs.declared.Winner.{Winner}
 use Rattle.place.specs.declared.Step.{Step}
 use Rattle.place.specs.inner.Placing.{put, settleOf}
-use Rattle.place.proofs.Putting.{slot-fits, among-at, settle-at, without-laid}
+use Rattle.place.proofs.Putting.{slot-fits, among-at, settle-at, without-laid, without-firsts}
+use Rattle.store.proofs.Firsts.{firsts-same}
 use borrow.Author.Needs.{needs}
 use Rattle.place.proofs.settle.Statement.{statement}
 use Rattle.place.proofs.settle.Tie as tie
@@ -20,9 +21,9 @@ enum-known-winner c = search needs
 
 add-part-at : tie.Need-add-part-at
 add-part-at c =
-    let c11 = c .before .before .before .before .before .before .before .before .before .before .before in
-    let a = c11 .args in
-    let p = c11 .pre in
+    let c12 = c .before .before .before .before .before .before .before .before .before .before .before .before in
+    let a = c12 .args in
+    let p = c12 .pre in
     record {
       fits = slot-fits (a .copy .slot) _ (a .copy .orientations) (among-at (a .copy .orientations) (a .winner) _ (p .3)
           (c .before .before .before .winner .given .1)) (p .4);
@@ -30,15 +31,16 @@ add-part-at c =
 
 part-at-requires : tie.Need-part-at-requires
 part-at-requires c κs =
-    let c11 = c .before .before .before .before .before .before .before .before .before .before .before in
-    let a = c11 .args in
-    let p = c11 .pre in
+    let c12 = c .before .before .before .before .before .before .before .before .before .before .before .before in
+    let a = c12 .args in
+    let p = c12 .pre in
     p .2 _ (among-at (a .copy .orientations) (a .winner) _ (p .3) (c .before .before .before .winner .given .1))
 
 put-copy-requires : tie.Need-put-copy-requires
 put-copy-requires c κs =
     let c16 = c .before .before .before .before .before .before .before .before .before .before .before .before .before .before .before .before in
-    let p = c16 .pre in (p .0, p .1, p .5)
+    let c18 = c16 .before .before in
+    let p = c18 .pre in (p .0, p .1, p .5, p .6)
 
 enum-told : tie.Need-enum-told
 enum-told c = search needs
@@ -61,39 +63,45 @@ same-length-3 c = search needs
 same-length-4 : tie.Need-same-length-4
 same-length-4 c = search needs
 
+same-length-5 : tie.Need-same-length-5
+same-length-5 c = search needs
+
 returns : tie.Need-returns
 returns c =
-    let c8 = c .before .before .before .before .before .before .before .before in
-    let c13 = c8 .before .before .before .before .before in
-    let c17 = c13 .before .before .before .before in
-    let c25 = c17 .before .before .before .before .before .before .before .before in
-    let a = c25 .args in
-    let E = c8 .put-copy .ensures in (
-      settle-at (a .g .index) (a .winner) _ (c13 .part-at .result) (a .copy .area) (a .copy .slot) (a .t) (a .parts .now)
+    let c10 = c .before .before .before .before .before .before .before .before .before .before in
+    let c16 = c10 .before .before .before .before .before .before in
+    let c20 = c16 .before .before .before .before in
+    let c29 = c20 .before .before .before .before .before .before .before .before .before in
+    let a = c29 .args in
+    let E = c10 .put-copy .ensures in (
+      settle-at (a .g .index) (a .winner) _ (c16 .part-at .result) (a .copy .area) (a .copy .slot) (a .t) (a .parts .now)
           (take (6 * a .g .«apart_strips») (a .shapes .now))
-          (a .placed .now) (a .entries .now) (a .starts .now) _ (c17 .winner .given .1) (c13 .part-at .ensures) (E .0),
+          (a .placed .now) (a .entries .now) (a .starts .now) (a .firsts .now) _ (c20 .winner .given .1) (c16 .part-at .ensures) (E .0),
       E .1,
+      E .2,
     )
 
 returns-2 : tie.Need-returns-2
 returns-2 c =
-    let c9 = c .before .before .before .before .before .before .before .before .before in
-    let a = c9 .args in (
+    let c10 = c .before .before .before .before .before .before .before .before .before .before in
+    let a = c10 .args in (
       ap (λ (z : Step). put z (a .placed .now) (a .entries .now) (a .starts .now)) (c .without .ensures)
           ∙ sym (ap (λ (z : Winner). settleOf (a .g .index) z (a .copy .area) (a .copy .slot) (a .t) (a .parts .now)
           (take (6 * a .g .«apart_strips») (a .shapes .now))
-          (a .placed .now) (a .entries .now) (a .starts .now)) (c .before .enum-told .given .1)),
-      without-laid (a .g .index) (a .t) (a .copy .area) (a .placed .now) (a .entries .now) (a .starts .now) _ (c .without .ensures) (c9 .pre .0),
+          (a .placed .now) (a .entries .now) (a .starts .now) (a .firsts .now)) (c .before .enum-told .given .1)),
+      without-laid (a .g .index) (a .t) (a .copy .area) (a .placed .now) (a .entries .now) (a .starts .now) _ (c .without .ensures) (c10 .pre .0),
+      without-firsts (a .g .index) (a .t) (a .copy .area) (a .placed .now) (a .firsts .now) _ (c .without .ensures) (c10 .pre .6),
     )
 
 returns-3 : tie.Need-returns-3
 returns-3 c =
-    let c8 = c .before .before .before .before .before .before .before .before in
-    let a = c8 .args in (
+    let c9 = c .before .before .before .before .before .before .before .before .before in
+    let a = c9 .args in (
       sym (ap (λ (z : Winner). settleOf (a .g .index) z (a .copy .area) (a .copy .slot) (a .t) (a .parts .now)
           (take (6 * a .g .«apart_strips») (a .shapes .now))
-          (a .placed .now) (a .entries .now) (a .starts .now)) (c .enum-told2 .given .1)),
-      c8 .pre .0,
+          (a .placed .now) (a .entries .now) (a .starts .now) (a .firsts .now)) (c .enum-told2 .given .1)),
+      c9 .pre .0,
+      firsts-same (a .g .index) (a .placed .now) (a .t .«placed_strips») (a .firsts .now) (c9 .pre .6),
     )
 
 pub settle-spec : {M : Type 1} → statement M
@@ -111,6 +119,7 @@ settle-spec =
     same-length-2
     same-length-3
     same-length-4
+    same-length-5
     returns
     returns-2
     returns-3)

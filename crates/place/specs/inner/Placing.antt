@@ -64,13 +64,14 @@ put r p e s = record { reply = r; placed = p; entries = e; starts = s }
 unfoldable pub putLeft : Choice → Totals → ℕ → Left → PutLeft
 putLeft p t k f = put (afterOf (f .answer) p t k) (f .placed) (f .entries) (f .starts)
 
-unfoldable pub putOf : Index → Choice → Part → Totals → List Float → List Float → List ℕ → List ℕ → PutLeft
-putOf ix p q t apart placed e s = putLeft p t (capacity (apartPart q apart)) (storeOf ix (apartPart q apart) (p .x) (p .y) (t .«placed_strips») placed e s)
+unfoldable pub putOf : Index → Choice → Part → Totals → List Float → List Float → List ℕ → List ℕ → List ℕ → PutLeft
+putOf ix p q t apart placed e s f =
+    putLeft p t (capacity (apartPart q apart)) (storeOf ix (apartPart q apart) (p .x) (p .y) (t .«placed_strips») placed e s f)
 
-abbrev pub settleOf : Index → Winner → Float → ℕ → Totals → List ℕ → List Float → List Float → List ℕ → List ℕ → PutLeft
-settleOf ix (Winners.At p) area slot t parts apart placed e s = putOf ix p (partAt parts (slot + p .orientation)) t apart placed e s
-settleOf ix Winners.Nowhere area slot t parts apart placed e s = put (withoutOf t area) placed e s
-settleOf ix Winners.Overflow area slot t parts apart placed e s = put (step (Refused IntervalRoom) t) placed e s
+abbrev pub settleOf : Index → Winner → Float → ℕ → Totals → List ℕ → List Float → List Float → List ℕ → List ℕ → List ℕ → PutLeft
+settleOf ix (Winners.At p) area slot t parts apart placed e s f = putOf ix p (partAt parts (slot + p .orientation)) t apart placed e s f
+settleOf ix Winners.Nowhere area slot t parts apart placed e s f = put (withoutOf t area) placed e s
+settleOf ix Winners.Overflow area slot t parts apart placed e s f = put (step (Refused IntervalRoom) t) placed e s
 
 -- the winner is one of the n orientations
 abbrev pub Among : ℕ → Winner → Type 0
@@ -91,12 +92,13 @@ pub record Placed : Type 0 where
 abbrev pub done : Step → List Float → List ℕ → List ℕ → List ℕ → List ℕ → Placed
 done r p e s counts next = record { left = put r p e s; counts = counts; next = next }
 
-unfoldable pub placeWith : Index → Surroundings → Float → ℕ → Totals → List Float → List ℕ → List ℕ → Chosen → Placed
-placeWith ix w area slot t placed e s c =
-    record { left = settleOf ix (c .winner) area slot t (w .parts) (w .apart) placed e s; counts = c .counts; next = c .next }
+unfoldable pub placeWith : Index → Surroundings → Float → ℕ → Totals → List Float → List ℕ → List ℕ → List ℕ → Chosen → Placed
+placeWith ix w area slot t placed e s f c =
+    record { left = settleOf ix (c .winner) area slot t (w .parts) (w .apart) placed e s f; counts = c .counts; next = c .next }
 
-unfoldable pub placeOf : Index → Surroundings → Float → ℕ → ℕ → Totals → List Float → List ℕ → List ℕ → List ℕ → List ℕ → Placed
-placeOf ix w area slot n t placed e s counts next = placeWith ix w area slot t placed e s (chooseFrom w slot n 0 (chosen Winners.Nowhere counts next))
+-- the numbers f of the placed strips count for 20 alone
+unfoldable pub placeOf : Index → Surroundings → Float → ℕ → ℕ → Totals → List Float → List ℕ → List ℕ → List ℕ → List ℕ → List ℕ → Placed
+placeOf ix w area slot n t placed e s f counts next = placeWith ix w area slot t placed e s f (chooseFrom w slot n 0 (chosen Winners.Nowhere counts next))
 
 -- ---- what is written down of a copy: 0 for none, or 1 + orientation with x and y
 abbrev pub orientationNumber : Outcome → ℕ

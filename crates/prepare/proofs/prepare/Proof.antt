@@ -15,11 +15,8 @@ zero-at (suc n) (suc b) = zero-at n b
 slice-aggregate-lay-sheet : tie.Need-slice-aggregate-lay-sheet
 slice-aggregate-lay-sheet c = refl
 
-slice-aggregate-lay-sheet-2 : tie.Need-slice-aggregate-lay-sheet-2
-slice-aggregate-lay-sheet-2 c = refl
-
 lay-sheet-requires : tie.Need-lay-sheet-requires
-lay-sheet-requires c κs = (refl, zero-at 513, refl)
+lay-sheet-requires c κs = (refl, zero-at 513)
 
 enum-known-sheet-bounds : tie.Need-enum-known-sheet-bounds
 enum-known-sheet-bounds c = search needs
@@ -33,8 +30,8 @@ slice-aggregate-lay-shapes-2 c = refl
 lay-shapes-requires : tie.Need-lay-shapes-requires
 lay-shapes-requires c κs =
     let c16 = c .before .before .before .before .before .before .before .before .before .before .before .before .before .before .before .before in
-    let c23 = c16 .before .before .before .before .before .before .before in
-    (c23 .pre .0, c23 .pre .1, refl, refl)
+    let c25 = c16 .before .before .before .before .before .before .before .before .before in
+    (c25 .pre .0, c25 .pre .1, refl, refl)
 
 enum-known-apart-strips : tie.Need-enum-known-apart-strips
 enum-known-apart-strips c = search needs
@@ -65,91 +62,113 @@ same-length c =
 same-length-2 : tie.Need-same-length-2
 same-length-2 c =
     let c16 = c .before .before .before .before .before .before .before .before .before .before .before .before .before .before .before .before in
-    let c20 = c16 .before .before .before .before in
-    c20 .lay-sheet .kept .1 .1 .0
+    let c21 = c16 .before .before .before .before .before in
+    c21 .lay-sheet .kept .1 .1 .0
 
 same-length-3 : tie.Need-same-length-3
 same-length-3 c =
     let c16 = c .before .before .before .before .before .before .before .before .before .before .before .before .before .before .before .before in
-    let c20 = c16 .before .before .before .before in
-    c20 .lay-sheet .kept .1 .1 .1 .0
+    let c21 = c16 .before .before .before .before .before in
+    c21 .lay-sheet .kept .1 .1 .1 .0
+
+same-length-4 : tie.Need-same-length-4
+same-length-4 c =
+    let c16 = c .before .before .before .before .before .before .before .before .before .before .before .before .before .before .before .before in
+    let c21 = c16 .before .before .before .before .before in
+    c21 .lay-sheet .kept .1 .1 .1 .1 .1 .0
 
 returns : tie.Need-returns
 returns c =
     let c7 = c .before .before .before .before .before .before .before in
     let c12 = c7 .before .before .before .before .before in
-    let c20 = c12 .before .before .before .before .before .before .before .before in
-    let c31 = c20 .before .before .before .before .before .before .before .before .before .before .before in
-    let a = c31 .args in
-    λ j T H. all-ready (a .bytes .now) (a .rows .now) (a .places .now) (a .at) (a .h .kinds) j T (c20 .lay-sheet .result)
-    (a .shapes .now) _ (a .sheet .now) _ (a .sheet-entries .now) _ _ (c20 .lay-sheet .ensures)
+    let c21 = c12 .before .before .before .before .before .before .before .before .before in
+    let c33 = c21 .before .before .before .before .before .before .before .before .before .before .before .before in
+    let a = c33 .args in
+    λ j T H. all-ready (a .bytes .now) (a .rows .now) (a .places .now) (a .at) (a .h .kinds) j T (c21 .lay-sheet .result)
+    (a .shapes .now) _ (a .sheet .now) _ (a .sheet-entries .now) _ _ (a .sheet-firsts .now) _ (c21 .lay-sheet .ensures)
     _ _ (c12 .sheet-bounds .given .1) (c7 .lay-shapes .result) _ _ (c7 .lay-shapes .ensures) (a .h) H _ _ (c .before .apart-strips .given .1)
-
-same-length-4 : tie.Need-same-length-4
-same-length-4 c =
-    let c7 = c .before .before .before .before .before .before .before in
-    c7 .lay-shapes .kept .1 .1 .1 .1 .0
 
 same-length-5 : tie.Need-same-length-5
 same-length-5 c =
-    let c16 = c .before .before .before .before .before .before .before .before .before .before .before .before .before .before .before .before in
-    let c20 = c16 .before .before .before .before in
-    c20 .lay-sheet .kept .1 .1 .0
+    let c7 = c .before .before .before .before .before .before .before in
+    c7 .lay-shapes .kept .1 .1 .1 .1 .0
 
 same-length-6 : tie.Need-same-length-6
 same-length-6 c =
     let c16 = c .before .before .before .before .before .before .before .before .before .before .before .before .before .before .before .before in
-    let c20 = c16 .before .before .before .before in
-    c20 .lay-sheet .kept .1 .1 .1 .0
+    let c21 = c16 .before .before .before .before .before in
+    c21 .lay-sheet .kept .1 .1 .0
+
+same-length-7 : tie.Need-same-length-7
+same-length-7 c =
+    let c16 = c .before .before .before .before .before .before .before .before .before .before .before .before .before .before .before .before in
+    let c21 = c16 .before .before .before .before .before in
+    c21 .lay-sheet .kept .1 .1 .1 .0
+
+same-length-8 : tie.Need-same-length-8
+same-length-8 c =
+    let c16 = c .before .before .before .before .before .before .before .before .before .before .before .before .before .before .before .before in
+    let c21 = c16 .before .before .before .before .before in
+    c21 .lay-sheet .kept .1 .1 .1 .1 .1 .0
 
 returns-2 : tie.Need-returns-2
 returns-2 c =
     let c7 = c .before .before .before .before .before .before .before in
     let c12 = c7 .before .before .before .before .before in
-    let c20 = c12 .before .before .before .before .before .before .before .before in
-    let c31 = c20 .before .before .before .before .before .before .before .before .before .before .before in
-    let a = c31 .args in
-    λ j T H. shapes-over (a .bytes .now) (a .rows .now) (a .places .now) (a .at) (a .h .kinds) j T (c20 .lay-sheet .result)
-    (a .shapes .now) _ (a .sheet .now) _ (a .sheet-entries .now) _ _ (c20 .lay-sheet .ensures)
+    let c21 = c12 .before .before .before .before .before .before .before .before .before in
+    let c33 = c21 .before .before .before .before .before .before .before .before .before .before .before .before in
+    let a = c33 .args in
+    λ j T H. shapes-over (a .bytes .now) (a .rows .now) (a .places .now) (a .at) (a .h .kinds) j T (c21 .lay-sheet .result)
+    (a .shapes .now) _ (a .sheet .now) _ (a .sheet-entries .now) _ _ (a .sheet-firsts .now) _ (c21 .lay-sheet .ensures)
     _ _ (c12 .sheet-bounds .given .1) (c7 .lay-shapes .result) _ _ (c7 .lay-shapes .ensures)
     (c .refused .result) (c .before .enum-told .given .1) (c .refused .ensures)
 
-same-length-7 : tie.Need-same-length-7
-same-length-7 c =
-    let c9 = c .before .before .before .before .before .before .before .before .before in
-    c9 .lay-sheet .kept .1 .1 .0
-
-same-length-8 : tie.Need-same-length-8
-same-length-8 c =
-    let c9 = c .before .before .before .before .before .before .before .before .before in
-    c9 .lay-sheet .kept .1 .1 .1 .0
-
-returns-3 : tie.Need-returns-3
-returns-3 c =
-    let c9 = c .before .before .before .before .before .before .before .before .before in
-    let c20 = c9 .before .before .before .before .before .before .before .before .before .before .before in
-    let a = c20 .args in
-    λ j T H. sheet-over (a .bytes .now) (a .rows .now) (a .places .now) (a .at) (a .h .kinds) j T (c9 .lay-sheet .result)
-    (a .shapes .now) (a .shapes .now) (a .sheet .now) _ (a .sheet-entries .now) _ _ (c9 .lay-sheet .ensures)
-    (c .refused2 .result) (c .before .enum-told2 .given .1) (c .refused2 .ensures)
-
 same-length-9 : tie.Need-same-length-9
 same-length-9 c =
-    let c9 = c .before .before .before .before .before .before .before .before .before in
-    c9 .lay-sheet .kept .1 .1 .0
+    let c10 = c .before .before .before .before .before .before .before .before .before .before in
+    c10 .lay-sheet .kept .1 .1 .0
 
 same-length-10 : tie.Need-same-length-10
 same-length-10 c =
-    let c9 = c .before .before .before .before .before .before .before .before .before in
-    c9 .lay-sheet .kept .1 .1 .1 .0
+    let c10 = c .before .before .before .before .before .before .before .before .before .before in
+    c10 .lay-sheet .kept .1 .1 .1 .0
+
+same-length-11 : tie.Need-same-length-11
+same-length-11 c =
+    let c10 = c .before .before .before .before .before .before .before .before .before .before in
+    c10 .lay-sheet .kept .1 .1 .1 .1 .1 .0
+
+returns-3 : tie.Need-returns-3
+returns-3 c =
+    let c10 = c .before .before .before .before .before .before .before .before .before .before in
+    let c22 = c10 .before .before .before .before .before .before .before .before .before .before .before .before in
+    let a = c22 .args in
+    λ j T H. sheet-over (a .bytes .now) (a .rows .now) (a .places .now) (a .at) (a .h .kinds) j T (c10 .lay-sheet .result)
+    (a .shapes .now) (a .shapes .now) (a .sheet .now) _ (a .sheet-entries .now) _ _ (a .sheet-firsts .now) _ (c10 .lay-sheet .ensures)
+    (c .refused2 .result) (c .before .enum-told2 .given .1) (c .refused2 .ensures)
+
+same-length-12 : tie.Need-same-length-12
+same-length-12 c =
+    let c10 = c .before .before .before .before .before .before .before .before .before .before in
+    c10 .lay-sheet .kept .1 .1 .0
+
+same-length-13 : tie.Need-same-length-13
+same-length-13 c =
+    let c10 = c .before .before .before .before .before .before .before .before .before .before in
+    c10 .lay-sheet .kept .1 .1 .1 .0
+
+same-length-14 : tie.Need-same-length-14
+same-length-14 c =
+    let c10 = c .before .before .before .before .before .before .before .before .before .before in
+    c10 .lay-sheet .kept .1 .1 .1 .1 .1 .0
 
 returns-4 : tie.Need-returns-4
 returns-4 c =
-    let c9 = c .before .before .before .before .before .before .before .before .before in
-    let c20 = c9 .before .before .before .before .before .before .before .before .before .before .before in
-    let a = c20 .args in
-    λ j T H. entries-over (a .bytes .now) (a .rows .now) (a .places .now) (a .at) (a .h .kinds) j T (c9 .lay-sheet .result)
-    (a .shapes .now) (a .shapes .now) (a .sheet .now) _ (a .sheet-entries .now) _ _ (c9 .lay-sheet .ensures)
+    let c10 = c .before .before .before .before .before .before .before .before .before .before in
+    let c22 = c10 .before .before .before .before .before .before .before .before .before .before .before .before in
+    let a = c22 .args in
+    λ j T H. entries-over (a .bytes .now) (a .rows .now) (a .places .now) (a .at) (a .h .kinds) j T (c10 .lay-sheet .result)
+    (a .shapes .now) (a .shapes .now) (a .sheet .now) _ (a .sheet-entries .now) _ _ (a .sheet-firsts .now) _ (c10 .lay-sheet .ensures)
     (c .refused3 .result) (c .before .enum-told3 .given .1) (c .refused3 .ensures)
 
 pub prepare-spec : {M : Type 1} → statement M
@@ -157,7 +176,6 @@ prepare-spec =
     tie.close
     (tie.spec
     slice-aggregate-lay-sheet
-    slice-aggregate-lay-sheet-2
     lay-sheet-requires
     enum-known-sheet-bounds
     slice-aggregate-lay-shapes
@@ -173,14 +191,18 @@ prepare-spec =
     same-length
     same-length-2
     same-length-3
-    returns
     same-length-4
+    returns
     same-length-5
     same-length-6
-    returns-2
     same-length-7
     same-length-8
-    returns-3
+    returns-2
     same-length-9
     same-length-10
+    same-length-11
+    returns-3
+    same-length-12
+    same-length-13
+    same-length-14
     returns-4)

@@ -1,9 +1,9 @@
--- The sheet's strips and entries, from what the calls leave. Assumes nothing.
+-- The sheet's strips, entries and first buckets, from what the calls leave. Assumes nothing.
 use mathlib.Core.Path.{_≡_, refl, sym, ap, subst, _∙_}
 use mathlib.Core.Logic.{_⊎_, inl, inr}
 use mathlib.Core.Bool.{Bool, true, false, true≢false}
 use mathlib.Core.List.{List, _++_}
-use Prim.Native.Nat.{ℕ, _+_, _-_, _*_, _/_, _≤_, _<_, min}
+use Prim.Native.Nat.{ℕ, _+_, _*_, _/_, _≤_, _<_, min}
 use native.Mathlib.Omega.{arith}
 use lib.ListN.{length, take, drop}
 use lib.Seq.{take-at}
@@ -12,10 +12,10 @@ use Rattle.numbers.proofs.Truth.{below-or-not}
 use Rattle.trapezoid.specs.declared.Trapezoid.{Trapezoid}
 use Rattle.trapezoid.specs.Strip.{flat, capacity}
 use Rattle.index.specs.declared.Index.{Index}
-use Rattle.index.specs.Buckets.{entriesOf, indexOf, stripNumbers, standingCapacity}
-use Rattle.index.proofs.Standing.{standing-in}
-use Rattle.index.specs.inner.Listing.{Laid}
-use Rattle.enter.specs.inner.EntryRoom.{Entering, enterOf, entriesIn}
+use Rattle.index.specs.Buckets.{entriesOf, firstsOf, indexOf, stripNumbers, standingCapacity}
+use Rattle.index.proofs.Standing.{standing-long, standing-few}
+use Rattle.index.specs.inner.Listing.{Laid, FirstBuckets}
+use Rattle.enter.specs.inner.EntryRoom.{Entering, enterOf, entriesIn, FirstsWritten}
 use Rattle.enter.specs.inner.Gaps.{rooms, entering}
 use Rattle.enter.proofs.Starts.{enter-fits, enter-over}
 use Rattle.strips.specs.declared.Rect.{Rect}
@@ -24,7 +24,8 @@ use Rattle.strips.specs.declared.Stored.the-variants.{Count, NoRoom}
 use Rattle.strips.specs.inner.Tables.{stripsStored}
 use Rattle.filling.specs.Shapes.{setBounds, setStrips}
 use Rattle.filling.specs.Rooms.{laid}
-use Rattle.filling.specs.Consistent.{sheetIndex, entriesFor}
+use Rattle.filling.specs.Consistent.{sheetIndex, entriesFor, firstsFor}
+use Rattle.filling.proofs.FirstBuckets.{numbers-written}
 use Rattle.filling.proofs.Reading.{length-flat}
 use Rattle.shapes.specs.set_strips.inner.SetStrips.{stripsOf, stripsAt}
 use Rattle.filling.proofs.WithinBoundsStrips.{capacity-flat}
@@ -52,9 +53,9 @@ module _ (ss : List Trapezoid) (room₀ room : List Float) (r : Stored) (e : rec
     unfolding laid
     front-is = ap (take (6 * n)) room-is ∙ take-at (flat ss) (drop (length (flat ss)) room₀) (6 * n) (let c = counted in let l = length-flat ss in omega (arith, c .0))
 
-  pub over : r ≡ NoRoom → standingCapacity room₀ < capacity (flat ss)
+  pub over : r ≡ NoRoom → (firsts : List ℕ) → standingCapacity room₀ firsts < capacity (flat ss)
   unfolding standingCapacity capacity
-  over d = let b = not-stored ss room₀ room 0 r e d in let l = length-flat ss in omega arith
+  over d firsts = let b = not-stored ss room₀ room 0 r e d in let l = length-flat ss in omega arith
 
 -- ---- their entries
 module _ (ix : Index) (s : List Float) (entries₀ starts₀ entries starts : List ℕ) (r : Bool) (e : entering r entries starts ≡ enterOf ix s (capacity s) (rooms entries₀ starts₀)) where
@@ -73,10 +74,23 @@ module _ (ix : Index) (s : List Float) (entries₀ starts₀ entries starts : Li
       go (inl h) = h
       go (inr h) = absurd (true≢false (sym (sym d ∙ ap (λ (x : Entering). x .fits) (e ∙ sym (enter-fits ix s (capacity s) (rooms entries₀ starts₀) h)))))
 
+-- ---- their first buckets, in front of the room
+module _ (ix : Index) (s : List Float) (n : ℕ) (before after : List ℕ) (e : length after ≡ length before) (h : n ≤ length before) (W : FirstsWritten ix s 0 n before after) where
+  firsts-kept : FirstBuckets ix s n after
+  firsts-kept = record { long = omega arith; right = λ i l. W .new i (omega arith) l }
+
+  firsts-laid : after ≡ laid (firstsOf ix s n) before
+  firsts-laid = numbers-written ix s n before after e firsts-kept (W .above)
+
 -- ---- the sheet
 pub sheet-strips : (bytes : List ℕ) (at : ℕ) → flat (stripsAt bytes at true) ≡ setStrips true (setAt bytes at)
 unfolding setStrips stripsAt stripsOf
 sheet-strips bytes at = refl
+
+-- the room's length counts, not what it holds
+standing-same : (room room′ : List Float) (firsts : List ℕ) → length room ≡ length room′ → standingCapacity room firsts ≡ standingCapacity room′ firsts
+unfolding standingCapacity capacity
+standing-same room room′ firsts e = rw e
 
 module _ (bytes : List ℕ) (at : ℕ) (sheet₀ sheet : List Float) (r : Stored) (e : record { answer = r; room = sheet } ≡ stripsStored (stripsAt bytes at true) sheet₀ 0) where
   abbrev S : List Float
@@ -85,8 +99,10 @@ module _ (bytes : List ℕ) (at : ℕ) (sheet₀ sheet : List Float) (r : Stored
   abbrev B : Rect
   B = setBounds (setAt bytes at)
 
-  pub no-strips : (entries₀ entries starts : List ℕ) → r ≡ NoRoom → SheetIs Sheet.NoStrips B S sheet₀ sheet entries₀ entries starts
-  no-strips entries₀ entries starts d = subst (λ (l : List Float). standingCapacity sheet₀ < capacity l) (sheet-strips bytes at) (over (stripsAt bytes at true) sheet₀ sheet r e d)
+  pub no-strips : (entries₀ entries starts firsts₀ firsts : List ℕ) → r ≡ NoRoom → SheetIs Sheet.NoStrips B S sheet₀ sheet entries₀ entries starts firsts₀ firsts
+  no-strips entries₀ entries starts firsts₀ firsts d =
+      subst (λ (l : List Float). standingCapacity sheet₀ firsts₀ < capacity l) (sheet-strips bytes at)
+      (over (stripsAt bytes at true) sheet₀ sheet r e d firsts₀)
 
   module _ (n : ℕ) (d : r ≡ Count n) where
     pub fits : 6 * n ≤ length sheet₀
@@ -98,40 +114,62 @@ module _ (bytes : List ℕ) (at : ℕ) (sheet₀ sheet : List Float) (r : Stored
     front : take (6 * n) sheet ≡ S
     front = front-is (stripsAt bytes at true) sheet₀ sheet r e n d ∙ sheet-strips bytes at
 
-    -- more strips than an entry can name
-    pub too-many : stripNumbers < n → (entries₀ entries starts : List ℕ) → SheetIs Sheet.NoStrips B S sheet₀ sheet entries₀ entries starts
-    unfolding standingCapacity
-    too-many h entries₀ entries starts = let m = n-is in omega arith
+    -- m strips are what the rooms are used for
+    module _ (k : length sheet ≡ length sheet₀) (firsts₀ : List ℕ) (m : ℕ) (q : m ≡ standingCapacity sheet firsts₀) where
+      m-is : m ≡ standingCapacity sheet₀ firsts₀
+      m-is = q ∙ standing-same sheet sheet₀ firsts₀ k
 
-    strips-in : n ≤ stripNumbers → capacity S ≤ standingCapacity sheet₀
-    strips-in few = subst (λ (k : ℕ). k ≤ standingCapacity sheet₀) n-is (standing-in n sheet₀ fits few)
+      pub too-many : m < n → (entries₀ entries starts firsts : List ℕ) → SheetIs Sheet.NoStrips B S sheet₀ sheet entries₀ entries starts firsts₀ firsts
+      too-many h entries₀ entries starts firsts = subst (λ (x : ℕ). x < capacity S) m-is (subst (λ (x : ℕ). m < x) n-is h)
 
-    module _ (few : n ≤ stripNumbers) (b : Rect) (bb : b ≡ B) (ix : Index) (x : ix ≡ indexOf (b .left) (b .right)) (entries₀ starts₀ entries starts : List ℕ) (t : Bool) where
-      index-is : ix ≡ sheetIndex B
-      unfolding sheetIndex
-      index-is = x ∙ ap (λ (c : Rect). indexOf (c .left) (c .right)) bb
+      module _ (few : n ≤ m) where
+        n-in : n ≤ standingCapacity sheet₀ firsts₀
+        n-in = subst (λ (x : ℕ). n ≤ x) m-is few
 
-      entered : entering t entries starts ≡ enterOf ix (take (6 * n) sheet) n (rooms entries₀ starts₀) → entering t entries starts ≡ enterOf (sheetIndex B) S (capacity S) (rooms entries₀ starts₀)
-      entered f = subst (λ (i : Index). entering t entries starts ≡ enterOf i S (capacity S) (rooms entries₀ starts₀)) index-is (subst (λ (k : ℕ). entering t entries starts ≡ enterOf ix S k (rooms entries₀ starts₀)) n-is (subst (λ (l : List Float). entering t entries starts ≡ enterOf ix l n (rooms entries₀ starts₀)) front f))
+        strips-in : capacity S ≤ standingCapacity sheet₀ firsts₀
+        strips-in = subst (λ (x : ℕ). x ≤ standingCapacity sheet₀ firsts₀) n-is n-in
 
-      laid-in : Laid ix (take (6 * n) sheet) n entries starts → Laid (sheetIndex B) S (capacity S) entries starts
-      laid-in f = subst (λ (i : Index). Laid i S (capacity S) entries starts) index-is (subst (λ (k : ℕ). Laid ix S k entries starts) n-is (subst (λ (l : List Float). Laid ix l n entries starts) front f))
+        -- the numbers have room, and entries can name the strips
+        pub long : n ≤ length firsts₀
+        long = standing-long n sheet₀ firsts₀ n-in
 
-      pub sheet-in : entering t entries starts ≡ enterOf ix (take (6 * n) sheet) n (rooms entries₀ starts₀) → (t ≡ true → Laid ix (take (6 * n) sheet) n entries starts) → t ≡ true → SheetIs (Sheet.Strips b n) B S sheet₀ sheet entries₀ entries starts
-      unfolding entriesFor
-      sheet-in f g y =
-          let h = entered-yes (sheetIndex B) S entries₀ starts₀ entries starts t (entered f) y in (
-            bb,
-            record {
-              number = n-is;
-              strips-fit = strips-in few;
-              entries-fit = h .0;
-              strips = room-is (stripsAt bytes at true) sheet₀ sheet r e n d ∙ ap (λ (l : List Float). laid l sheet₀) (sheet-strips bytes at);
-              entries-are = h .1;
-              indexed = laid-in (g y);
-            },
-          )
+        pub nameable : n ≤ stripNumbers
+        nameable = standing-few n sheet₀ firsts₀ n-in
 
-      pub no-entries : entering t entries starts ≡ enterOf ix (take (6 * n) sheet) n (rooms entries₀ starts₀) → t ≡ false → SheetIs Sheet.NoEntries B S sheet₀ sheet entries₀ entries starts
-      unfolding entriesFor
-      no-entries f y = (strips-in few, entered-no (sheetIndex B) S entries₀ starts₀ entries starts t (entered f) y)
+        module _ (b : Rect) (bb : b ≡ B) (ix : Index) (x : ix ≡ indexOf (b .left) (b .right)) (entries₀ starts₀ entries starts : List ℕ) (t : Bool) where
+          index-is : ix ≡ sheetIndex B
+          unfolding sheetIndex
+          index-is = x ∙ ap (λ (c : Rect). indexOf (c .left) (c .right)) bb
+
+          -- what holds of the room's front holds of the strips
+          own : (F : Index → List Float → ℕ → Type 0) → F ix (take (6 * n) sheet) n → F (sheetIndex B) S (capacity S)
+          own F f = subst (λ (i : Index). F i S (capacity S)) index-is (subst (λ (c : ℕ). F ix S c) n-is (subst (λ (l : List Float). F ix l n) front f))
+
+          entered : entering t entries starts ≡ enterOf ix (take (6 * n) sheet) n (rooms entries₀ starts₀)
+              → entering t entries starts ≡ enterOf (sheetIndex B) S (capacity S) (rooms entries₀ starts₀)
+          entered = own (λ i l c. entering t entries starts ≡ enterOf i l c (rooms entries₀ starts₀))
+
+          pub sheet-in : (firsts : List ℕ) → length firsts ≡ length firsts₀ → entering t entries starts ≡ enterOf ix (take (6 * n) sheet) n (rooms entries₀ starts₀)
+              → (t ≡ true → Laid ix (take (6 * n) sheet) n entries starts) → (t ≡ true → FirstsWritten ix (take (6 * n) sheet) 0 n firsts₀ firsts)
+              → t ≡ true → SheetIs (Sheet.Strips b n) B S sheet₀ sheet entries₀ entries starts firsts₀ firsts
+          unfolding entriesFor firstsFor
+          sheet-in firsts w f g u y =
+              let h = entered-yes (sheetIndex B) S entries₀ starts₀ entries starts t (entered f) y in
+              let z = own (λ i l c. FirstsWritten i l 0 c firsts₀ firsts) (u y) in (
+                bb,
+                record {
+                  number = n-is;
+                  strips-fit = strips-in;
+                  entries-fit = h .0;
+                  strips = room-is (stripsAt bytes at true) sheet₀ sheet r e n d ∙ ap (λ (l : List Float). laid l sheet₀) (sheet-strips bytes at);
+                  entries-are = h .1;
+                  indexed = own (λ i l c. Laid i l c entries starts) (g y);
+                  firsts-are = firsts-laid (sheetIndex B) S (capacity S) firsts₀ firsts w (subst (λ (c : ℕ). c ≤ length firsts₀) n-is long) z;
+                  kept = firsts-kept (sheetIndex B) S (capacity S) firsts₀ firsts w (subst (λ (c : ℕ). c ≤ length firsts₀) n-is long) z;
+                },
+              )
+
+          pub no-entries : (firsts : List ℕ) → entering t entries starts ≡ enterOf ix (take (6 * n) sheet) n (rooms entries₀ starts₀) → t ≡ false
+              → SheetIs Sheet.NoEntries B S sheet₀ sheet entries₀ entries starts firsts₀ firsts
+          unfolding entriesFor
+          no-entries firsts f y = (strips-in, entered-no (sheetIndex B) S entries₀ starts₀ entries starts t (entered f) y)

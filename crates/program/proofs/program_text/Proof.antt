@@ -38,6 +38,12 @@ entry-room-requires c κs = tt
 entry-room-requires-2 : tie.Need-entry-room-requires-2
 entry-room-requires-2 c κs = tt
 
+first-room-requires : tie.Need-first-room-requires
+first-room-requires c κs = tt
+
+first-room-requires-2 : tie.Need-first-room-requires-2
+first-room-requires-2 c κs = tt
+
 interval-room-requires : tie.Need-interval-room-requires
 interval-room-requires c κs = tt
 
@@ -65,6 +71,12 @@ slice-aggregate-plan-text-6 c = search needs
 slice-aggregate-plan-text-7 : tie.Need-slice-aggregate-plan-text-7
 slice-aggregate-plan-text-7 c = search needs
 
+slice-aggregate-plan-text-8 : tie.Need-slice-aggregate-plan-text-8
+slice-aggregate-plan-text-8 c = search needs
+
+slice-aggregate-plan-text-9 : tie.Need-slice-aggregate-plan-text-9
+slice-aggregate-plan-text-9 c = search needs
+
 plan-text-requires : tie.Need-plan-text-requires
 plan-text-requires c κs = tt
 
@@ -73,25 +85,28 @@ same-length-2 c = search needs
 
 returns-3 : tie.Need-returns-3
 returns-3 c =
-    let c9 = c .before .before .before .before .before .before .before .before .before in
-    let c18 = c9 .before .before .before .before .before .before .before .before .before in
-    let c19 = c18 .before in
-    let c20 = c19 .before in
-    let c21 = c20 .before in
-    let c22 = c21 .before in
+    let c11 = c .before .before .before .before .before .before .before .before .before .before .before in
+    let c22 = c11 .before .before .before .before .before .before .before .before .before .before .before in
     let c23 = c22 .before in
     let c24 = c23 .before in
     let c25 = c24 .before in
     let c26 = c25 .before in
-    let c29 = c26 .before .before .before in
-    let t = c9 .plan-text in
-    answer-plan (c29 .args .bytes .now) (c29 .args .out .now) (t .last .1 .1 .1 .1 .1 .1 .1 .1 .0)
-    (lentOf (c24 .strip-room .result) (c23 .strip-room2 .result) (c22 .strip-room3 .result) (c21 .entry-room .result) (c20 .entry-room2 .result)
-    (c19 .interval-room .result) (c18 .position-room .result))
-    (lentOf (t .last .1 .0) (t .last .1 .1 .0) (t .last .1 .1 .1 .0) (t .last .1 .1 .1 .1 .0) (t .last .1 .1 .1 .1 .1 .0) (t .last .1 .1 .1 .1 .1 .1 .0)
-    (t .last .1 .1 .1 .1 .1 .1 .1 .0)) (t .result) (c26 .if1 .left) (c25 .if2 .left)
-    (rooms-are _ _ _ _ _ _ _ (c24 .strip-room .ensures) (c23 .strip-room2 .ensures) (c22 .strip-room3 .ensures) (c21 .entry-room .ensures)
-    (c20 .entry-room2 .ensures) (c19 .interval-room .ensures) (c18 .position-room .ensures))
+    let c27 = c26 .before in
+    let c28 = c27 .before in
+    let c29 = c28 .before in
+    let c30 = c29 .before in
+    let c31 = c30 .before in
+    let c32 = c31 .before in
+    let c35 = c32 .before .before .before in
+    let t = c11 .plan-text in
+    answer-plan (c35 .args .bytes .now) (c35 .args .out .now) (t .last .1 .1 .1 .1 .1 .1 .1 .1 .1 .1 .0)
+    (lentOf (c30 .strip-room .result) (c29 .strip-room2 .result) (c28 .strip-room3 .result) (c27 .entry-room .result) (c26 .entry-room2 .result)
+    (c25 .first-room .result) (c24 .first-room2 .result) (c23 .interval-room .result) (c22 .position-room .result))
+    (lentOf (t .last .1 .0) (t .last .1 .1 .0) (t .last .1 .1 .1 .0) (t .last .1 .1 .1 .1 .0) (t .last .1 .1 .1 .1 .1 .0)
+    (t .last .1 .1 .1 .1 .1 .1 .0) (t .last .1 .1 .1 .1 .1 .1 .1 .0) (t .last .1 .1 .1 .1 .1 .1 .1 .1 .0) (t .last .1 .1 .1 .1 .1 .1 .1 .1 .1 .0))
+    (t .result) (c32 .if1 .left) (c31 .if2 .left)
+    (rooms-are _ _ _ _ _ _ _ _ _ (c30 .strip-room .ensures) (c29 .strip-room2 .ensures) (c28 .strip-room3 .ensures) (c27 .entry-room .ensures)
+    (c26 .entry-room2 .ensures) (c25 .first-room .ensures) (c24 .first-room2 .ensures) (c23 .interval-room .ensures) (c22 .position-room .ensures))
     (t .ensures)
 
 pub program-text-spec : {M : Type 1} → statement M
@@ -107,6 +122,8 @@ program-text-spec =
     strip-room-requires-3
     entry-room-requires
     entry-room-requires-2
+    first-room-requires
+    first-room-requires-2
     interval-room-requires
     position-room-requires
     slice-aggregate-plan-text
@@ -116,6 +133,8 @@ program-text-spec =
     slice-aggregate-plan-text-5
     slice-aggregate-plan-text-6
     slice-aggregate-plan-text-7
+    slice-aggregate-plan-text-8
+    slice-aggregate-plan-text-9
     plan-text-requires
     same-length-2
     returns-3)

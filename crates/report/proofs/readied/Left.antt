@@ -11,7 +11,7 @@ use Rattle.filling.specs.declared.Plan.{Plan}
 use Rattle.filling.specs.declared.Refusal.{Refusal}
 use Rattle.filling.specs.declared.Verdict.{Verdict}
 use Rattle.filling.specs.declared.Verdict.the-variants.{Accepted, Refused}
-use Rattle.filling.specs.Rooms.{Rooms, Lent, zeros, zeroRooms, onlyPositions, lentOf}
+use Rattle.filling.specs.Rooms.{Rooms, Lent, zeros, zeroRooms, onlyPositions, roomsOf, lentOf}
 use Rattle.filling.specs.Fill.{Planned, notPlanned, plannedWith}
 use Rattle.filling.proofs.Reading.{zeros-same}
 use Rattle.report.specs.declared.NestResult.{NestResult}
@@ -44,15 +44,26 @@ zeros-after z a b room e f = e ∙ zeros-same z b room f
 whole : Verdict → Plan → Rooms → List Float → List Float → Planned
 whole v p w i o = record { verdict = v; plan = p; lent = record { rooms = w; intervals = i; positions = o } }
 
-pub together : (l : Lent) (q : Planned) → WorkZero l q → (r : NestResult) (shapes sheet placed : List Float) (sheet-entries placed-entries : List ℕ) (intervals positions : List Float)
-    → shapes ≡ zeros posZero (l .rooms .shapes) → sheet ≡ zeros posZero (l .rooms .sheet) → placed ≡ zeros posZero (l .rooms .placed) → sheet-entries ≡ zeros 0 (l .rooms .sheet-entries) → placed-entries ≡ zeros 0 (l .rooms .placed-entries) → intervals ≡ zeros posZero (l .intervals)
-    → reply r positions ≡ replyOf q → answered r (lentOf shapes sheet placed sheet-entries placed-entries intervals positions) ≡ q
+-- the work rooms, all zero
+rooms-are : (l : Lent) (shapes sheet placed : List Float) (sheet-entries placed-entries sheet-firsts placed-firsts : List ℕ)
+    → shapes ≡ zeros posZero (l .rooms .shapes) → sheet ≡ zeros posZero (l .rooms .sheet) → placed ≡ zeros posZero (l .rooms .placed)
+    → sheet-entries ≡ zeros 0 (l .rooms .sheet-entries) → placed-entries ≡ zeros 0 (l .rooms .placed-entries)
+    → sheet-firsts ≡ zeros 0 (l .rooms .sheet-firsts) → placed-firsts ≡ zeros 0 (l .rooms .placed-firsts)
+    → roomsOf shapes sheet placed sheet-entries placed-entries sheet-firsts placed-firsts ≡ zeroRooms (l .rooms)
+unfolding zeroRooms
+rooms-are l shapes sheet placed sheet-entries placed-entries sheet-firsts placed-firsts a b c d e m n = rw (a, b, c, d, e, m, n)
+
+pub together : (l : Lent) (q : Planned) → WorkZero l q → (r : NestResult) (shapes sheet placed : List Float)
+    (sheet-entries placed-entries sheet-firsts placed-firsts : List ℕ) (intervals positions : List Float)
+    → shapes ≡ zeros posZero (l .rooms .shapes) → sheet ≡ zeros posZero (l .rooms .sheet) → placed ≡ zeros posZero (l .rooms .placed)
+    → sheet-entries ≡ zeros 0 (l .rooms .sheet-entries) → placed-entries ≡ zeros 0 (l .rooms .placed-entries)
+    → sheet-firsts ≡ zeros 0 (l .rooms .sheet-firsts) → placed-firsts ≡ zeros 0 (l .rooms .placed-firsts) → intervals ≡ zeros posZero (l .intervals)
+    → reply r positions ≡ replyOf q
+    → answered r (lentOf shapes sheet placed sheet-entries placed-entries sheet-firsts placed-firsts intervals positions) ≡ q
 unfolding whole
-together l q W r shapes sheet placed sheet-entries placed-entries intervals positions a b c d e f g =
-    ap₂ (λ (v : Verdict) (p : Plan). whole v p (record { shapes = shapes; sheet = sheet; placed = placed; sheet-entries = sheet-entries; placed-entries = placed-entries }) intervals positions) (ap (λ (z : Reply). z .verdict) g) (ap (λ (z : Reply). z .plan) g)
-    ∙ (ap (λ (w : Rooms). whole (q .verdict) (q .plan) w intervals positions) (rooms-are l shapes sheet placed sheet-entries placed-entries a b c d e ∙ sym (W .rooms-zero))
+together l q W r shapes sheet placed sheet-entries placed-entries sheet-firsts placed-firsts intervals positions a b c d e m n f g =
+    ap₂ (λ (v : Verdict) (p : Plan). whole v p (roomsOf shapes sheet placed sheet-entries placed-entries sheet-firsts placed-firsts) intervals positions)
+    (ap (λ (z : Reply). z .verdict) g) (ap (λ (z : Reply). z .plan) g)
+    ∙ (ap (λ (w : Rooms). whole (q .verdict) (q .plan) w intervals positions)
+    (rooms-are l shapes sheet placed sheet-entries placed-entries sheet-firsts placed-firsts a b c d e m n ∙ sym (W .rooms-zero))
     ∙ ap₂ (λ (i o : List Float). whole (q .verdict) (q .plan) (q .lent .rooms) i o) (f ∙ sym (W .intervals-zero)) (ap (λ (z : Reply). z .positions) g))
-  where
-    rooms-are : (l : Lent) (shapes sheet placed : List Float) (sheet-entries placed-entries : List ℕ) → shapes ≡ zeros posZero (l .rooms .shapes) → sheet ≡ zeros posZero (l .rooms .sheet) → placed ≡ zeros posZero (l .rooms .placed) → sheet-entries ≡ zeros 0 (l .rooms .sheet-entries) → placed-entries ≡ zeros 0 (l .rooms .placed-entries)
-        → record { shapes = shapes; sheet = sheet; placed = placed; sheet-entries = sheet-entries; placed-entries = placed-entries } ≡ zeroRooms (l .rooms)
-    rooms-are l shapes sheet placed sheet-entries placed-entries a b c d e = unfold zeroRooms in rw (a, b, c, d, e)

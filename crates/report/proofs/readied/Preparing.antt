@@ -7,7 +7,7 @@ use lib.ListN.{length, take, drop, length-append}
 use lib.Ieee.{Float}
 use Rattle.numbers.specs.Numbers.{posZero}
 use Rattle.trapezoid.specs.Strip.{capacity}
-use Rattle.index.specs.inner.Listing.{Laid}
+use Rattle.index.specs.inner.Listing.{Laid, FirstBuckets}
 use Rattle.strips.specs.declared.Rect.{Rect}
 use Rattle.job.specs.declared.Header.{Header}
 use Rattle.job.specs.Jobs.{Job}
@@ -30,21 +30,22 @@ use Rattle.filling.specs.Fill.{Planned}
 use Rattle.report.specs.declared.NestResult.{NestResult}
 use Rattle.report.specs.inner.Replies.{reply, replyOf, refusedBy, plannedWhen}
 use Rattle.report.proofs.Reporting.{refused-reply}
-use Rattle.filling_laws.specs.fill_laws.inner.Prepared.{given, Prepared}
+use Rattle.filling_laws.specs.fill_laws.inner.Prepared.{given, Prepared, SheetFirsts}
 use Rattle.report.specs.readied.inner.Zeroed.{Zeroed, ReadInto}
 
 -- 20 and 21 go by the rooms' lengths
-pub verdict-zeroed : (p : Planner) (l : Lent) (shapes sheet : List Float) (entries : List ℕ) → shapes ≡ zeros posZero (l .rooms .shapes) → sheet ≡ zeros posZero (l .rooms .sheet) → entries ≡ zeros 0 (l .rooms .sheet-entries)
-    → prepareVerdict p (Rooms₀.given shapes sheet entries) ≡ prepareVerdict p (l .rooms)
+pub verdict-zeroed : (p : Planner) (l : Lent) (shapes sheet : List Float) (entries firsts : List ℕ) → shapes ≡ zeros posZero (l .rooms .shapes)
+    → sheet ≡ zeros posZero (l .rooms .sheet) → entries ≡ zeros 0 (l .rooms .sheet-entries) → firsts ≡ zeros 0 (l .rooms .sheet-firsts)
+    → prepareVerdict p (Rooms₀.given shapes sheet entries firsts) ≡ prepareVerdict p (l .rooms)
 unfolding prepareVerdict Rattle.index.specs.Buckets.standingCapacity capacity
-verdict-zeroed p l shapes sheet entries a b c =
-    rw (ap length a ∙ length-zeros posZero (l .rooms .shapes), ap length b ∙ length-zeros posZero (l .rooms .sheet), ap length c ∙ length-zeros 0 (l .rooms .sheet-entries))
+verdict-zeroed p l shapes sheet entries firsts a b c d =
+    rw (ap length a ∙ length-zeros posZero (l .rooms .shapes), ap length b ∙ length-zeros posZero (l .rooms .sheet), ap length c ∙ length-zeros 0 (l .rooms .sheet-entries), ap length d ∙ length-zeros 0 (l .rooms .sheet-firsts))
 
 module _ {j : Job} {bytes : List ℕ} {at : ℕ} {h : Header} {rows : List ℕ} {areas : List Float} {places : List ℕ} (R : ReadInto j bytes at h rows areas places)
-    {l : Lent} {shapes₀ sheet₀ placed₀ : List Float} {entries₀ placed-entries₀ : List ℕ} {intervals₀ positions₀ : List Float}
-    (Z : Zeroed l shapes₀ sheet₀ placed₀ entries₀ placed-entries₀ intervals₀ positions₀)
-    (t : Tables) (shapes sheet : List Float) (entries starts : List ℕ)
-    (D : Readied (plannerOf j) t starts (Rooms₀.given shapes₀ sheet₀ entries₀) shapes sheet entries) where
+    {l : Lent} {shapes₀ sheet₀ placed₀ : List Float} {entries₀ placed-entries₀ : List ℕ} {intervals₀ positions₀ : List Float} {firsts₀ placed-firsts₀ : List ℕ}
+    (Z : Zeroed l shapes₀ sheet₀ placed₀ entries₀ placed-entries₀ intervals₀ positions₀ firsts₀ placed-firsts₀)
+    (t : Tables) (shapes sheet : List Float) (entries starts firsts : List ℕ)
+    (D : Readied (plannerOf j) t starts (Rooms₀.given shapes₀ sheet₀ entries₀ firsts₀) shapes sheet entries firsts) where
   abbrev P : Planner
   P = plannerOf j
 
@@ -99,6 +100,11 @@ module _ {j : Job} {bytes : List ℕ} {at : ℕ} {h : Header} {rows : List ℕ} 
       subst (λ (b : Rect). Laid (sheetIndex b) Own (capacity Own) entries starts) (sym bounds-are)
       (subst (λ (z : List Float). Laid (sheetIndex (P .bounds)) z (capacity z) entries starts) (sym own-sheet) (D .indexed))
 
+  kept-own : FirstBuckets (sheetIndex (t .«sheet_bounds»)) Own (capacity Own) firsts
+  kept-own =
+      subst (λ (b : Rect). FirstBuckets (sheetIndex b) Own (capacity Own) firsts) (sym bounds-are)
+      (subst (λ (z : List Float). FirstBuckets (sheetIndex (P .bounds)) z (capacity z) firsts) (sym own-sheet) (D .kept))
+
   pub prepared-is : prepareVerdict (plannerOf j) (l .rooms) ≡ Accepted
       → Prepared j (given (sheetIndex (t .«sheet_bounds»)) (t .«sheet_bounds») (t .resolution) rows areas (t .«inset_bounds») (t .parts)
       (take (6 * t .«apart_strips») shapes) (drop (6 * t .«apart_strips») shapes) (take (6 * t .«sheet_strips») sheet) entries starts)
@@ -121,6 +127,10 @@ module _ {j : Job} {bytes : List ℕ} {at : ℕ} {h : Header} {rows : List ℕ} 
         sheet-laid = laid-own;
       }
 
+  pub firsts-given : SheetFirsts (given (sheetIndex (t .«sheet_bounds»)) (t .«sheet_bounds») (t .resolution) rows areas (t .«inset_bounds») (t .parts)
+      (take (6 * t .«apart_strips») shapes) (drop (6 * t .«apart_strips») shapes) (take (6 * t .«sheet_strips») sheet) entries starts) firsts
+  firsts-given = kept-own
+
   pub sheet-within : 6 * t .«sheet_strips» ≤ length sheet
   unfolding capacity
   sheet-within =
@@ -140,12 +150,12 @@ module _ {j : Job} {bytes : List ℕ} {at : ℕ} {h : Header} {rows : List ℕ} 
 
 -- ---- what `prepare` answers
 module _ {j : Job} {bytes : List ℕ} {at : ℕ} {h : Header} {rows : List ℕ} {areas : List Float} {places : List ℕ} (R : ReadInto j bytes at h rows areas places)
-    {l : Lent} {shapes₀ sheet₀ placed₀ : List Float} {entries₀ placed-entries₀ : List ℕ} {intervals₀ positions₀ : List Float}
-    (Z : Zeroed l shapes₀ sheet₀ placed₀ entries₀ placed-entries₀ intervals₀ positions₀)
-    (q : Answers.Prepared) (shapes sheet : List Float) (entries : List ℕ)
-    (E : PreparedIs q (plannerOf j) (Rooms₀.given shapes₀ sheet₀ entries₀) shapes sheet entries) where
+    {l : Lent} {shapes₀ sheet₀ placed₀ : List Float} {entries₀ placed-entries₀ : List ℕ} {intervals₀ positions₀ : List Float} {firsts₀ placed-firsts₀ : List ℕ}
+    (Z : Zeroed l shapes₀ sheet₀ placed₀ entries₀ placed-entries₀ intervals₀ positions₀ firsts₀ placed-firsts₀)
+    (q : Answers.Prepared) (shapes sheet : List Float) (entries firsts : List ℕ)
+    (E : PreparedIs q (plannerOf j) (Rooms₀.given shapes₀ sheet₀ entries₀ firsts₀) shapes sheet entries firsts) where
   same-verdict : prepareVerdict (plannerOf j) (l .rooms) ≡ q .verdict
-  same-verdict = sym (E .verdict-is ∙ verdict-zeroed (plannerOf j) l shapes₀ sheet₀ entries₀ (Z .shapes-zero) (Z .sheet-zero) (Z .sheet-entries-zero))
+  same-verdict = sym (E .verdict-is ∙ verdict-zeroed (plannerOf j) l shapes₀ sheet₀ entries₀ firsts₀ (Z .shapes-zero) (Z .sheet-zero) (Z .sheet-entries-zero) (Z .sheet-firsts-zero))
 
   module _ (e : q .verdict ≡ Accepted) where
     abbrev T : Tables
@@ -153,23 +163,28 @@ module _ {j : Job} {bytes : List ℕ} {at : ℕ} {h : Header} {rows : List ℕ} 
 
     pub ready-given : Prepared j (given (sheetIndex (T .«sheet_bounds»)) (T .«sheet_bounds») (T .resolution) rows areas (T .«inset_bounds») (T .parts)
         (take (6 * T .«apart_strips») shapes) (drop (6 * T .«apart_strips») shapes) (take (6 * T .«sheet_strips») sheet) entries (q .«sheet_starts»))
-    ready-given = prepared-is R Z (q .tables) shapes sheet entries (q .«sheet_starts») (E .ready e) (same-verdict ∙ e)
+    ready-given = prepared-is R Z (q .tables) shapes sheet entries (q .«sheet_starts») firsts (E .ready e) (same-verdict ∙ e)
+
+    pub ready-firsts : SheetFirsts (given (sheetIndex (T .«sheet_bounds»)) (T .«sheet_bounds») (T .resolution) rows areas (T .«inset_bounds») (T .parts)
+        (take (6 * T .«apart_strips») shapes) (drop (6 * T .«apart_strips») shapes) (take (6 * T .«sheet_strips») sheet) entries (q .«sheet_starts»)) firsts
+    ready-firsts = firsts-given R Z (q .tables) shapes sheet entries (q .«sheet_starts») firsts (E .ready e)
 
     pub ready-sheet : 6 * T .«sheet_strips» ≤ length sheet
-    ready-sheet = sheet-within R Z (q .tables) shapes sheet entries (q .«sheet_starts») (E .ready e)
+    ready-sheet = sheet-within R Z (q .tables) shapes sheet entries (q .«sheet_starts») firsts (E .ready e)
 
     pub ready-shapes : 6 * T .«apart_strips» ≤ length shapes
-    ready-shapes = shapes-within R Z (q .tables) shapes sheet entries (q .«sheet_starts») (E .ready e)
+    ready-shapes = shapes-within R Z (q .tables) shapes sheet entries (q .«sheet_starts») firsts (E .ready e)
 
     -- the reply of what is filled then
     pub ready-reply : (w : Planned) (r : NestResult) (positions : List Float)
         → (length (l .rooms .placed) ≡ length placed₀ → length (l .rooms .placed-entries) ≡ length placed-entries₀
-        → length (l .intervals) ≡ length intervals₀ → positions₀ ≡ zeros posZero (l .positions) → reply r positions ≡ replyOf w)
+        → length (l .intervals) ≡ length intervals₀ → length (l .rooms .placed-firsts) ≡ length placed-firsts₀ → positions₀ ≡ zeros posZero (l .positions) → reply r positions ≡ replyOf w)
         → reply r positions ≡ replyOf (plannedWhen (prepareVerdict (plannerOf j) (l .rooms)) l w)
     ready-reply w r positions f =
         f (sym (ap length (Z .placed-zero) ∙ length-zeros posZero (l .rooms .placed)))
         (sym (ap length (Z .placed-entries-zero) ∙ length-zeros 0 (l .rooms .placed-entries)))
-        (sym (ap length (Z .intervals-zero) ∙ length-zeros posZero (l .intervals))) (Z .positions-zero)
+        (sym (ap length (Z .intervals-zero) ∙ length-zeros posZero (l .intervals)))
+        (sym (ap length (Z .placed-firsts-zero) ∙ length-zeros 0 (l .rooms .placed-firsts))) (Z .positions-zero)
         ∙ ap (λ (v : Verdict). replyOf (plannedWhen v l w)) (sym (same-verdict ∙ e))
 
   -- 20 or 21

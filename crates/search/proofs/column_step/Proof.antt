@@ -29,9 +29,9 @@ slice-read-tracks c = search needs
 
 add-tracks : tie.Need-add-tracks
 add-tracks c =
-    let c11 = c .before .before .before .before .before .before .before .before .before .before .before in
-    let p = c11 .pre in
-    record { fits = subst (λ (n : ℕ). n + 1 < 2 ^ 64) (field-at 0 2 1 1024 (c11 .args .tracks .now) (c11 .args .slot) 0 (p .2)) (p .4) }
+    let c13 = c .before .before .before .before .before .before .before .before .before .before .before .before .before in
+    let p = c13 .pre in
+    record { fits = subst (λ (n : ℕ). n + 1 < 2 ^ 64) (field-at 0 2 1 1024 (c13 .args .tracks .now) (c13 .args .slot) 0 (p .2)) (p .4) }
 
 mul-tracks-2 : tie.Need-mul-tracks-2
 mul-tracks-2 c = search needs
@@ -44,10 +44,14 @@ x-requires c κs = search needs
 
 look-at-requires : tie.Need-look-at-requires
 look-at-requires c κs =
-    let c13 = c .before .before .before .before .before .before .before .before .before .before .before .before .before in
-    let g = c13 .args in
-    subst⁻¹ (λ (x : Float). Lookable (g .ix) x (g .k .«y_low») (g .k .«y_high») (g .inset .now) (g .apart .now) (g .sheet .now) (g .placed .now)
-    (g .sheet-entries .now) (g .sheet-starts .now) (g .placed-entries .now) (g .placed-starts .now)) (c .before .x .ensures) (c13 .pre .0)
+    let c15 = c .before .before .before .before .before .before .before .before .before .before .before .before .before .before .before in
+    let g = c15 .args in
+    let p = c15 .pre in (
+      subst⁻¹ (λ (x : Float). Lookable (g .ix) x (g .k .«y_low») (g .k .«y_high») (g .inset .now) (g .apart .now) (g .sheet .now) (g .placed .now)
+          (g .sheet-entries .now) (g .sheet-starts .now) (g .placed-entries .now) (g .placed-starts .now)) (c .before .x .ensures) (p .0),
+      p .5,
+      p .6,
+    )
 
 same-length : tie.Need-same-length
 same-length c = search needs
@@ -59,8 +63,9 @@ returns : tie.Need-returns
 unfolding answerAt
 returns c =
     let c16 = c .before .before .before .before .before .before .before .before .before .before .before .before .before .before .before .before in
-    let g = c16 .args in
-    let p = c16 .pre in (
+    let c18 = c16 .before .before in
+    let g = c18 .args in
+    let p = c18 .pre in (
       c .before .before .look-at .ensures
           ∙ ap (λ (x : Float). lookOf (length (g .room .now) / 2) x (g .k .«y_low») (g .k .«y_high») (g .inset .now) (g .apart .now) (g .sheet .now)
           (g .placed .now))

@@ -36,10 +36,11 @@ start-requires c κs = search needs
 
 column-search-requires : tie.Need-column-search-requires
 column-search-requires c κs =
-    let c15 = c .before .before .before .before .before .before .before .before .before .before .before .before .before .before .before in
-    let p = c15 .pre in
+    let c16 = c .before .before .before .before .before .before .before .before .before .before .before .before .before .before .before .before in
+    let c17 = c16 .before in
+    let p = c17 .pre in
     let l = c .before .before .before .before .last .ensures in
-    ((λ d g h. p .0 d (subst (λ (n : ℕ). d ≤ n) (l .0) h)), p .1, l .1, p .2, p .3, few _ _ _ (p .4) (l .1))
+    ((λ d g h. p .0 d (subst (λ (n : ℕ). d ≤ n) (l .0) h)), p .1, l .1, p .2, p .3, few _ _ _ (p .4) (l .1), p .5, p .6)
 
 next-of-requires : tie.Need-next-of-requires
 next-of-requires c κs = search needs
@@ -60,9 +61,9 @@ returns : tie.Need-returns
 returns c =
     let c8 = c .before .before .before .before .before .before .before .before in
     let c10 = c8 .before .before in
-    let c21 = c10 .before .before .before .before .before .before .before .before .before .before .before in
-    let a = c21 .args in
-    let p = c21 .pre in
+    let c23 = c10 .before .before .before .before .before .before .before .before .before .before .before .before .before in
+    let a = c23 .args in
+    let p = c23 .pre in
     let s = c .before .before .before .before .before .column-search in
     search-in (answerAt (length (a .room .now) / 2) (a .k) (a .inset .now) (a .apart .now) (a .sheet .now) (a .placed .now)) (a .k) (a .slot) (a .tracks .now) _
     (s .result) (c10 .last .result) (c8 .start .result) (c .next-of .result) (p .2)

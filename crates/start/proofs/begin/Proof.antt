@@ -22,9 +22,10 @@ slice-aggregate-begin-job-2 c =
 
 begin-job-requires : tie.Need-begin-job-requires
 begin-job-requires c κs =
-    let c10 = c .before .before .before .before .before .before .before .before .before .before in
-    let t = c10 .read in
-    let e = read-as _ (t .result) (t .ensures .0) (c .before .before .before .before .before .before .answer .given .1) in
+    let c7 = c .before .before .before .before .before .before .before in
+    let c11 = c7 .before .before .before .before in
+    let t = c11 .read in
+    let e = read-as _ (t .result) (t .ensures .0) (c7 .answer .given .1) in
     (le-of-eq (sym (t .ensures .1)), le-of-eq (sym (t .ensures .3)), (t .result .areas, le-of-eq (sym (t .ensures .2)), e))
 
 enum-known-answer-2 : tie.Need-enum-known-answer-2
@@ -34,31 +35,42 @@ refused-requires : tie.Need-refused-requires
 refused-requires c κs = tt
 
 same-length : tie.Need-same-length
-same-length c = c .before .before .before .before .before .before .begin-job .kept .1 .1 .1 .1 .1 .1 .1 .1 .0
+same-length c =
+    let c8 = c .before .before .before .before .before .before .before .before in
+    c8 .begin-job .kept .1 .1 .1 .1 .1 .1 .1 .1 .0
 
 same-length-2 : tie.Need-same-length-2
-same-length-2 c = c .before .before .before .before .before .before .begin-job .kept .1 .1 .1 .1 .1 .1 .1 .1 .1 .0
+same-length-2 c =
+    let c8 = c .before .before .before .before .before .before .before .before in
+    c8 .begin-job .kept .1 .1 .1 .1 .1 .1 .1 .1 .1 .0
 
 same-length-3 : tie.Need-same-length-3
-same-length-3 c = c .before .before .before .before .before .before .begin-job .kept .1 .1 .1 .1 .1 .1 .1 .1 .1 .1 .0
+same-length-3 c =
+    let c8 = c .before .before .before .before .before .before .before .before in
+    c8 .begin-job .kept .1 .1 .1 .1 .1 .1 .1 .1 .1 .1 .0
+
+same-length-4 : tie.Need-same-length-4
+same-length-4 c =
+    let c8 = c .before .before .before .before .before .before .before .before in
+    c8 .begin-job .kept .1 .1 .1 .1 .1 .1 .1 .1 .1 .1 .1 .0
 
 returns : tie.Need-returns
 returns c =
-    let c6 = c .before .before .before .before .before .before in
-    let c13 = c6 .before .before .before .before .before .before .before in
-    let c17 = c13 .before .before .before .before in
-    let c23 = c17 .before .before .before .before .before .before in
-    let e = read-as _ (c17 .read .result) (c17 .read .ensures .0) (c13 .answer .given .1) in
-    λ l C q. job-accepted (c23 .args .bytes .now) (c23 .args .order .now) l _ (c6 .begin-job .result) _ _ _ e (c6 .begin-job .ensures _ l e C q)
+    let c8 = c .before .before .before .before .before .before .before .before in
+    let c16 = c8 .before .before .before .before .before .before .before .before in
+    let c20 = c16 .before .before .before .before in
+    let c27 = c20 .before .before .before .before .before .before .before in
+    let e = read-as _ (c20 .read .result) (c20 .read .ensures .0) (c16 .answer .given .1) in
+    λ l C q. job-accepted (c27 .args .bytes .now) (c27 .args .order .now) l _ (c8 .begin-job .result) _ _ _ _ e (c8 .begin-job .ensures _ l e C q)
 
 returns-2 : tie.Need-returns-2
 returns-2 c =
     let c6 = c .before .before .before .before .before .before in
-    let c12 = c6 .before .before .before .before .before .before in
-    let a = c12 .args in
+    let c13 = c6 .before .before .before .before .before .before .before in
+    let a = c13 .args in
     let e = read-as _ (c6 .read .result) (c6 .read .ensures .0) (c .before .before .answer2 .given .1) in
     λ l C q. job-refused (a .bytes .now) (a .order .now) l _ (c .refused .result)
-    (a .shapes .now) (a .sheet .now) (a .sheet-entries .now) C e (c .refused .ensures)
+    (a .shapes .now) (a .sheet .now) (a .sheet-entries .now) (a .sheet-firsts .now) C e (c .refused .ensures)
 
 pub begin-spec : {M : Type 1} → statement M
 begin-spec =
@@ -74,5 +86,6 @@ begin-spec =
     same-length
     same-length-2
     same-length-3
+    same-length-4
     returns
     returns-2)

@@ -18,51 +18,64 @@ refused-requires c κs = tt
 
 returns : tie.Need-returns
 returns c =
-    let c9 = c .before .before .before .before .before .before .before .before .before in
-    λ j l e C q. few-positions j (c9 .args .order .now) l (c .refused .result) (c9 .args .shapes .now) (c9 .args .sheet .now) (c9 .args .sheet-entries .now)
-    (c9 .args .positions) q (subst (λ (x : Job). c9 .args .positions < x .copies)
-    (job-is (c9 .args .bytes .now) (c9 .args .rows .now) (c9 .args .places .now) (c9 .args .h) (c9 .args .at) (c9 .args .copies) (c9 .pre .2) j e)
+    let c10 = c .before .before .before .before .before .before .before .before .before .before in
+    λ j l e C q. few-positions j (c10 .args .order .now) l (c .refused .result) (c10 .args .shapes .now) (c10 .args .sheet .now) (c10 .args .sheet-entries .now)
+    (c10 .args .sheet-firsts .now)
+    (c10 .args .positions) q (subst (λ (x : Job). c10 .args .positions < x .copies)
+    (job-is (c10 .args .bytes .now) (c10 .args .rows .now) (c10 .args .places .now) (c10 .args .h) (c10 .args .at) (c10 .args .copies) (c10 .pre .2) j e)
     (c .before .if1 .taken)) (c .refused .ensures) C
 
 rearranged-requires : tie.Need-rearranged-requires
 rearranged-requires c κs =
-    let c8 = c .before .before .before .before .before .before .before .before in
-    (few-kinds (c8 .args .bytes .now) (c8 .args .rows .now) (c8 .args .places .now) (c8 .args .h) (c8 .args .at) (c8 .args .copies) (c8 .pre .2), c8 .pre .0)
+    let c9 = c .before .before .before .before .before .before .before .before .before in
+    (few-kinds (c9 .args .bytes .now) (c9 .args .rows .now) (c9 .args .places .now) (c9 .args .h) (c9 .args .at) (c9 .args .copies) (c9 .pre .2), c9 .pre .0)
 
 begin-order-requires : tie.Need-begin-order-requires
 begin-order-requires c κs =
-    let c4 = c .before .before .before .before in
-    let c13 = c4 .before .before .before .before .before .before .before .before .before in (
-      order-fits (c13 .args .bytes .now) (c13 .args .rows .now) (c13 .args .places .now) (c13 .args .h) (c13 .args .at) (c13 .args .copies) (c13 .pre .2)
-          (c13 .args .order .now) (c13 .pre .0) (c4 .rearranged .result) (c4 .rearranged .ensures) (c .before .before .before .if2 .taken),
-      c13 .pre .0,
-      c13 .pre .1,
+    let c5 = c .before .before .before .before .before in
+    let c15 = c5 .before .before .before .before .before .before .before .before .before .before in (
+      order-fits (c15 .args .bytes .now) (c15 .args .rows .now) (c15 .args .places .now) (c15 .args .h) (c15 .args .at) (c15 .args .copies) (c15 .pre .2)
+          (c15 .args .order .now) (c15 .pre .0) (c5 .rearranged .result) (c5 .rearranged .ensures) (c .before .before .before .before .if2 .taken),
+      c15 .pre .0,
+      c15 .pre .1,
     )
 
 same-length : tie.Need-same-length
-same-length c = c .before .before .before .before .before .before .begin-order .kept .1 .1 .1 .1 .1 .1 .0
+same-length c =
+    let c8 = c .before .before .before .before .before .before .before .before in
+    c8 .begin-order .kept .1 .1 .1 .1 .1 .1 .0
 
 same-length-2 : tie.Need-same-length-2
-same-length-2 c = c .before .before .before .before .before .before .begin-order .kept .1 .1 .1 .1 .1 .1 .1 .0
+same-length-2 c =
+    let c8 = c .before .before .before .before .before .before .before .before in
+    c8 .begin-order .kept .1 .1 .1 .1 .1 .1 .1 .0
 
 same-length-3 : tie.Need-same-length-3
-same-length-3 c = c .before .before .before .before .before .before .begin-order .kept .1 .1 .1 .1 .1 .1 .1 .1 .0
+same-length-3 c =
+    let c8 = c .before .before .before .before .before .before .before .before in
+    c8 .begin-order .kept .1 .1 .1 .1 .1 .1 .1 .1 .0
+
+same-length-4 : tie.Need-same-length-4
+same-length-4 c =
+    let c8 = c .before .before .before .before .before .before .before .before in
+    c8 .begin-order .kept .1 .1 .1 .1 .1 .1 .1 .1 .1 .0
 
 returns-2 : tie.Need-returns-2
 returns-2 c =
-    let c10 = c .before .before .before .before .before .before .before .before .before .before in
-    let c11 = c10 .before in
-    let c12 = c11 .before in
-    let c20 = c12 .before .before .before .before .before .before .before .before in
-    λ j l e C q. c .before .before .before .before .before .before .begin-order .ensures j l
-    (tables-of (c20 .args .bytes .now) (c20 .args .rows .now) (c20 .args .places .now) (c20 .args .h) (c20 .args .at) (c20 .args .copies) (c20 .pre .2) j e)
-    (header-is (c20 .args .bytes .now) (c20 .args .rows .now) (c20 .args .places .now) (c20 .args .h) (c20 .args .at) (c20 .args .copies) (c20 .pre .2) j e)
-    C (right-order j (c20 .args .order .now) l (c20 .args .positions) q (subst (λ (x : Job). x .copies ≤ c20 .args .positions)
-    (job-is (c20 .args .bytes .now) (c20 .args .rows .now) (c20 .args .places .now) (c20 .args .h) (c20 .args .at) (c20 .args .copies) (c20 .pre .2) j e)
-    (c12 .if1 .left)) (subst (λ (x : Job). rearranged x (c20 .args .order .now) ≡ true)
-    (job-is (c20 .args .bytes .now) (c20 .args .rows .now) (c20 .args .places .now) (c20 .args .h) (c20 .args .at) (c20 .args .copies) (c20 .pre .2) j e)
-    (sym (order-is (c20 .args .bytes .now) (c20 .args .rows .now) (c20 .args .places .now) (c20 .args .h) (c20 .args .at) (c20 .args .copies) (c20 .pre .2)
-    (c20 .args .order .now) (c20 .pre .0) (c11 .rearranged .result) (c11 .rearranged .ensures)) ∙ c10 .if2 .taken)))
+    let c8 = c .before .before .before .before .before .before .before .before in
+    let c13 = c8 .before .before .before .before .before in
+    let c14 = c13 .before in
+    let c15 = c14 .before in
+    let c24 = c15 .before .before .before .before .before .before .before .before .before in
+    λ j l e C q. c8 .begin-order .ensures j l
+    (tables-of (c24 .args .bytes .now) (c24 .args .rows .now) (c24 .args .places .now) (c24 .args .h) (c24 .args .at) (c24 .args .copies) (c24 .pre .2) j e)
+    (header-is (c24 .args .bytes .now) (c24 .args .rows .now) (c24 .args .places .now) (c24 .args .h) (c24 .args .at) (c24 .args .copies) (c24 .pre .2) j e)
+    C (right-order j (c24 .args .order .now) l (c24 .args .positions) q (subst (λ (x : Job). x .copies ≤ c24 .args .positions)
+    (job-is (c24 .args .bytes .now) (c24 .args .rows .now) (c24 .args .places .now) (c24 .args .h) (c24 .args .at) (c24 .args .copies) (c24 .pre .2) j e)
+    (c15 .if1 .left)) (subst (λ (x : Job). rearranged x (c24 .args .order .now) ≡ true)
+    (job-is (c24 .args .bytes .now) (c24 .args .rows .now) (c24 .args .places .now) (c24 .args .h) (c24 .args .at) (c24 .args .copies) (c24 .pre .2) j e)
+    (sym (order-is (c24 .args .bytes .now) (c24 .args .rows .now) (c24 .args .places .now) (c24 .args .h) (c24 .args .at) (c24 .args .copies) (c24 .pre .2)
+    (c24 .args .order .now) (c24 .pre .0) (c14 .rearranged .result) (c14 .rearranged .ensures)) ∙ c13 .if2 .taken)))
 
 refused-requires-2 : tie.Need-refused-requires-2
 refused-requires-2 c κs = tt
@@ -70,14 +83,15 @@ refused-requires-2 c κs = tt
 returns-3 : tie.Need-returns-3
 returns-3 c =
     let c2 = c .before .before in
-    let c11 = c2 .before .before .before .before .before .before .before .before .before in
-    λ j l e C q. wrong-order j (c11 .args .order .now) l (c .refused2 .result) (c11 .args .shapes .now) (c11 .args .sheet .now) (c11 .args .sheet-entries .now)
-    (c11 .args .positions) q (subst (λ (x : Job). x .copies ≤ c11 .args .positions)
-    (job-is (c11 .args .bytes .now) (c11 .args .rows .now) (c11 .args .places .now) (c11 .args .h) (c11 .args .at) (c11 .args .copies) (c11 .pre .2) j e)
-    (c .before .before .before .if1 .left)) (subst (λ (x : Job). rearranged x (c11 .args .order .now) ≡ false)
-    (job-is (c11 .args .bytes .now) (c11 .args .rows .now) (c11 .args .places .now) (c11 .args .h) (c11 .args .at) (c11 .args .copies) (c11 .pre .2) j e)
-    (sym (order-is (c11 .args .bytes .now) (c11 .args .rows .now) (c11 .args .places .now) (c11 .args .h) (c11 .args .at) (c11 .args .copies) (c11 .pre .2)
-    (c11 .args .order .now) (c11 .pre .0) (c2 .rearranged .result) (c2 .rearranged .ensures)) ∙ c .before .if2 .left)) (c .refused2 .ensures) C
+    let c12 = c2 .before .before .before .before .before .before .before .before .before .before in
+    λ j l e C q. wrong-order j (c12 .args .order .now) l (c .refused2 .result) (c12 .args .shapes .now) (c12 .args .sheet .now) (c12 .args .sheet-entries .now)
+    (c12 .args .sheet-firsts .now)
+    (c12 .args .positions) q (subst (λ (x : Job). x .copies ≤ c12 .args .positions)
+    (job-is (c12 .args .bytes .now) (c12 .args .rows .now) (c12 .args .places .now) (c12 .args .h) (c12 .args .at) (c12 .args .copies) (c12 .pre .2) j e)
+    (c .before .before .before .if1 .left)) (subst (λ (x : Job). rearranged x (c12 .args .order .now) ≡ false)
+    (job-is (c12 .args .bytes .now) (c12 .args .rows .now) (c12 .args .places .now) (c12 .args .h) (c12 .args .at) (c12 .args .copies) (c12 .pre .2) j e)
+    (sym (order-is (c12 .args .bytes .now) (c12 .args .rows .now) (c12 .args .places .now) (c12 .args .h) (c12 .args .at) (c12 .args .copies) (c12 .pre .2)
+    (c12 .args .order .now) (c12 .pre .0) (c2 .rearranged .result) (c2 .rearranged .ensures)) ∙ c .before .if2 .left)) (c .refused2 .ensures) C
 
 pub begin-job-spec : {M : Type 1} → statement M
 begin-job-spec =
@@ -90,6 +104,7 @@ begin-job-spec =
     same-length
     same-length-2
     same-length-3
+    same-length-4
     returns-2
     refused-requires-2
     returns-3)

@@ -7,7 +7,7 @@ use lib.ListN.{length, getD, take, drop}
 use lib.Ieee.{Float}
 use Rattle.numbers.specs.Numbers.{posZero}
 use Rattle.trapezoid.specs.Strip.{capacity}
-use Rattle.index.specs.inner.Listing.{Laid}
+use Rattle.index.specs.inner.Listing.{Laid, FirstBuckets}
 use Rattle.bits.specs.declared.Refusal as Bits
 use Rattle.filling.specs.declared.Refusal.{Refusal}
 use Rattle.job.specs.declared.Header.{Header}
@@ -23,7 +23,7 @@ use Rattle.filling.specs.NextCopy as Next
 use Rattle.filling.specs.NextCopy.{noStep, placeNext, coreStep, stepJob, stepGiven, nextCopyOf}
 use Rattle.filling.proofs.Runs.{step-consistent}
 use Rattle.accounts.proofs.tables.Tabling.{jobIn, kinds-in, tabled}
-use Rattle.filling_laws.proofs.Ready.{laid-whole, strips-within}
+use Rattle.filling_laws.proofs.Ready.{laid-whole, firsts-whole, strips-within}
 use Rattle.filling_laws.proofs.ReadyOrder.{most-turns, none-left}
 use Rattle.step.specs.inner.Going.{Going, stepOf}
 use Rattle.step.specs.step_job.inner.Opened.{Opened}
@@ -44,8 +44,12 @@ step-used-up j s w intervals e h = used-up j s w intervals (none-left j s w e h)
 pub going : (j : Job) (s : State) (w : Rooms) (rows : List ℕ) (areas : List Float) (kinds copies : ℕ) (sheet-starts starts : List ℕ) → Opened j rows areas kinds copies → consistent j s w ≡ true → s .taken < copies
     → Laid (sheetIndex (s .tables .«sheet_bounds»)) (take (6 * s .tables .«sheet_strips») (w .sheet)) (capacity (take (6 * s .tables .«sheet_strips») (w .sheet))) (w .sheet-entries) sheet-starts
     → Laid (sheetIndex (s .tables .«sheet_bounds»)) (take (6 * s .«placed_strips») (w .placed)) (capacity (take (6 * s .«placed_strips») (w .placed))) (w .placed-entries) starts
+    → FirstBuckets (sheetIndex (s .tables .«sheet_bounds»)) (take (6 * s .tables .«sheet_strips») (w .sheet))
+    (capacity (take (6 * s .tables .«sheet_strips») (w .sheet))) (w .sheet-firsts)
+    → FirstBuckets (sheetIndex (s .tables .«sheet_bounds»)) (take (6 * s .«placed_strips») (w .placed))
+    (capacity (take (6 * s .«placed_strips») (w .placed))) (w .placed-firsts)
     → Going j s w rows areas sheet-starts starts
-going j s w rows areas kinds copies sheet-starts starts O e h L P =
+going j s w rows areas kinds copies sheet-starts starts O e h L P K Q =
     record {
       tabled = O .tabled;
       good = O .good;
@@ -54,6 +58,8 @@ going j s w rows areas kinds copies sheet-starts starts O e h L P =
       left = subst⁻¹ (λ (n : ℕ). s .taken < n) (O .copies-are) h;
       sheet-laid = L;
       placed-laid = laid-whole (sheetIndex (s .tables .«sheet_bounds»)) (w .placed) (s .«placed_strips») (w .placed-entries) starts (strips-within j s w e .placed) P;
+      sheet-kept = K;
+      placed-kept = firsts-whole (sheetIndex (s .tables .«sheet_bounds»)) (w .placed) (s .«placed_strips») (w .placed-firsts) (strips-within j s w e .placed) Q;
     }
 
 -- ---- what the tables hold

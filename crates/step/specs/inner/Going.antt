@@ -7,7 +7,7 @@ use mathlib.Core.List.{List}
 use lib.ListN.{set, take}
 use lib.Ieee.{Float}
 use Rattle.trapezoid.specs.Strip.{capacity}
-use Rattle.index.specs.inner.Listing.{Laid}
+use Rattle.index.specs.inner.Listing.{Laid, FirstBuckets}
 use Rattle.job.specs.Jobs.{Job}
 use Rattle.job.proofs.Accepted.{GoodJob}
 use Rattle.filling.specs.declared.State.{State}
@@ -22,9 +22,17 @@ use Rattle.place.specs.declared.Step as Place
 use Rattle.place.specs.inner.Placing.{orientationNumber, outcomeX, yOf}
 use Rattle.step.specs.declared.Stepped.{Stepped}
 
-abbrev pub rooms : List Float → List Float → List Float → List ℕ → List ℕ → Rooms
-rooms shapes sheet placed sheet-entries entries =
-    record { shapes = shapes; sheet = sheet; placed = placed; sheet-entries = sheet-entries; placed-entries = entries }
+abbrev pub rooms : List Float → List Float → List Float → List ℕ → List ℕ → List ℕ → List ℕ → Rooms
+rooms shapes sheet placed sheet-entries entries sheet-firsts firsts =
+    record {
+      shapes = shapes;
+      sheet = sheet;
+      placed = placed;
+      sheet-entries = sheet-entries;
+      placed-entries = entries;
+      sheet-firsts = sheet-firsts;
+      placed-firsts = firsts;
+    }
 
 -- the tables of a job, a state and rooms that 31 lets pass, the starts of their buckets, and a copy to come
 pub record Going (j : Job) (s : State) (w : Rooms) (rows : List ℕ) (areas : List Float) (sheet-starts starts : List ℕ) : Type 0 where
@@ -36,6 +44,9 @@ pub record Going (j : Job) (s : State) (w : Rooms) (rows : List ℕ) (areas : Li
   pub sheet-laid : Laid (sheetIndex (s .tables .«sheet_bounds»)) (take (6 * s .tables .«sheet_strips») (w .sheet))
       (capacity (take (6 * s .tables .«sheet_strips») (w .sheet))) (w .sheet-entries) sheet-starts
   pub placed-laid : Laid (sheetIndex (s .tables .«sheet_bounds»)) (w .placed) (s .«placed_strips») (w .placed-entries) starts
+  pub sheet-kept : FirstBuckets (sheetIndex (s .tables .«sheet_bounds»)) (take (6 * s .tables .«sheet_strips») (w .sheet))
+      (capacity (take (6 * s .tables .«sheet_strips») (w .sheet))) (w .sheet-firsts)
+  pub placed-kept : FirstBuckets (sheetIndex (s .tables .«sheet_bounds»)) (w .placed) (s .«placed_strips») (w .placed-firsts)
 
 -- a reply with the rooms after it
 abbrev pub stepOf : Stepped → Rooms → List Float → Step

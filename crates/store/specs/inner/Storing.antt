@@ -1,5 +1,6 @@
 -- For inner functions' contracts only: storing a copy in the code's order, and what it leaves. Definitions only. Assumes nothing.
 use Prim.Native.Nat.{ℕ, zero, suc, _+_, _-_, _*_}
+use mathlib.Core.Path.{_≡_}
 use mathlib.Core.Bool.{Bool, true, false}
 use mathlib.Core.List.{List, _++_}
 use lib.ListN.{length, take}
@@ -10,8 +11,8 @@ use Rattle.trapezoid.specs.declared.Trapezoid.{Trapezoid}
 use Rattle.trapezoid.specs.Strip.{stripAt, capacity, movedBy}
 use Rattle.trapezoid.specs.inner.Writing.{setStrip}
 use Rattle.index.specs.declared.Index.{Index}
-use Rattle.index.specs.Buckets.{bucketIn, entriesOf, standingCapacity}
-use Rattle.index.specs.inner.Listing.{Laid}
+use Rattle.index.specs.Buckets.{bucketIn, entriesOf, firstsOf, standingCapacity}
+use Rattle.index.specs.inner.Listing.{Laid, FirstBuckets}
 use Rattle.enter.specs.inner.EntryRoom.{startsOf}
 use Rattle.filling.specs.Shapes.{movedStrips}
 use Rattle.filling.specs.Rooms.{laid}
@@ -46,10 +47,10 @@ abbrev pub together : List Float → Float → Float → ℕ → List Float → 
 together apart x y n placed = take (6 * n) placed ++ movedStrips apart x y
 
 -- 20, then 21, for the whole copy
-unfoldable pub storeOf : Index → List Float → Float → Float → ℕ → List Float → List ℕ → List ℕ → Left
-storeOf ix apart x y n placed entries starts =
+unfoldable pub storeOf : Index → List Float → Float → Float → ℕ → List Float → List ℕ → List ℕ → List ℕ → Left
+storeOf ix apart x y n placed entries starts firsts =
     let strips = together apart x y n placed in
-    elim (ltb (standingCapacity placed) (capacity strips)) [
+    elim (ltb (standingCapacity placed firsts) (capacity strips)) [
       | true ↦ left NoStrips placed entries starts
       | false ↦
           elim (ltb (length entries) (length (entriesOf ix strips (capacity strips)))) [
@@ -63,3 +64,14 @@ abbrev pub Entered : Index → ℕ → ℕ → List Float → List ℕ → List 
 Entered ix n k placed entries starts NoStrips = Laid ix placed n entries starts
 Entered ix n k placed entries starts NoEntries = Laid ix placed n entries starts
 Entered ix n k placed entries starts Done = Laid ix placed (n + k) entries starts
+
+-- the first n numbers are the strips' first buckets, the rest is as it was
+pub record FirstsLaid (ix : Index) (standing : List Float) (n : ℕ) (before after : List ℕ) : Type 0 where
+  pub written : after ≡ laid (firstsOf ix standing n) before
+  pub kept : FirstBuckets ix standing n after
+
+-- after it the numbers are those of the strips that stand
+abbrev pub FirstsEntered : Index → ℕ → ℕ → List Float → List ℕ → List ℕ → Stored → Type 0
+FirstsEntered ix n k placed before after NoStrips = FirstsLaid ix placed n before after
+FirstsEntered ix n k placed before after NoEntries = FirstsLaid ix placed n before after
+FirstsEntered ix n k placed before after Done = FirstsLaid ix placed (n + k) before after

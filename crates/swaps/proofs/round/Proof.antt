@@ -17,16 +17,16 @@ use Rattle.swaps.proofs.round.Tie as tie
 
 draw-swap-requires : tie.Need-draw-swap-requires
 draw-swap-requires c κs =
-    let c15 = c .before .before .before .before .before .before .before .before .before .before .before .before .before .before .before in
-    let p = c15 .pre .0 in
-    (c15 .pre .6, p .1 .tabled .rows-long, λ (q : ℕ) h. lt-of-lt-of-le (kind-below (p .0) _ (p .1) (now (c15 .args .order)) (p .2) q h) (p .1 .tabled .few))
+    let c16 = c .before .before .before .before .before .before .before .before .before .before .before .before .before .before .before .before in
+    let c17 = c16 .before in
+    let p = c17 .pre .0 in
+    (c17 .pre .6, p .1 .tabled .rows-long, λ (q : ℕ) h. lt-of-lt-of-le (kind-below (p .0) _ (p .1) (now (c17 .args .order)) (p .2) q h) (p .1 .tabled .few))
 
 sub-other : tie.Need-sub-other
 sub-other c =
     let c16 = c .before .before .before .before .before .before .before .before .before .before .before .before .before .before .before .before in
-    let c20 = c16 .before .before .before .before in
-    let c21 = c20 .before in
-    c21 .pre .5
+    let c23 = c16 .before .before .before .before .before .before .before in
+    c23 .pre .5
 
 mul-track : tie.Need-mul-track
 mul-track c = omega arith
@@ -66,11 +66,12 @@ part-fill-order-end-2 c = search needs
 
 fill-order-requires : tie.Need-fill-order-requires
 fill-order-requires c κs =
-    let c11 = c .before .before .before .before .before .before .before .before .before .before .before in
-    let c27 = c11 .before .before .before .before .before .before .before .before .before .before .before .before .before .before .before .before in
-    let a = c27 .args in
-    let p = c27 .pre in
-    let d = c11 .draw-swap in
+    let c12 = c .before .before .before .before .before .before .before .before .before .before .before .before in
+    let c28 = c12 .before .before .before .before .before .before .before .before .before .before .before .before .before .before .before .before in
+    let c30 = c28 .before .before in
+    let a = c30 .args in
+    let p = c30 .pre in
+    let d = c12 .draw-swap in
     let o = other-half (a .b .kept) in (
       (
         p .0 .0,
@@ -82,39 +83,39 @@ fill-order-requires c κs =
           (1 - a .b .kept) o refl refl (p .2),
       part-long spotNumbers (now (a .spots)) (now (a .spots)) (spotNumbers * (1 - a .b .kept)) (spotNumbers * (1 - a .b .kept) + spotNumbers) (1 - a .b .kept) o
           refl refl (p .3),
+      p .7,
     )
 
 judge-requires : tie.Need-judge-requires
 judge-requires c κs =
     let c16 = c .before .before .before .before .before .before .before .before .before .before .before .before .before .before .before .before in
-    let c20 = c16 .before .before .before .before in
-    let c24 = c20 .before .before .before .before in
-    let c40 = c24 .before .before .before .before .before .before .before .before .before .before .before .before .before .before .before .before in
-    let a = c40 .args in
-    let d = c24 .draw-swap in
-    (c40 .pre .4, c40 .pre .5, drew-places (a .first) (a .b .random) (now (a .rows)) (now (a .order)) (d .result) (d .last .1 .1 .1 .0) (d .ensures))
+    let c26 = c16 .before .before .before .before .before .before .before .before .before .before in
+    let c42 = c26 .before .before .before .before .before .before .before .before .before .before .before .before .before .before .before .before in
+    let c44 = c42 .before .before in
+    let a = c44 .args in
+    let d = c26 .draw-swap in
+    (c44 .pre .4, c44 .pre .5, drew-places (a .first) (a .b .random) (now (a .rows)) (now (a .order)) (d .result) (d .last .1 .1 .1 .0) (d .ensures))
 
 same-length : tie.Need-same-length
 same-length c =
     let c16 = c .before .before .before .before .before .before .before .before .before .before .before .before .before .before .before .before in
-    let c20 = c16 .before .before .before .before in
-    let c27 = c20 .before .before .before .before .before .before .before in
-    c .before .before .judge .kept .1 .1 .1 .1 .1 .1 .0 ∙ c27 .draw-swap .kept .1 .1 .1 .0
+    let c29 = c16 .before .before .before .before .before .before .before .before .before .before .before .before .before in
+    c .before .before .judge .kept .1 .1 .1 .1 .1 .1 .0 ∙ c29 .draw-swap .kept .1 .1 .1 .0
 
 same-length-2 : tie.Need-same-length-2
 same-length-2 c =
-    let c15 = c .before .before .before .before .before .before .before .before .before .before .before .before .before .before .before in
-    c15 .fill-order .kept .1 .1 .1 .1 .1 .1 .1 .1 .1 .1 .0
+    let c16 = c .before .before .before .before .before .before .before .before .before .before .before .before .before .before .before .before in
+    c16 .fill-order .kept .1 .1 .1 .1 .1 .1 .1 .1 .1 .1 .0
 
 same-length-3 : tie.Need-same-length-3
 same-length-3 c =
-    let c15 = c .before .before .before .before .before .before .before .before .before .before .before .before .before .before .before in
-    c15 .fill-order .kept .1 .1 .1 .1 .1 .1 .1 .1 .1 .1 .1 .0
+    let c16 = c .before .before .before .before .before .before .before .before .before .before .before .before .before .before .before .before in
+    c16 .fill-order .kept .1 .1 .1 .1 .1 .1 .1 .1 .1 .1 .1 .0
 
 same-length-4 : tie.Need-same-length-4
 same-length-4 c =
-    let c15 = c .before .before .before .before .before .before .before .before .before .before .before .before .before .before .before in
-    c15 .fill-order .kept .1 .1 .1 .1 .1 .1 .1 .1 .1 .1 .1 .1 .0
+    let c16 = c .before .before .before .before .before .before .before .before .before .before .before .before .before .before .before .before in
+    c16 .fill-order .kept .1 .1 .1 .1 .1 .1 .1 .1 .1 .1 .1 .1 .0
 
 same-length-5 : tie.Need-same-length-5
 same-length-5 c = search needs
@@ -122,16 +123,22 @@ same-length-5 c = search needs
 same-length-6 : tie.Need-same-length-6
 same-length-6 c = search needs
 
+same-length-7 : tie.Need-same-length-7
+same-length-7 c =
+    let c16 = c .before .before .before .before .before .before .before .before .before .before .before .before .before .before .before .before in
+    c16 .fill-order .kept .1 .1 .1 .1 .1 .1 .1 .1 .1 .1 .1 .1 .1 .1 .1 .1 .0
+
 returns : tie.Need-returns
 returns c =
-    let c15 = c .before .before .before .before .before .before .before .before .before .before .before .before .before .before .before in
-    let c23 = c15 .before .before .before .before .before .before .before .before in
-    let c27 = c23 .before .before .before .before in
-    let c43 = c27 .before .before .before .before .before .before .before .before .before .before .before .before .before .before .before .before in
-    let a = c43 .args in
-    let p = c43 .pre in
-    let d = c27 .draw-swap in
-    let f = c15 .fill-order in
+    let c16 = c .before .before .before .before .before .before .before .before .before .before .before .before .before .before .before .before in
+    let c25 = c16 .before .before .before .before .before .before .before .before .before in
+    let c29 = c25 .before .before .before .before in
+    let c45 = c29 .before .before .before .before .before .before .before .before .before .before .before .before .before .before .before .before in
+    let c47 = c45 .before .before in
+    let a = c47 .args in
+    let p = c47 .pre in
+    let d = c29 .draw-swap in
+    let f = c16 .fill-order in
     let q = c .before .before .judge in
     let o = 1 - a .b .kept in
     let k = other-half (a .b .kept) in
@@ -141,36 +148,36 @@ returns c =
     refl refl (p .2) in
     let ns = f .kept .1 .1 .1 .1 .1 .1 .1 .1 .1 .1 .1 .1 .1 .1 .0 ∙ part-length spotNumbers (now (a .spots)) (now (a .spots)) spot (spot + spotNumbers) o k refl
     refl (p .3) in (
-      λ (j : Job) P r (l : Lent) e1 e2 e3.
+      λ (j : Job) P r (l : Lent) e1 e2 e3 e4.
           turn-in-half j l (now (a .areas)) (a .first) (a .b) (now (a .rows)) (now (a .order)) (d .result) (d .last .1 .1 .1 .0) (d .ensures) (P .tabled)
-          (kind-below j _ P (now (a .order)) r) (now (a .tracks)) (now (a .spots)) (c23 .if1 .taken) _ (f .result .verdict) (f .result .totals)
+          (kind-below j _ P (now (a .order)) r) (now (a .tracks)) (now (a .spots)) (c25 .if1 .taken) _ (f .result .verdict) (f .result .totals)
           (f .last .1 .1 .1 .1 .1 .1 .1 .1 .1 .1 .1 .1 .1 .0) (f .last .1 .1 .1 .1 .1 .1 .1 .1 .1 .1 .1 .1 .1 .1 .0)
           (p .5) (p .2) (p .3) np ns
           (f .ensures j P (drew-arranged (a .first) (a .b .random) (now (a .rows)) (now (a .order)) (d .result) (d .last .1 .1 .1 .0) (d .ensures) j r) l e1 e2
-          e3)
+          e3 e4)
           (q .ensures .0 (plannerOf j) (written (now (a .tracks)) (f .last .1 .1 .1 .1 .1 .1 .1 .1 .1 .1 .1 .1 .1 .0) track (track + trackNumbers))
           (written (now (a .spots)) (f .last .1 .1 .1 .1 .1 .1 .1 .1 .1 .1 .1 .1 .1 .1 .0) spot (spot + spotNumbers))),
-      left-arranged (a .first) (a .b .random) (now (a .rows)) (now (a .order)) (d .result) (d .last .1 .1 .1 .0) (d .ensures) (c23 .if1 .taken)
+      left-arranged (a .first) (a .b .random) (now (a .rows)) (now (a .order)) (d .result) (d .last .1 .1 .1 .0) (d .ensures) (c25 .if1 .taken)
           (q .last .1 .1 .1 .1 .1 .1 .0) (q .ensures .1),
       q .ensures .2,
       q .ensures .3,
     )
 
-same-length-7 : tie.Need-same-length-7
-same-length-7 c = c .before .before .before .before .draw-swap .kept .1 .1 .1 .0
+same-length-8 : tie.Need-same-length-8
+same-length-8 c = c .before .before .before .before .draw-swap .kept .1 .1 .1 .0
 
 returns-2 : tie.Need-returns-2
 returns-2 c =
     let c16 = c .before .before .before .before .before .before .before .before .before .before .before .before .before .before .before .before in
-    let c20 = c16 .before .before .before .before in
-    let a = c20 .args in
+    let c22 = c16 .before .before .before .before .before .before in
+    let a = c22 .args in
     let d = c .before .before .before .before .draw-swap in (
-      λ (j : Job) P r (l : Lent) e1 e2 e3.
+      λ (j : Job) P r (l : Lent) e1 e2 e3 e4.
           turn-over j l (now (a .areas)) (a .first) (a .b) (now (a .rows)) (now (a .order)) (d .result) (d .last .1 .1 .1 .0) (d .ensures) (P .tabled)
           (kind-below j _ P (now (a .order)) r) (now (a .tracks)) (now (a .spots)) (c .if1 .left),
       drew-arranged (a .first) (a .b .random) (now (a .rows)) (now (a .order)) (d .result) (d .last .1 .1 .1 .0) (d .ensures),
       omega arith,
-      c20 .pre .5,
+      c22 .pre .5,
     )
 
 pub round-spec : {M : Type 1} → statement M
@@ -199,6 +206,7 @@ round-spec =
     same-length-4
     same-length-5
     same-length-6
-    returns
     same-length-7
+    returns
+    same-length-8
     returns-2)

@@ -11,6 +11,12 @@ entry-room-requires c κs = tt
 entry-room-requires-2 : tie.Need-entry-room-requires-2
 entry-room-requires-2 c κs = tt
 
+first-room-requires : tie.Need-first-room-requires
+first-room-requires c κs = tt
+
+first-room-requires-2 : tie.Need-first-room-requires-2
+first-room-requires-2 c κs = tt
+
 interval-room-requires : tie.Need-interval-room-requires
 interval-room-requires c κs = tt
 
@@ -43,6 +49,12 @@ slice-aggregate-panel-fill-4 c = search needs
 
 slice-aggregate-panel-fill-5 : tie.Need-slice-aggregate-panel-fill-5
 slice-aggregate-panel-fill-5 c = search needs
+
+slice-aggregate-panel-fill-6 : tie.Need-slice-aggregate-panel-fill-6
+slice-aggregate-panel-fill-6 c = search needs
+
+slice-aggregate-panel-fill-7 : tie.Need-slice-aggregate-panel-fill-7
+slice-aggregate-panel-fill-7 c = search needs
 
 panel-fill-requires : tie.Need-panel-fill-requires
 panel-fill-requires c κs = tt
@@ -86,6 +98,8 @@ print-filling-spec =
     (tie.spec
     entry-room-requires
     entry-room-requires-2
+    first-room-requires
+    first-room-requires-2
     interval-room-requires
     at-most-requires
     at-most-requires-2
@@ -97,6 +111,8 @@ print-filling-spec =
     slice-aggregate-panel-fill-3
     slice-aggregate-panel-fill-4
     slice-aggregate-panel-fill-5
+    slice-aggregate-panel-fill-6
+    slice-aggregate-panel-fill-7
     panel-fill-requires
     slice-aggregate-write-all
     write-all-requires

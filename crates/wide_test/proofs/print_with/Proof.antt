@@ -11,6 +11,12 @@ entry-room-requires c κs = tt
 entry-room-requires-2 : tie.Need-entry-room-requires-2
 entry-room-requires-2 c κs = tt
 
+first-room-requires : tie.Need-first-room-requires
+first-room-requires c κs = tt
+
+first-room-requires-2 : tie.Need-first-room-requires-2
+first-room-requires-2 c κs = tt
+
 interval-room-requires : tie.Need-interval-room-requires
 interval-room-requires c κs = tt
 
@@ -44,6 +50,12 @@ slice-aggregate-panel-nest-4 c = search needs
 slice-aggregate-panel-nest-5 : tie.Need-slice-aggregate-panel-nest-5
 slice-aggregate-panel-nest-5 c = search needs
 
+slice-aggregate-panel-nest-6 : tie.Need-slice-aggregate-panel-nest-6
+slice-aggregate-panel-nest-6 c = search needs
+
+slice-aggregate-panel-nest-7 : tie.Need-slice-aggregate-panel-nest-7
+slice-aggregate-panel-nest-7 c = search needs
+
 panel-nest-requires : tie.Need-panel-nest-requires
 panel-nest-requires c κs = tt
 
@@ -71,6 +83,8 @@ print-with-spec =
     (tie.spec
     entry-room-requires
     entry-room-requires-2
+    first-room-requires
+    first-room-requires-2
     interval-room-requires
     position-room-requires
     buffer-requires
@@ -82,6 +96,8 @@ print-with-spec =
     slice-aggregate-panel-nest-3
     slice-aggregate-panel-nest-4
     slice-aggregate-panel-nest-5
+    slice-aggregate-panel-nest-6
+    slice-aggregate-panel-nest-7
     panel-nest-requires
     slice-aggregate-write-from
     write-from-requires

@@ -8,7 +8,7 @@ use lib.Ieee.{Float}
 use Rattle.numbers.specs.Numbers.{posZero}
 use Rattle.trapezoid.specs.Strip.{capacity}
 use Rattle.index.specs.declared.Index.{Index}
-use Rattle.index.specs.inner.Listing.{Laid}
+use Rattle.index.specs.inner.Listing.{Laid, FirstBuckets}
 use Rattle.index.specs.Buckets.{stripNumbers}
 use Rattle.strips.specs.declared.Rect.{Rect}
 use Rattle.job.specs.Jobs.{Job, accepted, readJob}
@@ -82,6 +82,10 @@ pub record Prepared (j : Job) (g : Given) : Type 0 where
   pub sheet-entries : g .sheet-entries ≡ firstRooms (plannerOf j) lent .sheet-entries
   pub sheet-laid : Laid (g .index) (g .sheet) (capacity (g .sheet)) (g .sheet-entries) (g .sheet-starts)
 
+-- the sheet's numbers are its strips' first buckets
+abbrev pub SheetFirsts : Given → List ℕ → Type 0
+SheetFirsts g firsts = FirstBuckets (g .index) (g .sheet) (capacity (g .sheet)) firsts
+
 -- the state after so many copies; what the layout holds of later ones does not count
 abbrev pub stateBy : Planner → List ℕ → ℕ → List ℕ → List ℕ → Totals → List ℕ → List Float → List Float → State
 stateBy p order taken next looks t orientation x y =
@@ -102,14 +106,16 @@ stateBy p order taken next looks t orientation x y =
     }
 
 -- the rooms between copies
-abbrev pub roomsBy : Planner → Rooms → List Float → List ℕ → Rooms
-roomsBy p lent placed entries =
+abbrev pub roomsBy : Planner → Rooms → List Float → List ℕ → List ℕ → Rooms
+roomsBy p lent placed entries firsts =
     record {
       shapes = firstRooms p lent .shapes;
       sheet = firstRooms p lent .sheet;
       placed = placed;
       sheet-entries = firstRooms p lent .sheet-entries;
       placed-entries = entries;
+      sheet-firsts = firstRooms p lent .sheet-firsts;
+      placed-firsts = firsts;
     }
 
 -- where copies or turns go on after number i of n

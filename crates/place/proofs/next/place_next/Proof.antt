@@ -42,59 +42,62 @@ slice-relend-prefix-place-copy c = search needs
 slice-aggregate-place-copy : tie.Need-slice-aggregate-place-copy
 slice-aggregate-place-copy c =
     let c16 = c .before .before .before .before .before .before .before .before .before .before .before .before .before .before .before .before in
-    let c19 = c16 .before .before .before in
-    sym (length-take-le 2048 (c19 .args .tracks .now) (front _ (c19 .pre .6)))
+    let c21 = c16 .before .before .before .before .before in
+    sym (length-take-le 2048 (c21 .args .tracks .now) (front _ (c21 .pre .6)))
 
 place-copy-requires : tie.Need-place-copy-requires
 place-copy-requires c κs =
     let c16 = c .before .before .before .before .before .before .before .before .before .before .before .before .before .before .before .before in
-    let c19 = c16 .before .before .before in
-    let t = c19 .args .tracks .now in
-    let p = c19 .pre in (
+    let c22 = c16 .before .before .before .before .before .before in
+    let t = c22 .args .tracks .now in
+    let p = c22 .pre in (
       p .0,
       p .1,
       subst (λ (n : ℕ). slotNumbers ≤ n) (sym (length-take-le 2048 t (front _ (p .6)))) (omega arith),
-      (λ o h. subst⁻¹ (λ (l : List ℕ). getD l (c19 .args .copy .slot + o) 0 + 4000000002 < 2 ^ 64) (front-field t 1 (omega arith)) (p .2 o h)),
+      (λ o h. subst⁻¹ (λ (l : List ℕ). getD l (c22 .args .copy .slot + o) 0 + 4000000002 < 2 ^ 64) (front-field t 1 (omega arith)) (p .2 o h)),
       p .3,
       p .4,
       p .5,
+      p .9,
+      p .10,
     )
 
 add-place : tie.Need-add-place
 add-place c =
     let c16 = c .before .before .before .before .before .before .before .before .before .before .before .before .before .before .before .before in
     let c32 = c16 .before .before .before .before .before .before .before .before .before .before .before .before .before .before .before .before in
-    record { fits = small _ (c32 .pre .8) .0 }
+    let c37 = c32 .before .before .before .before .before in
+    record { fits = small _ (c37 .pre .8) .0 }
 
 number-of-requires : tie.Need-number-of-requires
 number-of-requires c κs =
-    let c12 = c .before .before .before .before .before .before .before .before .before .before .before .before in
-    let c28 = c12 .before .before .before .before .before .before .before .before .before .before .before .before .before .before .before .before in
-    let c32 = c28 .before .before .before .before in
-    (c12 .place-copy .ensures .2, under (c32 .args .copy .slot) (c32 .args .copy .orientations) (c32 .pre .1))
+    let c14 = c .before .before .before .before .before .before .before .before .before .before .before .before .before .before in
+    let c30 = c14 .before .before .before .before .before .before .before .before .before .before .before .before .before .before .before .before in
+    let c37 = c30 .before .before .before .before .before .before .before in
+    (c14 .place-copy .ensures .2, under (c37 .args .copy .slot) (c37 .args .copy .orientations) (c37 .pre .1))
 
 mul-tracks : tie.Need-mul-tracks
 mul-tracks c =
     let c16 = c .before .before .before .before .before .before .before .before .before .before .before .before .before .before .before .before in
     let c32 = c16 .before .before .before .before .before .before .before .before .before .before .before .before .before .before .before .before in
-    let c33 = c32 .before in
-    record { fits = small _ (c33 .pre .8) .1 }
+    let c38 = c32 .before .before .before .before .before .before in
+    record { fits = small _ (c38 .pre .8) .1 }
 
 slice-write-tracks : tie.Need-slice-write-tracks
 slice-write-tracks c =
-    let c13 = c .before .before .before .before .before .before .before .before .before .before .before .before .before in
-    let c29 = c13 .before .before .before .before .before .before .before .before .before .before .before .before .before .before .before .before in
-    let c33 = c29 .before .before .before .before in
-    let t = c33 .args .tracks .now in
-    in-tracks _ (length t) _ (c33 .pre .8) (c33 .pre .6) (whole-long t (c13 .place-copy .last .1 .1 .1 .1 .1 .1 .1 .1 .1 .1 .1 .1 .1 .1 .0) (c33 .pre .6)
-    (c13 .place-copy .kept .1 .1 .1 .1 .1 .1 .1 .1 .1 .1 .1 .1 .1 .1 .0))
+    let c15 = c .before .before .before .before .before .before .before .before .before .before .before .before .before .before .before in
+    let c31 = c15 .before .before .before .before .before .before .before .before .before .before .before .before .before .before .before .before in
+    let c38 = c31 .before .before .before .before .before .before .before in
+    let t = c38 .args .tracks .now in
+    in-tracks _ (length t) _ (c38 .pre .8) (c38 .pre .6) (whole-long t (c15 .place-copy .last .1 .1 .1 .1 .1 .1 .1 .1 .1 .1 .1 .1 .1 .1 .0) (c38 .pre .6)
+    (c15 .place-copy .kept .1 .1 .1 .1 .1 .1 .1 .1 .1 .1 .1 .1 .1 .1 .0))
 
 mul-spot : tie.Need-mul-spot
 mul-spot c =
     let c16 = c .before .before .before .before .before .before .before .before .before .before .before .before .before .before .before .before in
     let c32 = c16 .before .before .before .before .before .before .before .before .before .before .before .before .before .before .before .before in
-    let c33 = c32 .before in
-    record { fits = small _ (c33 .pre .8) .2 }
+    let c38 = c32 .before .before .before .before .before .before in
+    record { fits = small _ (c38 .pre .8) .2 }
 
 x-of-requires : tie.Need-x-of-requires
 x-of-requires c κs = tt
@@ -103,22 +106,22 @@ mul-spots : tie.Need-mul-spots
 mul-spots c =
     let c16 = c .before .before .before .before .before .before .before .before .before .before .before .before .before .before .before .before in
     let c32 = c16 .before .before .before .before .before .before .before .before .before .before .before .before .before .before .before .before in
-    let c34 = c32 .before .before in
-    record { fits = small _ (c34 .pre .8) .3 }
+    let c39 = c32 .before .before .before .before .before .before .before in
+    record { fits = small _ (c39 .pre .8) .3 }
 
 slice-write-spots : tie.Need-slice-write-spots
 slice-write-spots c =
     let c16 = c .before .before .before .before .before .before .before .before .before .before .before .before .before .before .before .before in
     let c32 = c16 .before .before .before .before .before .before .before .before .before .before .before .before .before .before .before .before in
-    let c34 = c32 .before .before in
-    in-spots _ _ _ (c34 .pre .8) (c34 .pre .7) refl .0
+    let c39 = c32 .before .before .before .before .before .before .before in
+    in-spots _ _ _ (c39 .pre .8) (c39 .pre .7) refl .0
 
 add-end : tie.Need-add-end
 add-end c =
     let c16 = c .before .before .before .before .before .before .before .before .before .before .before .before .before .before .before .before in
     let c32 = c16 .before .before .before .before .before .before .before .before .before .before .before .before .before .before .before .before in
-    let c34 = c32 .before .before in
-    record { fits = small _ (c34 .pre .8) .4 }
+    let c39 = c32 .before .before .before .before .before .before .before in
+    record { fits = small _ (c39 .pre .8) .4 }
 
 y-of-requires : tie.Need-y-of-requires
 y-of-requires c κs = tt
@@ -127,15 +130,15 @@ mul-spots-2 : tie.Need-mul-spots-2
 mul-spots-2 c =
     let c16 = c .before .before .before .before .before .before .before .before .before .before .before .before .before .before .before .before in
     let c32 = c16 .before .before .before .before .before .before .before .before .before .before .before .before .before .before .before .before in
-    let c35 = c32 .before .before .before in
-    record { fits = small _ (c35 .pre .8) .5 }
+    let c40 = c32 .before .before .before .before .before .before .before .before in
+    record { fits = small _ (c40 .pre .8) .5 }
 
 slice-write-spots-2 : tie.Need-slice-write-spots-2
 slice-write-spots-2 c =
     let c16 = c .before .before .before .before .before .before .before .before .before .before .before .before .before .before .before .before in
     let c32 = c16 .before .before .before .before .before .before .before .before .before .before .before .before .before .before .before .before in
-    let c35 = c32 .before .before .before in
-    in-spots _ _ _ (c35 .pre .8) (c35 .pre .7) (length-set (c35 .args .spots .now) _ _) .1
+    let c40 = c32 .before .before .before .before .before .before .before .before in
+    in-spots _ _ _ (c40 .pre .8) (c40 .pre .7) (length-set (c40 .args .spots .now) _ _) .1
 
 same-length : tie.Need-same-length
 same-length c = search needs
@@ -158,16 +161,19 @@ same-length-6 c = search needs
 same-length-7 : tie.Need-same-length-7
 same-length-7 c = search needs
 
+same-length-8 : tie.Need-same-length-8
+same-length-8 c = search needs
+
 returns : tie.Need-returns
 returns c =
     let c1 = c .before in
     let c2 = c1 .before in
-    let c15 = c2 .before .before .before .before .before .before .before .before .before .before .before .before .before in
-    let c31 = c15 .before .before .before .before .before .before .before .before .before .before .before .before .before .before .before .before in
-    let c35 = c31 .before .before .before .before in
-    let a = c35 .args in
-    let p = c35 .pre in
-    let s = c15 .place-copy in
+    let c17 = c2 .before .before .before .before .before .before .before .before .before .before .before .before .before .before .before in
+    let c33 = c17 .before .before .before .before .before .before .before .before .before .before .before .before .before .before .before .before in
+    let c40 = c33 .before .before .before .before .before .before .before in
+    let a = c40 .args in
+    let p = c40 .pre in
+    let s = c17 .place-copy in
     let l = s .last .1 .1 .1 .1 .1 .1 .1 .1 .1 in
     let k = s .kept .1 .1 .1 .1 .1 .1 .1 .1 .1 .1 .1 .1 .1 .1 .0 in
     let t = a .tracks .now in
@@ -178,7 +184,7 @@ returns c =
       ap₂ (λ (q m : List ℕ). done (s .result) (l .0) (l .1 .0) (l .1 .1 .0) q m) (looks-kept t f (p .6) k (a .at) v) (nexts-kept t f (p .6) k (a .at) v)
           ∙ (s .ensures .0
           ∙ ap₂ (λ (q m : List ℕ). placeOf (a .g .index) w (a .copy .area) (a .copy .slot) (a .copy .orientations) (a .t) (a .placed .now) (a .entries .now)
-          (a .starts .now) q m)
+          (a .starts .now) (a .firsts .now) q m)
           (front-field t 1 (omega arith)) (front-field t 0 (omega arith))),
       orientation-written t f (p .6) k (a .at) v (p .8) ∙ ap (λ (z : ℕ). set (orientations t) (a .at) z) (c2 .number-of .ensures),
       x-written (a .spots .now) (p .7) (a .at) (p .8) (c1 .x-of .result) (c .y-of .result) ∙ ap (λ (z : Float). set (xs (a .spots .now)) (a .at) z)
@@ -186,6 +192,7 @@ returns c =
       y-written (a .spots .now) (p .7) (a .at) (p .8) (c1 .x-of .result) (c .y-of .result) ∙ ap (λ (z : Float). set (ys (a .spots .now)) (a .at) z)
           (c .y-of .ensures),
       s .ensures .1,
+      s .ensures .3,
     )
 
 pub place-next-spec : {M : Type 1} → statement M
@@ -214,4 +221,5 @@ place-next-spec =
     same-length-5
     same-length-6
     same-length-7
+    same-length-8
     returns)

@@ -12,7 +12,8 @@ use Rattle.accounts.specs.tables.inner.Tabled.{Tabled}
 use Rattle.prepare.specs.inner.Ready.{FromTables}
 
 -- the rooms are those that were lent, all zero
-pub record Zeroed (l : Lent) (shapes sheet placed : List Float) (sheet-entries placed-entries : List ℕ) (intervals positions : List Float) : Type 0 where
+pub record Zeroed (l : Lent) (shapes sheet placed : List Float) (sheet-entries placed-entries : List ℕ) (intervals positions : List Float)
+    (sheet-firsts placed-firsts : List ℕ) : Type 0 where
   pub shapes-zero : shapes ≡ zeros posZero (l .rooms .shapes)
   pub sheet-zero : sheet ≡ zeros posZero (l .rooms .sheet)
   pub placed-zero : placed ≡ zeros posZero (l .rooms .placed)
@@ -20,6 +21,8 @@ pub record Zeroed (l : Lent) (shapes sheet placed : List Float) (sheet-entries p
   pub placed-entries-zero : placed-entries ≡ zeros 0 (l .rooms .placed-entries)
   pub intervals-zero : intervals ≡ zeros posZero (l .intervals)
   pub positions-zero : positions ≡ zeros posZero (l .positions)
+  pub sheet-firsts-zero : sheet-firsts ≡ zeros 0 (l .rooms .sheet-firsts)
+  pub placed-firsts-zero : placed-firsts ≡ zeros 0 (l .rooms .placed-firsts)
 
 -- the job that was read into the tables
 pub record ReadInto (j : Job) (bytes : List ℕ) (at : ℕ) (h : Header) (rows : List ℕ) (areas : List Float) (places : List ℕ) : Type 0 where

@@ -10,55 +10,55 @@ use Rattle.consistent.proofs.consistent.Reads as consistent-reads
 slice-aggregate-consistent : tie.Need-slice-aggregate-consistent
 slice-aggregate-consistent c =
     let c16 = c .before .before .before .before .before .before .before .before .before .before .before .before .before .before .before .before in
-    let c17 = c16 .before in
-    let a = c17 .args in
-    let g = c17 .good .1 .1 .1 .0 .1 .1 in
-    let p = c17 .pre in
+    let c19 = c16 .before .before .before in
+    let a = c19 .args in
+    let g = c19 .good .1 .1 .1 .0 .1 .1 in
+    let p = c19 .pre in
     sym (length-unmapped _ (a .state .tables .«inset_bounds») 4096 (g .0 .1 .1 .1 .1 .1 .1 .0 .1 .0 .1))
 
 slice-aggregate-consistent-2 : tie.Need-slice-aggregate-consistent-2
 slice-aggregate-consistent-2 c =
     let c16 = c .before .before .before .before .before .before .before .before .before .before .before .before .before .before .before .before in
-    let c18 = c16 .before .before in
-    let a = c18 .args in
-    let g = c18 .good .1 .1 .1 .0 .1 .1 in
-    let p = c18 .pre in
+    let c20 = c16 .before .before .before .before in
+    let a = c20 .args in
+    let g = c20 .good .1 .1 .1 .0 .1 .1 in
+    let p = c20 .pre in
     sym (length-unmapped _ (a .state .tables .parts) 4096 (g .0 .1 .1 .1 .1 .1 .1 .1 .0 .1 .0 .1))
 
 slice-aggregate-consistent-3 : tie.Need-slice-aggregate-consistent-3
 slice-aggregate-consistent-3 c =
     let c16 = c .before .before .before .before .before .before .before .before .before .before .before .before .before .before .before .before in
-    let c19 = c16 .before .before .before in
-    let a = c19 .args in
-    let g = c19 .good .1 .1 .1 .0 .1 .1 in
-    let p = c19 .pre in
+    let c21 = c16 .before .before .before .before .before in
+    let a = c21 .args in
+    let g = c21 .good .1 .1 .1 .0 .1 .1 in
+    let p = c21 .pre in
     sym (length-unmapped _ (a .state .order) 4096 (g .1 .0 .1 .0 .1))
 
 slice-aggregate-consistent-4 : tie.Need-slice-aggregate-consistent-4
 slice-aggregate-consistent-4 c =
     let c16 = c .before .before .before .before .before .before .before .before .before .before .before .before .before .before .before .before in
-    let c20 = c16 .before .before .before .before in
-    let a = c20 .args in
-    let g = c20 .good .1 .1 .1 .0 .1 .1 in
-    let p = c20 .pre in
+    let c22 = c16 .before .before .before .before .before .before in
+    let a = c22 .args in
+    let g = c22 .good .1 .1 .1 .0 .1 .1 in
+    let p = c22 .pre in
     sym (length-unmapped _ (a .state .«next_column») 1024 (g .1 .1 .1 .0 .1 .0 .1))
 
 slice-aggregate-consistent-5 : tie.Need-slice-aggregate-consistent-5
 slice-aggregate-consistent-5 c =
     let c16 = c .before .before .before .before .before .before .before .before .before .before .before .before .before .before .before .before in
-    let c21 = c16 .before .before .before .before .before in
-    let a = c21 .args in
-    let g = c21 .good .1 .1 .1 .0 .1 .1 in
-    let p = c21 .pre in
+    let c23 = c16 .before .before .before .before .before .before .before in
+    let a = c23 .args in
+    let g = c23 .good .1 .1 .1 .0 .1 .1 in
+    let p = c23 .pre in
     sym (length-unmapped _ (a .state .«look_counts») 1024 (g .1 .1 .1 .1 .0 .1 .0 .1))
 
 consistent-requires : tie.Need-consistent-requires
 consistent-requires c κs =
     let c16 = c .before .before .before .before .before .before .before .before .before .before .before .before .before .before .before .before in
-    let c23 = c16 .before .before .before .before .before .before .before in
-    let a = c23 .args in
-    let g = c23 .good .1 .1 .1 .0 .1 .1 in
-    let p = c23 .pre in (
+    let c25 = c16 .before .before .before .before .before .before .before .before .before in
+    let a = c25 .args in
+    let g = c25 .good .1 .1 .1 .0 .1 .1 in
+    let p = c25 .pre in (
       p .0,
       p .1,
       p .2,
@@ -85,8 +85,8 @@ same-length-2 c = c .before .before .before .before .consistent .kept .1 .1 .1 .
 returns : tie.Need-returns
 returns c =
     let c16 = c .before .before .before .before .before .before .before .before .before .before .before .before .before .before .before .before in
-    let c28 = c16 .before .before .before .before .before .before .before .before .before .before .before .before in
-    let a = c28 .args in
+    let c30 = c16 .before .before .before .before .before .before .before .before .before .before .before .before .before .before in
+    let a = c30 .args in
     let e = c .before .before .before .before .consistent .ensures in
     (λ j areas t k n. e .0 j areas (a .state .layout .orientation) (a .state .layout .x) (a .state .layout .y) t k n, e .1)
 

@@ -40,46 +40,48 @@ slice-aggregate-search-2 c =
 
 search-requires : tie.Need-search-requires
 search-requires c κs =
-    let c8 = c .before .before .before .before .before .before .before .before in
-    let c9 = c8 .before in
-    let c21 = c9 .before .before .before .before .before .before .before .before .before .before .before .before in
-    let p = c21 .pre in (
+    let c9 = c .before .before .before .before .before .before .before .before .before in
+    let c10 = c9 .before in
+    let c24 = c10 .before .before .before .before .before .before .before .before .before .before .before .before .before .before in
+    let p = c24 .pre in (
       (p .0 .0, p .0 .1, p .0 .2),
       p .1,
       p .2,
-      two-of 6144 (length (c9 .two-tracks .result)) (length (c9 .two-tracks .result)) refl (c9 .two-tracks .ensures),
-      two-of 8192 (length (c8 .two-spots .result)) (length (c8 .two-spots .result)) refl (c8 .two-spots .ensures),
+      two-of 6144 (length (c10 .two-tracks .result)) (length (c10 .two-tracks .result)) refl (c10 .two-tracks .ensures),
+      two-of 8192 (length (c9 .two-spots .result)) (length (c9 .two-spots .result)) refl (c9 .two-spots .ensures),
       p .4,
+      p .5,
     )
 
 slice-aggregate-report-kept : tie.Need-slice-aggregate-report-kept
 slice-aggregate-report-kept c =
     let c16 = c .before .before .before .before .before .before .before .before .before .before .before .before .before .before .before .before in
     let c32 = c16 .before .before .before .before .before .before .before .before .before .before .before .before .before .before .before .before in
-    let c34 = c32 .before .before in
-    sym (length-unmapped _ (c34 .args .tables .parts) 4096 (c34 .good .0 .1 .1 .1 .1 .1 .1 .1 .0 .1 .0 .1))
+    let c39 = c32 .before .before .before .before .before .before .before in
+    sym (length-unmapped _ (c39 .args .tables .parts) 4096 (c39 .good .0 .1 .1 .1 .1 .1 .1 .1 .0 .1 .0 .1))
 
 slice-aggregate-report-kept-2 : tie.Need-slice-aggregate-report-kept-2
 slice-aggregate-report-kept-2 c =
-    let c13 = c .before .before .before .before .before .before .before .before .before .before .before .before .before in
-    let c23 = c13 .before .before .before .before .before .before .before .before .before .before in
-    sym (c13 .search .kept .1 .1 .1 .1 .1 .1 .1 .1 .1 .1 .1 .1 .1 .0 ∙ c23 .two-tracks .ensures)
+    let c15 = c .before .before .before .before .before .before .before .before .before .before .before .before .before .before .before in
+    let c26 = c15 .before .before .before .before .before .before .before .before .before .before .before in
+    sym (c15 .search .kept .1 .1 .1 .1 .1 .1 .1 .1 .1 .1 .1 .1 .1 .0 ∙ c26 .two-tracks .ensures)
 
 slice-aggregate-report-kept-3 : tie.Need-slice-aggregate-report-kept-3
 slice-aggregate-report-kept-3 c =
-    let c14 = c .before .before .before .before .before .before .before .before .before .before .before .before .before .before in
-    let c23 = c14 .before .before .before .before .before .before .before .before .before in
-    sym (c14 .search .kept .1 .1 .1 .1 .1 .1 .1 .1 .1 .1 .1 .1 .1 .1 .0 ∙ c23 .two-spots .ensures)
+    let c16 = c .before .before .before .before .before .before .before .before .before .before .before .before .before .before .before .before in
+    let c26 = c16 .before .before .before .before .before .before .before .before .before .before in
+    sym (c16 .search .kept .1 .1 .1 .1 .1 .1 .1 .1 .1 .1 .1 .1 .1 .1 .0 ∙ c26 .two-spots .ensures)
 
 report-kept-requires : tie.Need-report-kept-requires
 report-kept-requires c κs =
-    let c15 = c .before .before .before .before .before .before .before .before .before .before .before .before .before .before .before in
-    let c24 = c15 .before .before .before .before .before .before .before .before .before in
-    let c25 = c24 .before in
-    let c37 = c25 .before .before .before .before .before .before .before .before .before .before .before .before in
-    let a = c37 .args in
-    let p = c37 .pre in
-    let s = c15 .search in
+    let c16 = c .before .before .before .before .before .before .before .before .before .before .before .before .before .before .before .before in
+    let c17 = c16 .before in
+    let c27 = c17 .before .before .before .before .before .before .before .before .before .before in
+    let c28 = c27 .before in
+    let c42 = c28 .before .before .before .before .before .before .before .before .before .before .before .before .before .before in
+    let a = c42 .args in
+    let p = c42 .pre in
+    let s = c17 .search in
     let few = order-few (p .0 .0) _ (p .0 .1) (now (a .order)) (p .0 .2) in
     let q = report-ready (p .0 .0) _ (p .0 .1) (s .last .1 .1 .1 .0) (as-few (s .kept .1 .1 .1 .0) few) (a .kinds) (p .0 .3) (s .result .verdict)
     (λ _. s .ensures .1 (p .0 .0) (p .0 .2)) 4096 4096 4096 1024 (length (now (a .positions))) refl refl refl refl (as-many (s .kept .1 .1 .1 .0) (p .3)) in (
@@ -90,50 +92,56 @@ report-kept-requires c κs =
       q .8,
       q .9,
       s .ensures .2,
-      two-of 6144 (length (s .last .1 .1 .1 .1 .1 .1 .1 .1 .1 .1 .1 .1 .1 .0)) (length (c25 .two-tracks .result))
-          (s .kept .1 .1 .1 .1 .1 .1 .1 .1 .1 .1 .1 .1 .1 .0) (c25 .two-tracks .ensures),
-      two-of 8192 (length (s .last .1 .1 .1 .1 .1 .1 .1 .1 .1 .1 .1 .1 .1 .1 .0)) (length (c24 .two-spots .result))
-          (s .kept .1 .1 .1 .1 .1 .1 .1 .1 .1 .1 .1 .1 .1 .1 .0) (c24 .two-spots .ensures),
+      two-of 6144 (length (s .last .1 .1 .1 .1 .1 .1 .1 .1 .1 .1 .1 .1 .1 .0)) (length (c28 .two-tracks .result))
+          (s .kept .1 .1 .1 .1 .1 .1 .1 .1 .1 .1 .1 .1 .1 .0) (c28 .two-tracks .ensures),
+      two-of 8192 (length (s .last .1 .1 .1 .1 .1 .1 .1 .1 .1 .1 .1 .1 .1 .1 .0)) (length (c27 .two-spots .result))
+          (s .kept .1 .1 .1 .1 .1 .1 .1 .1 .1 .1 .1 .1 .1 .1 .0) (c27 .two-spots .ensures),
     )
 
 same-length : tie.Need-same-length
 same-length c =
     let c16 = c .before .before .before .before .before .before .before .before .before .before .before .before .before .before .before .before in
-    let c18 = c16 .before .before in
-    c18 .search .kept .1 .1 .1 .0
+    let c20 = c16 .before .before .before .before in
+    c20 .search .kept .1 .1 .1 .0
 
 same-length-2 : tie.Need-same-length-2
 same-length-2 c =
     let c16 = c .before .before .before .before .before .before .before .before .before .before .before .before .before .before .before .before in
-    let c18 = c16 .before .before in
-    c18 .search .kept .1 .1 .1 .1 .1 .1 .1 .1 .1 .1 .0
+    let c20 = c16 .before .before .before .before in
+    c20 .search .kept .1 .1 .1 .1 .1 .1 .1 .1 .1 .1 .0
 
 same-length-3 : tie.Need-same-length-3
 same-length-3 c =
     let c16 = c .before .before .before .before .before .before .before .before .before .before .before .before .before .before .before .before in
-    let c18 = c16 .before .before in
-    c18 .search .kept .1 .1 .1 .1 .1 .1 .1 .1 .1 .1 .1 .0
+    let c20 = c16 .before .before .before .before in
+    c20 .search .kept .1 .1 .1 .1 .1 .1 .1 .1 .1 .1 .1 .0
 
 same-length-4 : tie.Need-same-length-4
 same-length-4 c =
     let c16 = c .before .before .before .before .before .before .before .before .before .before .before .before .before .before .before .before in
-    let c18 = c16 .before .before in
-    c18 .search .kept .1 .1 .1 .1 .1 .1 .1 .1 .1 .1 .1 .1 .0
+    let c20 = c16 .before .before .before .before in
+    c20 .search .kept .1 .1 .1 .1 .1 .1 .1 .1 .1 .1 .1 .1 .0
 
 same-length-5 : tie.Need-same-length-5
 same-length-5 c = c .before .before .report-kept .kept .1 .1 .1 .1 .1 .1 .1 .1 .1 .0
 
+same-length-6 : tie.Need-same-length-6
+same-length-6 c =
+    let c16 = c .before .before .before .before .before .before .before .before .before .before .before .before .before .before .before .before in
+    let c20 = c16 .before .before .before .before in
+    c20 .search .kept .1 .1 .1 .1 .1 .1 .1 .1 .1 .1 .1 .1 .1 .1 .1 .1 .0
+
 returns : tie.Need-returns
 returns c =
     let c16 = c .before .before .before .before .before .before .before .before .before .before .before .before .before .before .before .before in
-    let c18 = c16 .before .before in
-    let c34 = c18 .before .before .before .before .before .before .before .before .before .before .before .before .before .before .before .before in
-    let c40 = c34 .before .before .before .before .before .before in
-    let a = c40 .args in
-    λ j l P r n es d e f z.
+    let c20 = c16 .before .before .before .before in
+    let c36 = c20 .before .before .before .before .before .before .before .before .before .before .before .before .before .before .before .before in
+    let c45 = c36 .before .before .before .before .before .before .before .before .before in
+    let a = c45 .args in
+    λ j l P r n es d e f k z.
     c .before .before .report-kept .ensures j (now (a .areas)) l (P .tabled) n (sym (ap (λ (b : Rect). b .right) (P .bounds)))
     (parted j _ P (now (a .shapes)) (6 * a .tables .«apart_strips») refl) z
-    ∙ ap (λ (s : Swaps). replyOf (nested j l s)) (c18 .search .ensures .0 j P r l d e f es)
+    ∙ ap (λ (s : Swaps). replyOf (nested j l s)) (c20 .search .ensures .0 j P r l d e f k es)
 
 pub search-plan-spec : {M : Type 1} → statement M
 search-plan-spec =
@@ -153,4 +161,5 @@ search-plan-spec =
     same-length-3
     same-length-4
     same-length-5
+    same-length-6
     returns)

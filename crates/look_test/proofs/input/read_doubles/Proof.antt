@@ -1,11 +1,11 @@
--- `look_test::read_doubles` meets its contract. Assumes nothing.
+-- `look_test::input::read_doubles` meets its contract. Assumes nothing.
 use Prim.Native.Nat.{_≤_, _-_}
 use native.Mathlib.Omega.{arith}
 use mathlib.Core.Path.{_≡_}
 use lib.ListN.{length}
 use borrow.Author.Needs.{needs}
-use Rattle.look_test.proofs.read_doubles.Statement.{statement}
-use Rattle.look_test.proofs.read_doubles.Tie as tie
+use Rattle.look_test.proofs.input.read_doubles.Statement.{statement}
+use Rattle.look_test.proofs.input.read_doubles.Tie as tie
 
 abbrev Inv-loop : tie.InvT-loop
 Inv-loop n out₀ i₀ out i = (i ≤ n) × (length out ≡ length out₀)
