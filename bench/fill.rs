@@ -18,8 +18,8 @@ use timed::lifted::reach::{Filled, Lifted};
 extern "C" {
     fn panel_fill(
         bytes: &[u8], order: &[usize], shapes: &mut [f64], sheet: &mut [f64], placed: &mut [f64],
-        sheet_entries: &mut [u16], placed_entries: &mut [u16], intervals: &mut [f64],
-        positions: &mut [f64],
+        sheet_entries: &mut [u16], placed_entries: &mut [u16], sheet_firsts: &mut [u16],
+        placed_firsts: &mut [u16], intervals: &mut [f64], positions: &mut [f64],
     ) -> u64;
 }
 
@@ -27,6 +27,7 @@ extern "C" {
 struct Rooms {
     strips: [Vec<f64>; 3],
     entries: [Vec<u16>; 2],
+    firsts: [Vec<u16>; 2],
     intervals: Vec<f64>,
     positions: Vec<f64>,
 }
@@ -36,6 +37,7 @@ impl Rooms {
         Self {
             strips: [(); 3].map(|_| vec![0.0; 8190]),
             entries: [(); 2].map(|_| vec![0; 16384]),
+            firsts: [(); 2].map(|_| vec![0; 1365]),
             intervals: vec![0.0; 8192],
             positions: vec![0.0; 20480],
         }
@@ -45,11 +47,12 @@ impl Rooms {
     fn fill(&mut self, bytes: &[u8], order: &[usize]) -> u64 {
         let [shapes, sheet, placed] = &mut self.strips;
         let [sheet_entries, placed_entries] = &mut self.entries;
+        let [sheet_firsts, placed_firsts] = &mut self.firsts;
         // The function asks nothing of its caller but slices of its own.
         unsafe {
             panel_fill(
-                bytes, order, shapes, sheet, placed, sheet_entries, placed_entries,
-                &mut self.intervals, &mut self.positions,
+                bytes, order, shapes, sheet, placed, sheet_entries, placed_entries, sheet_firsts,
+                placed_firsts, &mut self.intervals, &mut self.positions,
             )
         }
     }

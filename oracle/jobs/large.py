@@ -1,7 +1,7 @@
 """Large jobs for timing, within plan's rooms, drawn by draws.py."""
 from jobs.cases import job, part, rect
 from jobs.shapes import (comb, ell, finish, grown, rectangle, round_, side_comb, slanted, star,
-                    triangle, turned)
+                    triangle, turn, turned)
 
 MIXED = [rectangle, rectangle, ell, triangle, slanted, star, round_, comb, side_comb]
 
@@ -69,12 +69,63 @@ def frames(r, number):
     return kinds(r, number, makes, 10, 1250), 180.0, 90.0
 
 
+def plate(w, h, copies):
+    """A rectangle that keeps a tenth from its neighbours."""
+    return part([(rect(w + 0.2, h + 0.2, -0.1, -0.1), rect(w, h))], copies, w * h)
+
+
+def hatches(r, number):
+    """Frames alone, with a hole each, and plates that fit into the holes."""
+    parts = []
+    for i in range(12):
+        w, h = r.uniform(10, 18), r.uniform(10, 18)
+        hole = [(2, 2), (2, h - 2), (w - 2, h - 2), (w - 2, 2)]
+        outer = [(-0.1, -0.1), (w + 0.1, -0.1), (w + 0.1, h + 0.1), (-0.1, h + 0.1)]
+        parts.append(part([([outer, hole], [rectangle(r, w, h), hole])], 6, w * h))
+        parts.append(plate(r.uniform(3, 6), r.uniform(3, 6), 12))
+    return parts, 260.0, 90.0
+
+
+def small_plates(r, number):
+    """1,300 rectangles."""
+    return [plate(r.uniform(2, 5), r.uniform(2, 5), 50) for _ in range(26)], 480.0, 60.0
+
+
+def turned_plates(r, number):
+    """Rectangles in 16 orientations."""
+    parts = []
+    for i in range(10):
+        w, h = r.uniform(4, 12), r.uniform(2, 5)
+        sets = []
+        for q in range(16):
+            c, s = turn(q, 32)
+            inset = [[(c * x - s * y, s * x + c * y) for x, y in loop] for loop in rect(w, h)]
+            apart = [[(c * x - s * y, s * x + c * y) for x, y in loop] for loop in rect(w + 0.2, h + 0.2, -0.1, -0.1)]
+            sets.append((apart, inset))
+        parts.append(part(sets, 14, w * h))
+    return parts, 160.0, 60.0
+
+
 # Resolution and rounds, so that a job takes about 0.05 to 3 seconds.
 STEPS = [(0.025, 0), (0.06, 1), (0.12, 4), (0.25, 8)]
 
 
+# The first 16 jobs of a seed are of the first four kinds, the others of the last three.
+PANELS = [(hatches, [(0.03, 0), (0.12, 2)]), (small_plates, [(0.03, 0), (0.1, 1)]), (turned_plates, [(0.06, 0), (0.25, 2)])]
+
+
+def panels(r, number):
+    """What a shop cuts most: on a plain sheet, frames with holes, small rectangles, rectangles in 16 orientations."""
+    make, steps = PANELS[number % 3]
+    parts, w, h = make(r, number)
+    resolution, rounds = steps[number // 3 % 2]
+    return job(parts, rect(w, h), resolution, rounds, number)
+
+
 def large(r, number):
     """20 kinds or more, hundreds of copies, fine columns, a sheet with holes."""
+    if number >= 16:
+        return panels(r, number - 16)
     parts, w, h = [mixed, plates, combs, frames][number % 4](r, number)
     holes = [[(x, y), (x, y + 5), (x + 6, y + 6), (x + 5, y)] for x in (20, 70) for y in (10, 30)]
     resolution, rounds = STEPS[number // 4 % 4]
