@@ -4,7 +4,7 @@
 Each wrong planner is the planner by hand (rust/, option --by-hand) with a few
 words changed. It is built, run on the jobs that the crate plan_test replays
 and its texts are held against the stored ones; those of WIDE on the jobs and
-rooms of wide_test.
+rooms of wide_test, those of SCRIPT on the script of filling_test.
 
 mutants.py [NAME..]          a line for each: how many jobs catch it, the first's label
 mutants.py --table           the same as a table in Markdown
@@ -19,9 +19,12 @@ import sys
 from jobs import wide
 from jobs.bits import read_container
 from jobs.oracle import BUILD, HERE, ROOT
+from jobs.script import CALLS
 
 WORK = os.path.join(BUILD, "mutants")
 CRATES = os.path.join(ROOT, "crates")
+# First words of a script's answers; no title begins so.
+ANSWERS = [*CALLS, "room", "rooms"]
 
 WINS = "Some((r, t, ..)) => right < r || (right == r && top < t),"
 SORT = "order(a.0 + a.1, b.0 + b.1).then(b.2.cmp(&a.2)).then(order(a.0, b.0))"
@@ -34,6 +37,9 @@ SWAPPED_BACK = """        } else {
 SAME = "if order[i] == order[j] || p.fill != q.fill || p.priority != q.priority {"
 DRAWS = "let i = (next_random(&mut draws) % n) as usize;"
 REST = "if inside == (winding > 0) {"
+MET = "if b != first && firsts[id as usize] as usize != b {"
+FIRST = "firsts[first + i] = self.bucket(s[0]) as Bucket;"
+ENTER = "    state.placed_index.enter(entries, firsts, &strips, state.placed_strips);\n"
 PUT = "    for (kind, copy, o, x, y) in list {"
 ROOM = """    if state.placed_strips + strips.len() > most {
         return Err(Stop::Refused(20));
@@ -198,8 +204,8 @@ MUTANTS = [
     ("strips", "minus zero kept", [("job", "Ok(if value == 0.0 { 0.0 } else { value })", "Ok(value)")]),
     ("strips", "interval at one end only", [("strips", "let low = smaller(pa.0 - qa.1, pb.0 - qb.1);", "let low = pa.0 - qa.1;")]),
     ("strips", "touching strips meet", [("strips", "if !(a < b) {", "if !(a <= b) {")]),
-    ("index", "met in each bucket", [("index", "if b != first && self.bucket(p[0]) != b {", "if b > 600 {")]),
-    ("index", "met in the first bucket only", [("index", "if b != first && self.bucket(p[0]) != b {", "if b != first {")]),
+    ("index", "met in each bucket", [("index", MET, "if b > 600 {")]),
+    ("index", "met in the first bucket only", [("index", MET, "if b != first {")]),
     ("index", "touching intervals counted", [("index", "if high > ys.0 && low < ys.1 {", "if high >= ys.0 && low <= ys.1 {")]),
     ("index", "entered in the first bucket only",
      [("index", "for b in self.bucket(s[0])..=self.bucket(s[1]) {", "for b in self.bucket(s[0])..=self.bucket(s[0]) {")]),
@@ -265,26 +271,88 @@ MUTANTS = [
       ("nesting", "    pub right: f64,\n", "    pub right: f64,\n    pub reach: f64,\n"),
       ("nesting", "            right: state.right,\n", "            right: state.right,\n            reach: crate::filling::LAST.get(),\n"),
       ("modes", "right, looks };", "right, reach: 0.0, looks };")]),
+    # document 02, W3
+    ("W3", "met by the last bucket", [("index", FIRST, FIRST.replace("s[0]", "s[1]"))]),
+    ("W3", "the copy's first bucket for all its strips", [("index", FIRST, FIRST.replace("s[0]", "strips[0][0]"))]),
+    ("W3", "number held against the moving strip's first bucket", [("index", MET, MET.replace("as usize != b {", "as usize != first {"))]),
+    ("W3", "numbers not moved by x", [
+        ("filling", ENTER, ENTER + "    let apart = state.slots[slot].apart.clone();\n"
+         "    for (i, p) in apart.enumerate() {\n"
+         "        let x0 = load(&rooms.shapes, p)[0];\n"
+         "        rooms.placed_firsts[state.placed_strips + i] = state.placed_index.bucket(x0) as u16;\n"
+         "    }\n"),
+    ]),
+    ("W3", "numbers moved by y", [
+        ("filling", ENTER, ENTER + "    let apart = state.slots[slot].apart.clone();\n"
+         "    for (i, p) in apart.enumerate() {\n"
+         "        let x0 = load(&rooms.shapes, p)[0] + y;\n"
+         "        rooms.placed_firsts[state.placed_strips + i] = state.placed_index.bucket(x0) as u16;\n"
+         "    }\n"),
+    ]),
+    ("W3", "numbers of the round before kept", [("index", FIRST, "if first == 0 || firsts[first + i] == 0 {\n                " + FIRST + "\n            }")]),
 ]
 
+STANDING = "capacity(slots, STRIP).min(capacity(firsts, FIRST)).min(STRIP_NUMBERS)"
 NUMBER = ("index", 'Entry::try_from(first + i).expect("a strip number")', "(first + i) as Entry")
-KEPT = "    sheet_index.enter(&mut rooms.sheet_entries, &strips, 0);\n"
-SHEET_MOST = ("filling", "let most = standing(rooms.sheet.len());", "let most = capacity(rooms.sheet.len(), STRIP);")
-PLACED_MOST = ("filling", "let most = standing(rooms.placed.len());", "let most = capacity(rooms.placed.len(), STRIP);")
+KEPT = "    sheet_index.enter(&mut rooms.sheet_entries, &mut rooms.sheet_firsts, &strips, 0);\n"
+SHEET_MOST = ("filling", "let most = standing(rooms.sheet.len(), rooms.sheet_firsts.len());", "let most = capacity(rooms.sheet.len(), STRIP);")
+PLACED_MOST = ("filling", "let most = standing(rooms.placed.len(), rooms.placed_firsts.len());", "let most = capacity(rooms.placed.len(), STRIP);")
 
 # In rooms for more strips than entries can number.
 WIDE = [
-    ("W8", "strip numbers wrap", [("rooms", "capacity(slots, STRIP).min(STRIP_NUMBERS)", "capacity(slots, STRIP)"), NUMBER]),
+    ("W8", "strip numbers wrap", [("rooms", STANDING, "capacity(slots, STRIP).min(capacity(firsts, FIRST))"), NUMBER]),
     ("W8", "65,536 strips refused", [("rooms", ".min(STRIP_NUMBERS)", ".min(STRIP_NUMBERS - 1)")]),
     ("W8", "65,537 strips accepted", [("rooms", ".min(STRIP_NUMBERS)", ".min(STRIP_NUMBERS + 1)"), NUMBER]),
     ("W8", "the sheet's strips not counted", [SHEET_MOST, NUMBER]),
     ("W8", "the placed strips not counted", [PLACED_MOST, NUMBER]),
-    ("W8", "the shapes' strips counted too", [("filling", "(capacity(room.len(), STRIP), 0)", "(standing(room.len()), 0)")]),
+    ("W8", "the shapes' strips counted too", [("filling", "(capacity(room.len(), STRIP), 0)", "(standing(room.len(), room.len()), 0)")]),
     ("W8", "20 by number after 21", [
         SHEET_MOST,
         NUMBER,
         ("filling", KEPT, "    if strips.len() > 65_536 {\n        return Err(Stop::Refused(20));\n    }\n" + KEPT),
     ]),
+]
+
+# A number that its room does not hold is left out; so is a strip, and read as zero.
+NO_NUMBER = [("index", FIRST, "if let Some(kept) = firsts.get_mut(first + i) {\n                *kept = self.bucket(s[0]) as Bucket;\n            }"),
+             ("index", MET, "if b != first && firsts.get(id as usize).map_or(0, |&n| n as usize) != b {")]
+NO_STRIP = [("rooms", "    let s = &room[i * STRIP..(i + 1) * STRIP];\n", "    let s = room.get(i * STRIP..(i + 1) * STRIP).unwrap_or(&[0.0; STRIP]);\n"),
+            ("rooms", "    room[i * STRIP..(i + 1) * STRIP].copy_from_slice(strip);\n",
+             "    if let Some(s) = room.get_mut(i * STRIP..(i + 1) * STRIP) {\n        s.copy_from_slice(strip);\n    }\n")]
+SHEET_FIRSTS = "standing(rooms.sheet.len(), rooms.sheet_firsts.len())"
+PLACED_FIRSTS = "standing(rooms.placed.len(), rooms.placed_firsts.len())"
+KEPT_FIRSTS = "let kept = list.iter().zip(firsts).all("
+WRITTEN = "    if entries > capacity(rooms.placed_entries.len(), ENTRY) {\n"
+
+# In rooms and states that a script gives.
+SCRIPT = [
+    ("W3", "20 by the doubles alone", [("rooms", STANDING, "capacity(slots, STRIP).min(STRIP_NUMBERS)"), *NO_NUMBER]),
+    ("W3", "20 by the numbers alone", [("rooms", STANDING, "capacity(firsts, FIRST).min(STRIP_NUMBERS)"), *NO_STRIP]),
+    ("W3", "the sheet's 20 by the doubles alone",
+     [("filling", SHEET_FIRSTS, "standing(rooms.sheet.len(), rooms.sheet.len())"), *NO_NUMBER]),
+    ("W3", "the sheet's 20 by the numbers alone",
+     [("filling", SHEET_FIRSTS, "standing(6 * rooms.sheet_firsts.len(), rooms.sheet_firsts.len())"), *NO_STRIP]),
+    ("W3", "the copies' 20 by the doubles alone",
+     [("filling", PLACED_FIRSTS, "standing(rooms.placed.len(), rooms.placed.len())"), *NO_NUMBER]),
+    ("W3", "the copies' 20 by the numbers alone",
+     [("filling", PLACED_FIRSTS, "standing(6 * rooms.placed_firsts.len(), rooms.placed_firsts.len())"), *NO_STRIP]),
+    ("W3", "the sheet's count of strips beyond its numbers",
+     [("flat", SHEET_FIRSTS, "standing(rooms.sheet.len(), rooms.sheet.len())"), *NO_NUMBER]),
+    ("W3", "the copies' count of strips beyond their numbers",
+     [("flat", PLACED_FIRSTS, "standing(rooms.placed.len(), rooms.placed.len())"), *NO_NUMBER]),
+    ("W3", "no number tested", [("flat", "(kept && entered).then_some(index)", "entered.then_some(index)")]),
+    ("W3", "only the first strip's number tested", [("flat", KEPT_FIRSTS, KEPT_FIRSTS.replace("zip(firsts)", "zip(firsts).take(1)"))]),
+    ("W3", "the last strip's number not tested", [("flat", KEPT_FIRSTS, KEPT_FIRSTS.replace("zip(firsts)", "zip(firsts).take(n.max(1) - 1)"))]),
+    ("W3", "numbers behind the count tested",
+     [("flat", "(kept && entered).then_some(index)", "(kept && entered && firsts[n..].iter().all(|&b| b < 512)).then_some(index)")]),
+    ("W3", "tested number may be less", [("flat", "b as usize == index.bucket(s[0])", "b as usize <= index.bucket(s[0])")]),
+    ("W3", "tested number may be more", [("flat", "b as usize == index.bucket(s[0])", "b as usize >= index.bucket(s[0])")]),
+    ("W3", "numbers written where 21 refuses", [
+        ("filling", WRITTEN, WRITTEN + "        for (i, s) in strips.iter().enumerate() {\n"
+         "            rooms.placed_firsts[state.placed_strips + i] = state.placed_index.bucket(s[0]) as u16;\n"
+         "        }\n"),
+    ]),
+    ("W3", "numbers behind the new ones zeroed", [("filling", ENTER, ENTER + "    rooms.placed_firsts[state.placed_strips + strips.len()..].fill(0);\n")]),
 ]
 
 # No text can tell these from the right planner.
@@ -343,6 +411,23 @@ def caught_wide(program):
     return [label for (label, want), text in zip(stored("wide_test")[1], texts) if want != text]
 
 
+def caught_script(program):
+    """Of filling_test's lines that differ, each with the title above it."""
+    folder = os.path.join(CRATES, "filling_test")
+    with open(os.path.join(folder, "stdin"), "rb") as script:
+        done = subprocess.run([program, "--by-hand", "--script"], stdin=script, capture_output=True)
+    if done.returncode:
+        return ["(it stops)"]
+    told = open(os.path.join(folder, "stdout")).read().splitlines()
+    labels, title = [], ""
+    for want, line in zip(told, done.stdout.decode().splitlines()):
+        if line.split(" ")[0] not in ANSWERS:
+            title = line
+        elif line != want:
+            labels.append(f"{title}: {want.split(' ')[0]}")
+    return labels
+
+
 def stored(crate):
     """A crate's stored jobs' file, and the stored text of each (lines from one label to the next)."""
     jobs = os.path.join(CRATES, crate, "stdin")
@@ -371,12 +456,13 @@ def main():
     n = survived = 0
     if table:
         print("| from | wrong planner | jobs that catch it | the first |\n|---|---|---|---|")
-    for group, name, edits in MUTANTS + WIDE + EQUAL:
+    for one in MUTANTS + WIDE + SCRIPT + EQUAL:
+        group, name, edits = one
         if names and name not in names:
             continue
         program = build(name, edits)
-        labels = caught_wide(program) if group == "W8" else caught(program, jobs, told)
-        equal = any(name == other for _, other, _ in EQUAL)
+        labels = caught_wide(program) if one in WIDE else caught_script(program) if one in SCRIPT else caught(program, jobs, told)
+        equal = one in EQUAL
         n += 1
         survived += not labels and not equal
         first = labels[0] if labels else "no text can differ" if equal else "none"

@@ -8,6 +8,7 @@ import sys
 from jobs.bits import bits, double, fields, pack, pack_fields, set_fields
 from jobs.cases import CLOCKWISE, TRIANGLE, case4, grid, job, offcut_cases, part, rect, run_cases, starred
 from jobs.oracle import ORACLE
+from jobs.script import RECORD, ROOMS
 
 CASE4 = """plan 4 1 0
 put 0 0 0 0000000000000000 0000000000000000
@@ -152,14 +153,12 @@ def test_reader_order():
 
 
 # Room sizes in slots, in the order of --rooms.
-NAMES = ["shapes", "sheet", "placed", "sheet_entries", "placed_entries", "intervals", "positions"]
-RECORD = dict(zip(NAMES, [6, 6, 6, 1, 1, 2, 5]))
-AMPLE = dict(zip(NAMES, [600, 600, 600, 9999, 9999, 600, 600]))
+AMPLE = dict(zip(ROOMS, [600, 600, 600, 9999, 9999, 600, 600, 600, 600]))
 
 
 def with_rooms(j, *options, **sizes):
     sizes = {**AMPLE, **sizes}
-    return oracle(j, "--rooms", ",".join(str(sizes[n]) for n in NAMES), *options)
+    return oracle(j, "--rooms", ",".join(str(sizes[n]) for n in ROOMS), *options)
 
 
 def room_job():
@@ -180,6 +179,9 @@ def test_refusal_order():
     expect("30 before 10", number(with_rooms(j, *bad, positions=0)), "no 30")
     expect("10 before sheet 20", number(with_rooms(j, *bad, sheet=0)), "no 10")
     expect("sheet 20 before 21", number(with_rooms(j, sheet=0, sheet_entries=0)), "no 20")
+    expect("10 before sheet 20 by its numbers", number(with_rooms(j, *bad, sheet_firsts=0)), "no 10")
+    expect("sheet 20 by its numbers before 21",
+           number(with_rooms(j, sheet_firsts=0, sheet_entries=0)), "no 20")
     expect("sheet 21 before shapes 20", number(with_rooms(j, shapes=0, sheet_entries=0)), "no 21")
     expect("shapes 20 before 22", number(with_rooms(j, shapes=0, intervals=0)), "no 20")
     # The second copy is the first that meets a standing one.
@@ -188,6 +190,10 @@ def test_refusal_order():
     expect("22 before 21", number(with_rooms(case4(), intervals=0, placed_entries=205)), "no 22")
     expect("20 before 21 of one copy", number(with_rooms(case4(), placed=0, placed_entries=0)),
            "no 20")
+    expect("22 before 20 by the numbers", number(with_rooms(case4(), intervals=0, placed_firsts=1)),
+           "no 22")
+    expect("20 by the numbers before 21",
+           number(with_rooms(case4(), placed_firsts=0, placed_entries=0)), "no 20")
     for order in ("0,1", "0,0,2", "0,1,1", "0,0,1,1", ""):
         expect(f"order {order}", number(with_rooms(j, "--order", order)), "no 10")
     expect("order 1,0,0", number(with_rooms(j, "--order", "1,0,0")), "plan")
@@ -196,16 +202,14 @@ def test_refusal_order():
 def test_rooms_exact():
     """The least size of each room that is accepted; one slot less is refused."""
     j = room_job()
-    numbers = {"shapes": "no 20", "sheet": "no 20", "placed": "no 20", "sheet_entries": "no 21",
-               "placed_entries": "no 21", "intervals": "no 22", "positions": "no 30"}
-    for name in NAMES:
+    for name, record, short in zip(ROOMS, RECORD, (20, 20, 20, 21, 21, 20, 20, 22, 30)):
         least = next(n for n in range(AMPLE[name] + 1)
                      if number(with_rooms(j, **{name: n})) == "plan")
-        expect(f"{name} in whole records", least % RECORD[name], 0)
-        for less in range(1, RECORD[name] + 1):
+        expect(f"{name} in whole records", least % record, 0)
+        for less in range(1, record + 1):
             text = with_rooms(j, **{name: least - less})
-            expect(f"{name} {less} short", number(text), numbers[name])
-        text = with_rooms(j, **{name: least + RECORD[name] - 1})
+            expect(f"{name} {less} short", number(text), f"no {short}")
+        text = with_rooms(j, **{name: least + record - 1})
         expect(f"{name} with a remainder", text, with_rooms(j))
 
 
@@ -215,6 +219,8 @@ def replies(text):
 
 def test_trace():
     expect("trace of case 4", replies(oracle(case4(), "--trace")), ["ok"] * 6 + ["no 23"])
+    rooms = [line.split() for line in oracle(case4(), "--trace").splitlines() if "_firsts" in line]
+    expect("bucket numbers of case 4", [r[4:] for r in rooms[-2:]], [[], ["0", "0", "204", "204"]])
     expect("trace, no order", replies(oracle(case4(), "--trace", "--order", "0")), ["no 10"])
     # The interval room is each call's own: 22 changes nothing.
     text = oracle(case4(), "--trace", "--intervals", "0,0,2,0,8", "--calls", "7")

@@ -9,10 +9,8 @@ from jobs.bits import answer, pack, write_container
 from jobs.draws import Draws
 from jobs.oracle import BUILD, ORACLE
 from jobs.random_jobs import random_job
-from jobs.script import Script
+from jobs.script import PLAN, Script
 
-# What `plan` lends.
-ROOMS = [8190, 8190, 8190, 16384, 16384, 8192, 20480]
 BATCH = 500
 
 
@@ -59,7 +57,7 @@ def main():
     counts, differ, done, wrong = collections.Counter(), 0, 0, []
     for list_ in batches(n, seed):
         s = Script(seed + done)
-        s.rooms(ROOMS)
+        s.rooms(PLAN)
         for data, order in list_:
             s.job(data)
             s.order(order)

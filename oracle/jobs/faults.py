@@ -3,8 +3,8 @@ import math
 
 from jobs.bits import double
 from jobs.cases import case4, grid, job, part, rect
-from jobs.script import (INTERVALS, PLACED, PLACED_ENTRIES, POSITIONS, ROOMS, SHAPES, SHEET,
-                    SHEET_ENTRIES, needs, trace)
+from jobs.script import (INTERVALS, PLACED, PLACED_ENTRIES, PLACED_FIRSTS, POSITIONS, ROOMS, SHAPES,
+                         SHEET, SHEET_ENTRIES, SHEET_FIRSTS, needs, trace)
 
 NAN = 0x7FF8000000000000
 INF = 0x7FF0000000000000
@@ -13,7 +13,7 @@ MILLION = 1000000.0
 ABOVE = math.nextafter(MILLION, 2 * MILLION)  # 1,000,000.0000000001
 TINY = 5e-324
 MOST = 2**64 - 1
-MOST_ENTRY = 2**16 - 1
+MOST_NUMBER = 2**16 - 1
 STRANGE = [NAN, INF, LESS_INF, ABOVE, -ABOVE]
 
 
@@ -153,7 +153,7 @@ def entries(t):
         at = [c.number(ROOMS[room], i) for i in range(n)]
         t.refused_slot(room, 0, at[0] + 1)
         t.refused_slot(room, n - 1, at[n - 1] + 1)
-        t.refused_slot(room, n - 1, MOST_ENTRY)
+        t.refused_slot(room, n - 1, MOST_NUMBER)
         t.refused_slot(room, n // 2, at[n // 2] + 1)
         where = next(i for i in range(n - 1) if at[i] != at[i + 1])
         s.slot(room, where, at[where + 1])
@@ -173,6 +173,27 @@ def entries(t):
         s.length(room, length)
 
 
+def first_buckets(t):
+    """A strip's bucket number changed, two exchanged, a room too short for the strips."""
+    c, s = t.call, t.s
+    for room, n in ((SHEET_FIRSTS, c.strips[0]), (PLACED_FIRSTS, c.strips[1])):
+        at = [c.number(ROOMS[room], i) for i in range(n)]
+        for i in (0, n // 2, n - 1):
+            # One less than 0 is 65,535.
+            for value in sorted({at[i] + 1, (at[i] - 1) % 2**16, MOST_NUMBER, 512}):
+                t.refused_slot(room, i, value)
+        where = [i for i in range(n - 1) if at[i] != at[i + 1]]
+        for i in (where[0], where[len(where) // 2], where[-1]):
+            s.slot(room, i, at[i + 1])
+            t.refused_slot(room, i + 1, at[i])
+            s.slot(room, i, at[i])
+        length = s.lengths[room]
+        for short in (n - 1, 0):
+            s.length(room, short)
+            s.next(31)
+        s.length(room, length)
+
+
 def accepted(s, j, order, calls):
     """What 31 does not refuse: limits that are reached, and what it does not look at. Each call
     takes a copy; changed numbers that matter later are put back."""
@@ -187,9 +208,9 @@ def accepted(s, j, order, calls):
     for list_ in free.values():
         for name, n, value in list_:
             s.edit(name, n, value)
-    for a in (SHAPES, SHEET, PLACED, SHEET_ENTRIES, PLACED_ENTRIES):
+    for a in (SHAPES, SHEET, PLACED, SHEET_ENTRIES, PLACED_ENTRIES, SHEET_FIRSTS, PLACED_FIRSTS):
         c = calls[3]
-        used = [6 * sum(c.shapes()), 6 * c.strips[0], 6 * c.strips[1], *c.entries][a]
+        used = [6 * sum(c.shapes()), 6 * c.strips[0], 6 * c.strips[1], *c.entries, *c.strips][a]
         s.garbage(a, used)
     s.next(0)
     s.title("31: at the limits")
@@ -232,7 +253,7 @@ def empty_sheet(s):
     j, order = case4(), [0] * 5
     s.job(j)
     s.order(order)
-    s.rooms([12, 0, 30, 0, 2000, 12, 25])
+    s.rooms([12, 0, 30, 0, 2000, 0, 5, 12, 25])
     far = [-MILLION, -MILLION, MILLION, MILLION]
     zero = 0x8000000000000000
     for bounds, resolution in ((far, 10000.0), (far[::-1], 0.001), ([zero, zero, 10.0, 6.0], 1.0),
@@ -281,7 +302,7 @@ def clauses(s, j, order):
         s.next(0)
     t = State(s, j, order, calls, 3)
     for name, test in (("counts", counts), ("numbers", numbers), ("columns, looks, order", tracks),
-                       ("strips", strips), ("entries", entries)):
+                       ("strips", strips), ("entries", entries), ("first buckets", first_buckets)):
         s.title("31: " + name)
         test(t)
     accepted(s, j, order, calls)
@@ -315,12 +336,17 @@ def double_faults(s):
     both("8 and 30", (8, 8), wide, order, POSITIONS)
     both("30 and 10", (30, 30), j, wrong, POSITIONS)
     both("10 and the sheet's 20", (10, 10), j, wrong, SHEET)
+    both("10 and the sheet's 20 by its numbers", (10, 10), j, wrong, SHEET_FIRSTS)
     both("the sheet's 20 and 21", (20, 20), j, order, SHEET, SHEET_ENTRIES)
+    both("the sheet's 20 by its numbers, and 21", (20, 20), j, order, SHEET_FIRSTS, SHEET_ENTRIES)
     both("the sheet's 21 and the shapes' 20", (21, 21), j, order, SHEET_ENTRIES, SHAPES)
     both("the shapes' 20 and the filling's", (20, 20), j, order, SHAPES, PLACED, PLACED_ENTRIES,
          INTERVALS)
     both("22, 20 and 21 of a filling", (0, 22), j, order, PLACED, PLACED_ENTRIES, INTERVALS)
     both("20 and 21 of a filling", (0, 20), j, order, PLACED, PLACED_ENTRIES)
+    both("22, 20 by the numbers and 21 of a filling", (0, 22), j, order, PLACED_FIRSTS,
+         PLACED_ENTRIES, INTERVALS)
+    both("20 by the numbers and 21 of a filling", (0, 20), j, order, PLACED_FIRSTS, PLACED_ENTRIES)
     both("an order that is too short", (10, 10), j, order[1:])
     both("an order that is too long", (10, 10), j, order + [0])
     both("an order of nothing", (10, 10), j, [])
@@ -346,10 +372,22 @@ def steps_twice(s, j, wide, order, calls, need):
     s.title("20 and 21 of one copy")
     s.length(INTERVALS, 2 * after.most)
     s.next(20)
+    s.title("20 by the numbers and 21 of one copy")
+    s.length(PLACED, 6 * after.strips[1])
+    s.length(PLACED_FIRSTS, after.strips[1] - 1)
+    s.next(20)
     s.title("31 and 22")
     s.length(INTERVALS, 0)
     s.edit("right", 0, NAN)
     s.next(31)
+    s.edit("right", 0, calls[2].right)
+    s.title("31 by a bucket number, and 22, 20 and 21")
+    first = calls[2].number("placed_firsts", 0)
+    s.slot(PLACED_FIRSTS, 0, first + 1)
+    s.next(31)
+    s.slot(PLACED_FIRSTS, 0, first)
+    s.next(22)
+    s.edit("right", 0, NAN)
     s.title("the job's and 31")
     s.job(wide)
     s.next(8)

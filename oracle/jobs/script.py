@@ -4,9 +4,13 @@ import subprocess
 from jobs.bits import bits, double, pack
 from jobs.oracle import ORACLE
 
-ROOMS = ["shapes", "sheet", "placed", "sheet_entries", "placed_entries", "intervals", "positions"]
-SHAPES, SHEET, PLACED, SHEET_ENTRIES, PLACED_ENTRIES, INTERVALS, POSITIONS = range(7)
-RECORD = [6, 6, 6, 1, 1, 2, 5]
+ROOMS = ["shapes", "sheet", "placed", "sheet_entries", "placed_entries", "sheet_firsts",
+         "placed_firsts", "intervals", "positions"]
+(SHAPES, SHEET, PLACED, SHEET_ENTRIES, PLACED_ENTRIES, SHEET_FIRSTS, PLACED_FIRSTS, INTERVALS,
+ POSITIONS) = range(len(ROOMS))
+RECORD = [6, 6, 6, 1, 1, 1, 1, 2, 5]
+# What `plan` lends.
+PLAN = [8190, 8190, 8190, 16384, 16384, 1365, 1365, 8192, 20480]
 # The numbers of a state, in the order of its fields.
 NUMBERS = ["resolution", "sheet_bounds", "sheet_strips", "apart_strips", "inset_bounds", "parts",
            "order", "taken", "next_column", "look_counts", "placed_strips", "orientation", "x",
@@ -23,7 +27,7 @@ class Script:
     def __init__(self, seed=1):
         self.data = bytearray()
         self.seed = seed
-        self.lengths = [0] * 7
+        self.lengths = [0] * len(ROOMS)
         # The number that each call must answer, or nothing where that is left to the oracle.
         self.wanted = []
 
@@ -118,11 +122,11 @@ class Call:
         return [double(int(w, 16)) for w in (self.rooms[room] + ["0"] * 6)[6 * i:6 * i + 6]]
 
     def number(self, room, i):
-        """Slot i of a room, as bits or as an entry."""
+        """Slot i of a room, as bits or as a number."""
         words = self.rooms[room]
         if i >= len(words):
             return 0
-        return int(words[i]) if room.endswith("entries") else int(words[i], 16)
+        return int(words[i]) if room.endswith(("entries", "firsts")) else int(words[i], 16)
 
     def shapes(self):
         """The strips of all shapes: apart, inset."""
@@ -146,8 +150,7 @@ def answers(s):
 
 def trace(j, order):
     """The calls of a trace in ample rooms: the start, then each copy; the last is left out."""
-    options = ["--trace", "--rooms", "8190,8190,8190,16384,16384,8192,20480",
-               "--order", ",".join(map(str, order))]
+    options = ["--trace", "--rooms", ",".join(map(str, PLAN)), "--order", ",".join(map(str, order))]
     done = subprocess.run([ORACLE, *options], input=pack(j), capture_output=True, check=True)
     calls = [Call(text) for text in done.stdout.decode().split("call ")[1:]]
     return calls[:-1]
@@ -156,5 +159,5 @@ def trace(j, order):
 def needs(calls, copies):
     """The least lengths of the rooms in which the whole filling is accepted."""
     last = calls[-1]
-    return [6 * sum(last.shapes()), 6 * last.strips[0], 6 * last.strips[1], last.entries[0],
-            last.entries[1], 2 * max(c.most for c in calls), 5 * copies]
+    return [6 * sum(last.shapes()), 6 * last.strips[0], 6 * last.strips[1], *last.entries,
+            *last.strips, 2 * max(c.most for c in calls), 5 * copies]

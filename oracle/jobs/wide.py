@@ -13,6 +13,7 @@ WIDE = 400_000    # slots: 66,666 strips
 NARROW = 8190
 ENTRIES = 132_000
 POSITION_SLOTS = 40   # of a filling: eight positions
+POSITION_ROOM = "6"   # the number that wide_test prints with the position room
 ROOMS = ["shapes", "sheet", "placed"]
 
 
@@ -90,7 +91,8 @@ def record(room, slots, entries, j):
 def answer(room, slots, entries, j, program=ORACLE, options=()):
     """What the oracle prints in those rooms."""
     strips = [slots if name == room else NARROW for name in ROOMS]
-    lengths = ",".join(map(str, strips + [entries, entries, 8192, 20480]))
+    firsts = [n // 6 for n in strips[1:]]
+    lengths = ",".join(map(str, strips + [entries, entries, *firsts, 8192, 20480]))
     done = subprocess.run([program, *options, "--rooms", lengths], input=pack(j), capture_output=True)
     if done.returncode:
         raise SystemExit(done.stderr.decode())
@@ -118,8 +120,10 @@ def fill_answer(copies, entries, j):
     s = Script()
     s.job(j)
     s.order([0] * copies)
-    s.rooms([NARROW, NARROW, NARROW, entries, entries, 8192, POSITION_SLOTS])
+    firsts = NARROW // 6
+    s.rooms([NARROW, NARROW, NARROW, entries, entries, firsts, firsts, 8192, POSITION_SLOTS])
     s.fill()
     s.show(POSITIONS)
     text, (call,) = answers(s)
-    return " ".join(call.split(" ")[:2]) + "\n" + text.splitlines()[-1] + "\n"
+    word, _, *slots = text.splitlines()[-1].split(" ")
+    return " ".join(call.split(" ")[:2]) + "\n" + " ".join([word, POSITION_ROOM, *slots]) + "\n"

@@ -140,14 +140,14 @@ pub fn start(job: &Job, order: &[usize], rooms: &mut Rooms) -> Result<State, Sto
     let sheet = bounds(&job.sheet);
     let strips = trapezoids(&job.sheet, true);
     let mut sheet_strips = 0;
-    let most = standing(rooms.sheet.len());
+    let most = standing(rooms.sheet.len(), rooms.sheet_firsts.len());
     keep(&mut rooms.sheet, most, &mut sheet_strips, &strips)?;
     let placed_index = Index::new(sheet[0], sheet[2]);
     let mut sheet_index = placed_index.clone();
     if sheet_index.needed(&strips) > capacity(rooms.sheet_entries.len(), ENTRY) {
         return Err(Stop::Refused(21));
     }
-    sheet_index.enter(&mut rooms.sheet_entries, &strips, 0);
+    sheet_index.enter(&mut rooms.sheet_entries, &mut rooms.sheet_firsts, &strips, 0);
     Ok(State {
         order: order.to_vec(),
         taken: 0,
@@ -175,13 +175,15 @@ fn look(
     let x = r.x(column, state.resolution);
     let (shapes, out) = (&rooms.shapes, &mut rooms.intervals);
     let (mut n, inset, apart) = (0, slot.inset.clone(), slot.apart.clone());
-    let (index, entries) = (&state.sheet_index, &rooms.sheet_entries);
-    index
-        .intervals(entries, &rooms.sheet, shapes, inset, x, r.ys, out, &mut n)
+    let (entries, firsts) = (&rooms.sheet_entries, &rooms.sheet_firsts);
+    state
+        .sheet_index
+        .intervals(entries, firsts, &rooms.sheet, shapes, inset, x, r.ys, out, &mut n)
         .map_err(Stop::Refused)?;
-    let (index, entries) = (&state.placed_index, &rooms.placed_entries);
-    index
-        .intervals(entries, &rooms.placed, shapes, apart, x, r.ys, out, &mut n)
+    let (entries, firsts) = (&rooms.placed_entries, &rooms.placed_firsts);
+    state
+        .placed_index
+        .intervals(entries, firsts, &rooms.placed, shapes, apart, x, r.ys, out, &mut n)
         .map_err(Stop::Refused)?;
     let y = height(out, n, r.ys.0);
     let (kind, orientation) = (slot.kind, slot.orientation);
@@ -220,7 +222,7 @@ fn search(
 fn place(state: &mut State, slot: usize, x: f64, y: f64, rooms: &mut Rooms) -> Result<(), Stop> {
     let apart = state.slots[slot].apart.clone();
     let strips: Vec<Strip> = apart.map(|i| moved(&load(&rooms.shapes, i), x, y)).collect();
-    let most = standing(rooms.placed.len());
+    let most = standing(rooms.placed.len(), rooms.placed_firsts.len());
     if state.placed_strips + strips.len() > most {
         return Err(Stop::Refused(20));
     }
@@ -228,13 +230,14 @@ fn place(state: &mut State, slot: usize, x: f64, y: f64, rooms: &mut Rooms) -> R
     if entries > capacity(rooms.placed_entries.len(), ENTRY) {
         return Err(Stop::Refused(21));
     }
-    state.placed_index.enter(&mut rooms.placed_entries, &strips, state.placed_strips);
+    let (entries, firsts) = (&mut rooms.placed_entries, &mut rooms.placed_firsts);
+    state.placed_index.enter(entries, firsts, &strips, state.placed_strips);
     keep(&mut rooms.placed, most, &mut state.placed_strips, &strips)?;
     Ok(())
 }
 
 /// Next copy: 23, then the searches (22), then the winner (20, 21). A refused
-/// call leaves state, strips and entries as they were.
+/// call leaves state, strips, entries and bucket numbers as they were.
 pub fn next_copy(
     job: &Job,
     state: &mut State,

@@ -3,7 +3,7 @@
 use crate::filling::{ranges, rearrangement, Slot, State};
 use crate::index::Index;
 use crate::job::Job;
-use crate::rooms::{capacity, load, standing, Entry, Rooms, ENTRY, STRIP};
+use crate::rooms::{capacity, load, standing, Bucket, Entry, Rooms, ENTRY, STRIP};
 use crate::strips::Strip;
 use std::ops::Range;
 
@@ -127,9 +127,9 @@ impl Flat {
             first.checked_add(n).is_some_and(|end| end <= room)
         };
         if self.taken > job.copies()
-            || self.sheet_strips > standing(rooms.sheet.len())
+            || self.sheet_strips > standing(rooms.sheet.len(), rooms.sheet_firsts.len())
             || self.apart_strips > holds
-            || self.placed_strips > standing(rooms.placed.len())
+            || self.placed_strips > standing(rooms.placed.len(), rooms.placed_firsts.len())
         {
             return false;
         }
@@ -168,13 +168,22 @@ impl Flat {
         })
     }
 
-    /// The index of the first n strips of a room, if the entry room begins with their entries.
-    fn index(&self, strips: &[f64], n: usize, entries: &[Entry]) -> Option<Index> {
+    /// The index of the first n strips of a room, if the entry room begins with their entries and the
+    /// room of their bucket numbers, which is long enough, with those.
+    fn index(
+        &self,
+        strips: &[f64],
+        n: usize,
+        entries: &[Entry],
+        firsts: &[Bucket],
+    ) -> Option<Index> {
         let list: Vec<Strip> = (0..n).map(|i| load(strips, i)).collect();
         let mut index = Index::new(self.sheet_bounds[0], self.sheet_bounds[2]);
+        let kept = list.iter().zip(firsts).all(|(s, &b)| b as usize == index.bucket(s[0]));
         let mut right = vec![0; index.needed(&list) * ENTRY];
-        index.enter(&mut right, &list, 0);
-        (entries.len() >= right.len() && entries[..right.len()] == right).then_some(index)
+        index.enter(&mut right, &mut vec![0; n], &list, 0);
+        let entered = entries.len() >= right.len() && entries[..right.len()] == right;
+        (kept && entered).then_some(index)
     }
 
     /// The planner's state, or nothing where 31 holds.
@@ -188,6 +197,11 @@ impl Flat {
         if !fits {
             return None;
         }
+        let (sheet, placed) = (&rooms.sheet_firsts, &rooms.placed_firsts);
+        let sheet_index =
+            self.index(&rooms.sheet, self.sheet_strips, &rooms.sheet_entries, sheet)?;
+        let placed_index =
+            self.index(&rooms.placed, self.placed_strips, &rooms.placed_entries, placed)?;
         let slots = slots(job).into_iter().map(|(kind, orientation, i)| {
             let (apart, inset) = self.ranges(i);
             let column = self.next_column[i].checked_sub(1);
@@ -205,8 +219,8 @@ impl Flat {
             slots: slots.collect(),
             sheet_strips: self.sheet_strips,
             placed_strips: self.placed_strips,
-            sheet_index: self.index(&rooms.sheet, self.sheet_strips, &rooms.sheet_entries)?,
-            placed_index: self.index(&rooms.placed, self.placed_strips, &rooms.placed_entries)?,
+            sheet_index,
+            placed_index,
         })
     }
 

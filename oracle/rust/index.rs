@@ -1,6 +1,7 @@
 //! The index by hand from document 01, "Index": entries lie in a lent room by
-//! bucket, then strip number. The starts of the buckets are work space.
-use crate::rooms::{capacity, load, Entry, ENTRY, INTERVAL};
+//! bucket, then strip number. The starts of the buckets are work space. The bucket of each standing
+//! strip's x0 is kept in a lent room of its own (document 02, W3).
+use crate::rooms::{capacity, load, Bucket, Entry, ENTRY, INTERVAL};
 use crate::strips::{forbidden, larger, Strip};
 
 const BUCKETS: usize = 512;
@@ -45,10 +46,18 @@ impl Index {
         strips.iter().map(|s| self.bucket(s[1]) - self.bucket(s[0]) + 1).sum()
     }
 
-    /// Enters strips numbered from `first` on; the room holds them, and an entry their numbers.
-    pub fn enter(&mut self, entries: &mut [Entry], strips: &[Strip], first: usize) {
+    /// Enters strips numbered from `first` on and keeps their first buckets; the rooms hold them, and
+    /// an entry their numbers.
+    pub fn enter(
+        &mut self,
+        entries: &mut [Entry],
+        firsts: &mut [Bucket],
+        strips: &[Strip],
+        first: usize,
+    ) {
         let mut new: Vec<Vec<Entry>> = vec![vec![]; BUCKETS];
         for (i, s) in strips.iter().enumerate() {
+            firsts[first + i] = self.bucket(s[0]) as Bucket;
             for b in self.bucket(s[0])..=self.bucket(s[1]) {
                 new[b].push(Entry::try_from(first + i).expect("a strip number"));
             }
@@ -70,6 +79,7 @@ impl Index {
     pub fn intervals(
         &self,
         entries: &[Entry],
+        firsts: &[Bucket],
         standing: &[f64],
         moving: &[f64],
         strips: std::ops::Range<usize>,
@@ -84,8 +94,9 @@ impl Index {
             for b in first..=self.bucket(q[1] + x) {
                 for &id in &entries[self.starts[b] * ENTRY..self.starts[b + 1] * ENTRY] {
                     let p = load(standing, id as usize);
+                    debug_assert_eq!(firsts[id as usize] as usize, self.bucket(p[0]));
                     // Met once: in the moving strip's first bucket, or in p's own.
-                    if b != first && self.bucket(p[0]) != b {
+                    if b != first && firsts[id as usize] as usize != b {
                         continue;
                     }
                     if let Some((low, high)) = forbidden(&p, &q, x) {

@@ -27,11 +27,12 @@ extern "C" {
         placed: *const f64, placed_len: usize, placed_entries: *const u16, placed_entries_len: usize,
         placed_starts: *const usize, placed_starts_len: usize,
         room: *mut f64, room_len: usize,
+        sheet_firsts: *const u16, sheet_firsts_len: usize, placed_firsts: *const u16, placed_firsts_len: usize,
     ) -> f64;
     fn panel_enter(
         x0: f64, width: f64, standing: *const f64, standing_len: usize, from: usize, to: usize,
         entries: *mut u16, entries_len: usize, starts: *mut usize, starts_len: usize,
-        gains: *mut usize, gains_len: usize,
+        gains: *mut usize, gains_len: usize, firsts: *mut u16, firsts_len: usize,
     ) -> bool;
     fn panel_height(room: *mut f64, room_len: usize, n: usize, y_low: f64, y_high: f64) -> f64;
 }
@@ -43,7 +44,7 @@ fn flat(strips: &[Trapezoid]) -> Vec<f64> {
     strips.iter().flat_map(|p| [p.x0, p.x1, p.low[0], p.low[1], p.high[0], p.high[1]]).collect()
 }
 
-/// Our side of an index: strips, entries and starts as they lie in rooms.
+/// Our side of an index: strips, entries, starts and first buckets as they lie in rooms.
 #[derive(Clone)]
 struct Ours {
     x0: f64,
@@ -52,21 +53,24 @@ struct Ours {
     entries: Vec<u16>,
     starts: Vec<usize>,
     gains: Vec<usize>,
+    firsts: Vec<u16>,
 }
 impl Ours {
     fn new(x0: f64, x1: f64) -> Self {
         let width = unsafe { panel_width(x0, x1) };
-        Ours { x0, width, strips: vec![], entries: vec![], starts: vec![0; 513], gains: vec![7; 512] }
+        let (starts, gains) = (vec![0; 513], vec![7; 512]);
+        Ours { x0, width, strips: vec![], entries: vec![], starts, gains, firsts: vec![] }
     }
     fn enter(&mut self, more: &[Trapezoid]) -> bool {
         let from = self.strips.len() / 6;
         self.strips.extend(flat(more));
         let to = self.strips.len() / 6;
+        self.firsts.resize(to, 999);
         unsafe {
             panel_enter(
                 self.x0, self.width, self.strips.as_ptr(), self.strips.len(), from, to,
                 self.entries.as_mut_ptr(), self.entries.len(), self.starts.as_mut_ptr(), 513,
-                self.gains.as_mut_ptr(), 512,
+                self.gains.as_mut_ptr(), 512, self.firsts.as_mut_ptr(), to,
             )
         }
     }
@@ -84,6 +88,7 @@ fn our_look(x: f64, ys: (f64, f64), inset: &[f64], apart: &[f64], sheet: &Ours, 
             placed.strips.as_ptr(), placed.strips.len(), placed.entries.as_ptr(), placed.entries.len(),
             placed.starts.as_ptr(), 513,
             room.as_mut_ptr(), room.len(),
+            sheet.firsts.as_ptr(), sheet.firsts.len(), placed.firsts.as_ptr(), placed.firsts.len(),
         )
     }
 }
@@ -151,6 +156,11 @@ fn entries_of(index: &Index) -> Vec<usize> {
     index.buckets.iter().flatten().map(|&i| i as usize).collect()
 }
 
+/// The bucket of x0 of each strip.
+fn firsts_of(index: &Index) -> Vec<u16> {
+    index.pieces.iter().map(|p| index.bucket(p.x0) as u16).collect()
+}
+
 fn scene(d: &mut Draws, size: f64, copies: usize) -> Scene {
     let (w, h) = (d.number(size / 2.0, size * 2.0), d.number(size / 2.0, size * 2.0));
     let (x, y) = (d.number(-size, size), d.number(-size, size));
@@ -187,15 +197,17 @@ fn scene(d: &mut Draws, size: f64, copies: usize) -> Scene {
             let held = our_placed.entries.clone();
             wrong += our_placed.enter(&moved) as u64;
             wrong += (our_placed.entries != held || our_placed.starts != before.starts) as u64;
+            let (old, new) = our_placed.firsts.split_at(before.firsts.len());
+            wrong += (old != before.firsts || new.iter().any(|&n| n != 999)) as u64;
             our_placed = before;
         }
         our_placed.entries.resize(need + 2, 9);
         wrong += !our_placed.enter(&moved) as u64;
         wrong += (our_placed.entries[need..] != [9, 9]) as u64;
         our_placed.entries.truncate(need);
-        wrong += (our_placed.list() != entries_of(&placed)) as u64;
+        wrong += (our_placed.list() != entries_of(&placed) || our_placed.firsts != firsts_of(&placed)) as u64;
     }
-    wrong += (our_sheet.list() != entries_of(&sheet)) as u64;
+    wrong += (our_sheet.list() != entries_of(&sheet) || our_sheet.firsts != firsts_of(&sheet)) as u64;
     Scene { looker: Looker { sheet, resolution: 1.0 }, placed, our_sheet, our_placed, bounds: b, wrong }
 }
 

@@ -87,13 +87,20 @@ fn times() {
             let from = our.strips.len() / 6;
             our.strips.extend(flat(&next));
             let to = our.strips.len() / 6;
+            our.firsts.resize(to, 0);
             let runs = if i + 1 == copies { 2000 } else { 30 };
             let mut best = f64::MAX;
             for _ in 0..runs {
                 our.entries[..starts[512]].copy_from_slice(&entries[..starts[512]]);
                 our.starts.copy_from_slice(&starts);
                 let t = std::time::Instant::now();
-                let ok = unsafe { panel_enter(our.x0, our.width, our.strips.as_ptr(), our.strips.len(), from, to, our.entries.as_mut_ptr(), our.entries.len(), our.starts.as_mut_ptr(), 513, our.gains.as_mut_ptr(), 512) };
+                let ok = unsafe {
+                    panel_enter(
+                        our.x0, our.width, our.strips.as_ptr(), our.strips.len(), from, to,
+                        our.entries.as_mut_ptr(), our.entries.len(), our.starts.as_mut_ptr(), 513,
+                        our.gains.as_mut_ptr(), 512, our.firsts.as_mut_ptr(), to,
+                    )
+                };
                 best = best.min(t.elapsed().as_nanos() as f64);
                 assert!(ok);
             }

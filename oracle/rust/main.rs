@@ -109,7 +109,7 @@ impl Options {
         match self.rooms.as_deref() {
             None => Ok(Sizes::plan()),
             Some("ample") => Ok(Sizes::ample()),
-            Some(text) => Sizes::parse(text).ok_or("--rooms needs seven numbers".into()),
+            Some(text) => Sizes::parse(text).ok_or("--rooms needs nine numbers".into()),
         }
     }
 
@@ -226,7 +226,11 @@ fn oracle() -> Result<bool, String> {
     } else {
         let mut bytes = vec![];
         std::io::stdin().read_to_end(&mut bytes).map_err(|e| e.to_string())?;
-        if options.script { script::script(&bytes)? } else { answer_text(&bytes, &options, 0)?.0 }
+        if options.script {
+            script::script(&bytes, options.by_hand)?
+        } else {
+            answer_text(&bytes, &options, 0)?.0
+        }
     };
     std::io::stdout().write_all(text.as_bytes()).map_err(|e| e.to_string())?;
     Ok(true)

@@ -150,4 +150,10 @@ impl<'a> Lifted<'a> {
     pub fn sheet_entries(&self) -> Vec<u64> {
         self.planner.sheet.buckets.iter().flatten().map(|&id| id as u64).collect()
     }
+
+    /// The bucket of x0 of each standing strip: the sheet's, and those entered so far.
+    pub fn firsts(&self) -> [Vec<u64>; 2] {
+        [&self.planner.sheet, &self.placed_parts]
+            .map(|index| index.pieces.iter().map(|p| index.bucket(p.x0) as u64).collect())
+    }
 }

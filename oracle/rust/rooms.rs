@@ -4,12 +4,19 @@ use crate::strips::Strip;
 /// An entry: the number of a standing strip.
 pub type Entry = u16;
 
+/// The number of a bucket, from 0 to 511.
+pub type Bucket = u16;
+
+/// How many rooms are lent.
+pub const ROOMS: usize = 9;
+
 /// Strip numbers run from 0 to 65,535.
 const STRIP_NUMBERS: usize = 65_536;
 
 // Slots of one record in each kind of room.
 pub const STRIP: usize = 6; // doubles
 pub const ENTRY: usize = 1; // strip number
+pub const FIRST: usize = 1; // bucket of a standing strip's x0
 pub const INTERVAL: usize = 2; // doubles: low, high
 pub const POSITION: usize = 5; // doubles: kind, copy, orientation, x, y
 
@@ -21,6 +28,8 @@ pub struct Sizes {
     pub placed: usize,
     pub sheet_entries: usize,
     pub placed_entries: usize,
+    pub sheet_firsts: usize,
+    pub placed_firsts: usize,
     pub intervals: usize,
     pub positions: usize,
 }
@@ -43,19 +52,34 @@ impl Sizes {
             placed: strips * STRIP,
             sheet_entries: entries * ENTRY,
             placed_entries: entries * ENTRY,
+            sheet_firsts: strips * FIRST,
+            placed_firsts: strips * FIRST,
             intervals: intervals * INTERVAL,
             positions: positions * POSITION,
         }
     }
 
-    /// Seven numbers with commas, in the order of the fields.
+    /// Nine numbers with commas, in the order of the fields.
     pub fn parse(text: &str) -> Option<Self> {
         let n: Vec<usize> = text.split(',').map(|t| t.parse().ok()).collect::<Option<_>>()?;
-        let [shapes, sheet, placed, sheet_entries, placed_entries, intervals, positions] = n[..]
-        else {
-            return None;
-        };
-        Some(Self { shapes, sheet, placed, sheet_entries, placed_entries, intervals, positions })
+        n.try_into().ok().map(Self::of)
+    }
+
+    /// The lengths in the order of the fields.
+    pub fn of(lengths: [usize; ROOMS]) -> Self {
+        let [shapes, sheet, placed, sheet_entries, placed_entries, ..] = lengths;
+        let [.., sheet_firsts, placed_firsts, intervals, positions] = lengths;
+        Self {
+            shapes,
+            sheet,
+            placed,
+            sheet_entries,
+            placed_entries,
+            sheet_firsts,
+            placed_firsts,
+            intervals,
+            positions,
+        }
     }
 }
 
@@ -65,6 +89,8 @@ pub struct Rooms {
     pub placed: Vec<f64>,
     pub sheet_entries: Vec<Entry>,
     pub placed_entries: Vec<Entry>,
+    pub sheet_firsts: Vec<Bucket>,
+    pub placed_firsts: Vec<Bucket>,
     pub intervals: Vec<f64>,
     pub positions: Vec<f64>,
 }
@@ -77,6 +103,8 @@ impl Rooms {
             placed: vec![0.0; sizes.placed],
             sheet_entries: vec![0; sizes.sheet_entries],
             placed_entries: vec![0; sizes.placed_entries],
+            sheet_firsts: vec![0; sizes.sheet_firsts],
+            placed_firsts: vec![0; sizes.placed_firsts],
             intervals: vec![0.0; sizes.intervals],
             positions: vec![0.0; sizes.positions],
         }
@@ -92,12 +120,13 @@ pub fn capacity(slots: usize, record: usize) -> usize {
     slots / record
 }
 
-/// The strips that a room for standing strips (sheet, placed) is used for.
-pub fn standing(slots: usize) -> usize {
-    capacity(slots, STRIP).min(STRIP_NUMBERS)
+/// The strips that a room for standing strips (sheet, placed) and the room of their bucket numbers
+/// are used for.
+pub fn standing(slots: usize, firsts: usize) -> usize {
+    capacity(slots, STRIP).min(capacity(firsts, FIRST)).min(STRIP_NUMBERS)
 }
 
-/// Entries as plain numbers.
+/// Entries or bucket numbers as plain numbers.
 pub fn numbers(entries: &[Entry]) -> Vec<u64> {
     entries.iter().map(|&e| e as u64).collect()
 }

@@ -4,19 +4,19 @@ use crate::compare::{run, Ask};
 use crate::filling::{next_copy, start, Stop};
 use crate::flat::{Flat, COPIES};
 use crate::job::{self, Job};
-use crate::nesting::{next_random, Plan};
+use crate::nesting::{fill_order, next_random, Plan};
 use crate::print::{hex, offcut, position_room, positions};
 use crate::probed::{lifted::reach::Lifted, Signal};
-use crate::rooms::{numbers, Entry, Rooms, Sizes};
+use crate::rooms::{numbers, Rooms, Sizes, ROOMS};
 use crate::watch::Watch;
 
 /// The longest rooms that a script can ask for, in slots: shapes, sheet, placed, sheet entries,
-/// placed entries, intervals, positions.
-const LONGEST: [usize; 7] = [8200, 8200, 8200, 16500, 16500, 8200, 20500];
+/// placed entries, bucket numbers of the sheet's and of the placed strips, intervals, positions.
+const LONGEST: [usize; ROOMS] = [8200, 8200, 8200, 16500, 16500, 1400, 1400, 8200, 20500];
 
-/// Which rooms hold numbers and not doubles.
-fn entry_room(a: usize) -> bool {
-    a == 3 || a == 4
+/// Which rooms hold numbers of 16 bits and not doubles.
+fn number_room(a: usize) -> bool {
+    (3..=6).contains(&a)
 }
 
 /// One command: a letter, a byte, 4 bytes, 8 bytes, most significant first.
@@ -61,11 +61,11 @@ fn bits(x: f64) -> u64 {
 }
 
 /// What a slot of room a holds before a call: not a number, an infinity, minus zero, or whatever
-/// double a draw's bits are; in an entry room a draw's last 16 bits.
+/// double a draw's bits are; in a room of numbers a draw's last 16 bits.
 fn garbage(a: usize, state: &mut u64) -> u64 {
     let draw = next_random(state);
     match draw % 8 {
-        _ if entry_room(a) => draw % 65_536,
+        _ if number_room(a) => draw % 65_536,
         0 => bits(f64::NAN),
         1 => bits(f64::INFINITY),
         2 => bits(f64::NEG_INFINITY),
@@ -78,57 +78,61 @@ pub struct Script {
     job: Vec<u8>,
     order: Vec<usize>,
     /// Every room as bits or numbers, at its longest.
-    rooms: [Vec<u64>; 7],
-    lengths: [usize; 7],
+    rooms: [Vec<u64>; ROOMS],
+    lengths: [usize; ROOMS],
     state: Flat,
     /// Whether state or rooms were changed by hand since the start.
     edited: bool,
+    /// Whether nothing is compared.
+    by_hand: bool,
     out: String,
 }
 
 impl Script {
-    fn new() -> Self {
+    fn new(by_hand: bool) -> Self {
         Self {
             job: vec![],
             order: vec![],
             rooms: LONGEST.map(|n| vec![0; n]),
-            lengths: [0; 7],
+            lengths: [0; ROOMS],
             state: Flat::zero(),
             edited: false,
+            by_hand,
             out: String::new(),
         }
     }
 
     fn sizes(&self) -> Sizes {
-        let [shapes, sheet, placed, sheet_entries, placed_entries, intervals, positions] =
-            self.lengths;
-        Sizes { shapes, sheet, placed, sheet_entries, placed_entries, intervals, positions }
+        Sizes::of(self.lengths)
     }
 
     /// The rooms as they are lent.
     fn lent(&self) -> Rooms {
         let words = |a: usize| self.rooms[a][..self.lengths[a]].iter();
         let doubles = |a| words(a).map(|&w| f64::from_bits(w)).collect();
-        let entries = |a| words(a).map(|&w| w as Entry).collect();
+        let short = |a| words(a).map(|&w| w as u16).collect();
         Rooms {
             shapes: doubles(0),
             sheet: doubles(1),
             placed: doubles(2),
-            sheet_entries: entries(3),
-            placed_entries: entries(4),
-            intervals: doubles(5),
-            positions: doubles(6),
+            sheet_entries: short(3),
+            placed_entries: short(4),
+            sheet_firsts: short(5),
+            placed_firsts: short(6),
+            intervals: doubles(7),
+            positions: doubles(8),
         }
     }
 
     fn left(&mut self, r: &Rooms) {
-        let doubles = [(0, &r.shapes), (1, &r.sheet), (2, &r.placed), (5, &r.intervals)];
-        for (a, room) in doubles.into_iter().chain([(6, &r.positions)]) {
+        let doubles = [(0, &r.shapes), (1, &r.sheet), (2, &r.placed), (7, &r.intervals)];
+        for (a, room) in doubles.into_iter().chain([(8, &r.positions)]) {
             for (slot, &x) in self.rooms[a].iter_mut().zip(room) {
                 *slot = bits(x);
             }
         }
-        for (a, room) in [(3, &r.sheet_entries), (4, &r.placed_entries)] {
+        let short = [&r.sheet_entries, &r.placed_entries, &r.sheet_firsts, &r.placed_firsts];
+        for (a, room) in (3..).zip(short) {
             self.rooms[a][..room.len()].copy_from_slice(&numbers(room));
         }
     }
@@ -201,7 +205,7 @@ impl Script {
     /// A refused step. With the order used up and nothing edited, the layout must be the lifted fill's.
     fn stopped(&self, job: &Job, stop: Stop) -> Result<u32, String> {
         let number = refusal(stop)?;
-        if number != 23 || self.edited {
+        if number != 23 || self.edited || self.by_hand {
             return Ok(number);
         }
         let signal = Signal::default();
@@ -220,16 +224,26 @@ impl Script {
         Err("steps to the end differ from the lifted fill".into())
     }
 
-    /// A filling in the given order, compared with the lifted one and with the plain planner.
+    /// The plan of a filling in the given order, or its refusal, compared with the lifted one and with
+    /// the plain planner.
+    fn filled(&self, job: &Job) -> Result<Result<Plan, u32>, String> {
+        if self.by_hand {
+            let mut rooms = Rooms::new(&self.sizes());
+            return match fill_order(job, &self.order, &mut rooms, &mut Watch::default()) {
+                Ok(plan) => Ok(Ok(plan)),
+                Err(stop) => refusal(stop).map(Err),
+            };
+        }
+        let order = Some(self.order.clone());
+        let ask = Ask { sizes: self.sizes(), order, plain_work: 20_000_000, looks: false };
+        run(job, &ask).map(|answer| answer.plan)
+    }
+
     fn fill(&mut self) -> Result<(), String> {
         let mut rooms = Rooms::new(&self.sizes());
         let result = match job::read(&self.job) {
             Err(n) => Err(n),
-            Ok(job) => {
-                let order = Some(self.order.clone());
-                let ask = Ask { sizes: self.sizes(), order, plain_work: 20_000_000, looks: false };
-                run(&job, &ask)?.plan.map(|plan| (job, plan))
-            }
+            Ok(job) => self.filled(&job)?.map(|plan| (job, plan)),
         };
         self.out += &match result {
             Ok((job, plan)) => {
@@ -325,7 +339,7 @@ impl Script {
             b'H' => self.spoil(c.a, c.n, c.m),
             b'R' if c.n >= self.lengths[c.a] => return Err(format!("room {} at {}", c.a, c.n)),
             b'R' => {
-                self.rooms[c.a][c.n] = if entry_room(c.a) { c.m % 65_536 } else { c.m };
+                self.rooms[c.a][c.n] = if number_room(c.a) { c.m % 65_536 } else { c.m };
                 self.edited = true;
             }
             b'E' => self.edit(c.a, c.n, c.m)?,
@@ -390,9 +404,9 @@ fn plan_line(job: &Job, plan: &Plan) -> String {
     format!("fill 0 {} {without} {right} {area} {offcut} {counts:016x}\n", list.len())
 }
 
-pub fn script(data: &[u8]) -> Result<String, String> {
+pub fn script(data: &[u8], by_hand: bool) -> Result<String, String> {
     let mut reader = Reader { data, at: 0 };
-    let mut s = Script::new();
+    let mut s = Script::new(by_hand);
     while let Some(command) = reader.command()? {
         s.obey(command, &mut reader)?;
     }

@@ -55,6 +55,8 @@ pub fn rooms_text(rooms: &Rooms) -> String {
         + &room_text("placed", bits(&rooms.placed), true)
         + &room_text("sheet_entries", numbers(&rooms.sheet_entries), false)
         + &room_text("placed_entries", numbers(&rooms.placed_entries), false)
+        + &room_text("sheet_firsts", numbers(&rooms.sheet_firsts), false)
+        + &room_text("placed_firsts", numbers(&rooms.placed_firsts), false)
         + &room_text("intervals", bits(&rooms.intervals), true)
         + &room_text("positions", bits(&rooms.positions), true)
 }
@@ -101,6 +103,7 @@ pub fn trace(job: &Job, calls: &Calls, watch: &mut Watch) -> Result<String, Stri
             refused = 0;
         }
         rooms.clear_intervals();
+        watch.firsts(&state, &rooms)?;
         n += 1;
         out += &format!("call {n}\n{}most {most}\n", reply(result)?);
         out += &format!("{}{}", state_text(&state), rooms_text(&rooms));

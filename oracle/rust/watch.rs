@@ -80,8 +80,21 @@ impl Watch<'_, '_> {
         }
     }
 
-    /// After a filling: the standing strips and entries against the lifted
-    /// index, and where the lifted strips end.
+    /// Every standing strip's bucket number against the lifted index's division.
+    pub fn firsts(&self, state: &State, rooms: &Rooms) -> Result<(), String> {
+        let Some(lifted) = &self.lifted else {
+            return Ok(());
+        };
+        let sheet = numbers(&rooms.sheet_firsts[..state.sheet_strips]);
+        let placed = numbers(&rooms.placed_firsts[..state.placed_strips]);
+        if lifted.firsts() != [sheet, placed] {
+            return Err("bucket numbers differ".into());
+        }
+        Ok(())
+    }
+
+    /// After a filling: the standing strips, entries and bucket numbers against
+    /// the lifted index, and where the lifted strips end.
     pub fn filled(&mut self, state: &State, rooms: &Rooms) -> Result<(), String> {
         let Some(lifted) = &self.lifted else {
             return Ok(());
@@ -99,6 +112,7 @@ impl Watch<'_, '_> {
         if lifted.sheet_entries() != numbers(&rooms.sheet_entries[..state.sheet_index.count()]) {
             return Err("sheet entries differ".into());
         }
+        self.firsts(state, rooms)?;
         self.ends.push(strips.iter().map(|s| s[1]).reduce(f64::max));
         Ok(())
     }

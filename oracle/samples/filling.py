@@ -7,14 +7,14 @@ from jobs.draws import Draws
 from jobs.examples import nan_corner
 from jobs.faults import clauses, double_faults
 from jobs.random_jobs import random_job
-from jobs.script import (INTERVALS, PLACED, PLACED_ENTRIES, POSITIONS, RECORD, SHAPES, SHEET,
-                    SHEET_ENTRIES, Script, answers, needs, trace)
+from jobs.script import (INTERVALS, PLACED, PLACED_ENTRIES, PLACED_FIRSTS, POSITIONS, RECORD, ROOMS,
+                         SHAPES, SHEET, SHEET_ENTRIES, SHEET_FIRSTS, Script, answers, needs, trace)
 
 SEED = 11
 FILLINGS = 330
 LONGEST = 620
 # What each room refuses with.
-SHORT = [20, 20, 20, 21, 21, 22, 30]
+SHORT = [20, 20, 20, 21, 21, 20, 20, 22, 30]
 
 
 def holed():
@@ -67,6 +67,17 @@ def leaves(s, j):
     s.leaf(2**32 - 1, 2**64 - 1, False, 9)
 
 
+def shorter(s, call):
+    """Each room of standing strips and of their numbers shorter than the strips that stand."""
+    for room, n in ((SHEET, 6 * call.strips[0]), (PLACED, 6 * call.strips[1]),
+                    (SHEET_FIRSTS, call.strips[0]), (PLACED_FIRSTS, call.strips[1])):
+        if n:
+            length = s.lengths[room]
+            s.length(room, n - 1)
+            s.next(31)
+            s.length(room, length)
+
+
 def steps(s, name, j, order):
     """Start and calls to the end and one more: before each call every room one short."""
     s.title(name)
@@ -78,27 +89,34 @@ def steps(s, name, j, order):
     s.rooms([n + record - 1 for n, record in zip(need, RECORD)])
     s.start(0)
     if name == "case 4":
-        for room in range(7):
+        for room in range(len(ROOMS)):
             s.show(room)
     leaves(s, j)
     s.garbage(PLACED)
     s.garbage(PLACED_ENTRIES)
+    s.garbage(PLACED_FIRSTS)
     for before, after in zip(calls, calls[1:]):
         if after.most:
             s.length(INTERVALS, 2 * after.most - 1)
             s.next(22)
         s.length(INTERVALS, 2 * after.most)
+        if after is calls[-1]:
+            shorter(s, before)
         if after.strips[1] > before.strips[1]:
             s.length(PLACED, 6 * after.strips[1] - 1)
             s.next(20)
+            s.length(PLACED, 6 * after.strips[1])
+            s.length(PLACED_FIRSTS, after.strips[1] - 1)
+            s.next(20)
         s.length(PLACED, 6 * after.strips[1])
+        s.length(PLACED_FIRSTS, after.strips[1])
         if after.entries[1] > before.entries[1]:
             s.length(PLACED_ENTRIES, after.entries[1] - 1)
             s.next(21)
         s.length(PLACED_ENTRIES, after.entries[1])
         s.next(0)
         if name == "case 4":
-            for room in (PLACED, PLACED_ENTRIES, INTERVALS):
+            for room in (PLACED, PLACED_ENTRIES, PLACED_FIRSTS, INTERVALS):
                 s.show(room)
     s.next(23)
     s.length(INTERVALS, 0)
@@ -117,11 +135,11 @@ def whole(s, name, j, order):
     s.fill(0)
     if name == "case 4":
         s.show(POSITIONS)
-    for room in range(7):
+    for room in range(len(ROOMS)):
         if need[room]:
             s.rooms([n - (i == room) for i, n in enumerate(need)])
             s.fill(SHORT[room])
-            if room in (SHAPES, SHEET, SHEET_ENTRIES, POSITIONS):
+            if room in (SHAPES, SHEET, SHEET_ENTRIES, SHEET_FIRSTS, POSITIONS):
                 s.rooms([n - (i == room) for i, n in enumerate(need)])
                 s.start(SHORT[room])
 
@@ -146,7 +164,7 @@ def limits(s):
     order = [0] * 4000 + [1] + [0] * 95
     s.job(j)
     s.order(order)
-    lengths = [12, 0, 6, 0, 600, 8, 5 * 4096]
+    lengths = [12, 0, 6, 0, 600, 0, 1, 8, 5 * 4096]
     s.rooms(lengths)
     s.start(0)
     s.next(0)
@@ -172,7 +190,7 @@ def fillings(s):
     """Random jobs in random orders."""
     r = Draws(SEED)
     s.title("fillings")
-    s.rooms([903, 604, 1805, 9001, 16384, 701, 202])
+    s.rooms([903, 604, 1805, 9001, 16384, 100, 300, 701, 202])
     made = 0
     while made < FILLINGS:
         j = random_job(r)
