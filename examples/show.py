@@ -1,5 +1,5 @@
 #!/usr/bin/env python3
-"""Prints a plan from standard input with its doubles as decimal numbers."""
+"""Prints a plan from standard input with its doubles as decimal numbers, and of each panel how much air is above it."""
 import re
 import struct
 import sys
@@ -10,4 +10,5 @@ def decimal(match):
 
 
 for line in sys.stdin:
-    print(re.sub(r"\b[0-9a-f]{16}\b", decimal, line), end="")
+    line = re.sub(r"\b[0-9a-f]{16}\b", decimal, line)
+    print(re.sub(r"^(put .*) (\S+)$", r"\1, \2 mm air above", line), end="")

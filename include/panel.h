@@ -34,8 +34,8 @@
               sheet_firsts    number, 1 uint16_t           1,365      1,365    PANEL_FIRSTS        2,730   20
               placed_firsts   number, 1 uint16_t           1,365      1,365    PANEL_FIRSTS        2,730   20
               intervals       interval, 2 doubles          4,096      8,192    PANEL_INTERVALS    65,536   22
-              positions       position, 5 doubles          4,096     20,480    PANEL_POSITIONS   163,840   30
-              out             text, 1 uint8_t            524,288    524,288    PANEL_TEXT        524,288   (see panel_nest)
+              positions       position, 6 doubles          4,096     24,576    PANEL_POSITIONS   196,608   30
+              out             text, 1 uint8_t            589,824    589,824    PANEL_TEXT        589,824   (see panel_nest)
 
             PANEL_POSITIONS and PANEL_TEXT are enough for every job. What the others need grows with the outlines' corners: a set
             is cut into strips at the x of each of its corners. `shapes` has the strips of every apart and inset set, `sheet` those
@@ -72,8 +72,8 @@
 #define PANEL_ENTRIES 16384
 #define PANEL_FIRSTS 1365
 #define PANEL_INTERVALS (2 * 4096)
-#define PANEL_POSITIONS (5 * 4096)
-#define PANEL_TEXT 524288
+#define PANEL_POSITIONS (6 * 4096)
+#define PANEL_TEXT 589824
 
 #ifdef __cplusplus
 extern "C" {
@@ -89,7 +89,8 @@ extern "C" {
    text is what the program `plan` prints, a plan or one line `no N` with the refusal's number:
 
      plan PLACED MISSING IMPROVEMENTS        copies placed, copies without a place, swaps that were kept
-     put KIND COPY ORIENTATION X Y           for each placed copy, by kind, then copy: how far its outline is moved
+     put KIND COPY ORIENTATION X Y GAP       for each placed copy, by kind, then copy: how far its outline is moved, and how much
+                                             farther up it could have gone, in its column, when it was placed
      left KIND COPIES                        for each ordinary kind that lacks copies
      fill KIND COPIES                        for each fill kind, its placed copies
      look KIND ORIENTATION COLUMNS           for each orientation, columns looked at
@@ -97,9 +98,9 @@ extern "C" {
      area A                                  the area of the copies without a place
      offcut W                                the sheet's width that is left, right of all copies and of the spacing around them
 
-   Counts are decimal; X, Y, A and W are a double's bits as 16 hex digits. In `positions` lie the `put` lines as doubles (kind,
-   copy, orientation, x, y: PLACED records of five), with zeros after them. The other rooms are left zero; where the job is
-   refused, all of them are, positions too.
+   Counts are decimal; X, Y, GAP, A and W are a double's bits as 16 hex digits. GAP is 0 or more, and never minus zero. In
+   `positions` lie the `put` lines as doubles (kind, copy, orientation, x, y, gap: PLACED records of six), with zeros after
+   them. The other rooms are left zero; where the job is refused, all of them are, positions too.
 
    Where out_length is below PANEL_TEXT: 0 is returned, and nothing is written anywhere. */
 size_t panel_nest(
@@ -122,7 +123,8 @@ size_t panel_nest(
 
    Returned is 0 or the refusal's number. `positions` is left as above, by kind, then copy. How many records it has is not
    returned: all but the first have a kind or copy that is not 0, and an all-zero first record is either kind 0, copy 0,
-   orientation 0 at (0, 0), or none. The other rooms are left zero; where the filling is refused, all of them are. */
+   orientation 0 at (0, 0) with a gap of 0, or none. The other rooms are left zero; where the filling is refused, all of them
+   are. */
 uint64_t panel_fill(
     const uint8_t *bytes, size_t bytes_length,
     const size_t *order, size_t order_length,
@@ -154,6 +156,6 @@ uint64_t panel_fill(
                              intervals, PANEL_INTERVALS, positions, PANEL_POSITIONS, out, PANEL_TEXT);
      fwrite(out, 1, end, stdout);
 
-   `static`, since together they take 1 MB, much of a small stack. */
+   `static`, since together they take 1.1 MB, much of a small stack. */
 
 #endif

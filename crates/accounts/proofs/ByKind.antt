@@ -33,12 +33,13 @@ unfolding flatPositions
 flat-append [] qs = refl
 flat-append (p ∷ ps) qs = rw (flat-append ps qs)
 
-pub flat-long : (ps : List Position) → length (flatPositions ps) ≡ 5 * length ps
+pub flat-long : (ps : List Position) → length (flatPositions ps) ≡ 6 * length ps
 unfolding flatPositions
 flat-long [] = refl
 flat-long (p ∷ ps) = let e = flat-long ps in omega arith
 
-kind-yes : (k n : ℕ) (c : Standing) (cs : List Standing) → c .copy .kind ≡ k → positionsOfKind k n (c ∷ cs) ≡ record { kind = k; copy = n; orientation = c .orientation; x = c .x; y = c .y } ∷ positionsOfKind k (suc n) cs
+kind-yes : (k n : ℕ) (c : Standing) (cs : List Standing) → c .copy .kind ≡ k → positionsOfKind k n (c ∷ cs)
+    ≡ record { kind = k; copy = n; orientation = c .orientation; x = c .x; y = c .y; gap = c .gap } ∷ positionsOfKind k (suc n) cs
 unfolding positionsOfKind
 kind-yes k n c cs e = rw (eq-eqb (c .copy .kind) k e, positionsOfKind)
 
@@ -80,6 +81,9 @@ module _ (s : State) where
   abbrev missesAll : ℕ → ℕ
   missesAll = missesIn (s .layout .orientation)
 
+  abbrev stander : ℕ → ℕ → Standing
+  stander i o = record { copy = copyAt s i; orientation = o; x = getD (s .layout .x) i nan; y = getD (s .layout .y) i nan; gap = getD (s .layout .gap) i nan }
+
   standing-next : (i : ℕ) → standingTo s (i + 1) ≡ standingTo s i ++ standsAt s i (number i)
   unfolding standingTo
   standing-next i = rw (add-one i)
@@ -88,8 +92,8 @@ module _ (s : State) where
   unfolding standsAt copyAt stands countIf
   one-count k m i zero = rw (kind-nil k m) (sym (count-zero (eqb (kindAt i) k)))
   one-count k m i (suc o) = elim (same-or-not (kindAt i) k) [
-    | inl e ↦ rw (kind-yes k m (record { copy = record { place = i; kind = kindAt i }; orientation = o; x = getD (s .layout .x) i nan; y = getD (s .layout .y) i nan }) [] e, kind-nil k (suc m), eq-eqb (kindAt i) k e)
-    | inr e ↦ rw (kind-no k m (record { copy = record { place = i; kind = kindAt i }; orientation = o; x = getD (s .layout .x) i nan; y = getD (s .layout .y) i nan }) [] e, kind-nil k m, ne-eqb (kindAt i) k e)
+    | inl e ↦ rw (kind-yes k m (stander i o) [] e, kind-nil k (suc m), eq-eqb (kindAt i) k e)
+    | inr e ↦ rw (kind-no k m (stander i o) [] e, kind-nil k m, ne-eqb (kindAt i) k e)
   ]
 
   pub kind-count : (k n : ℕ) → length (positionsOfKind k 0 (standingTo s n)) ≡ kindTo standsAll (s .order) k n
@@ -156,8 +160,8 @@ module _ (s : State) where
     -- each kind's part has its positions among the first i copies, and nothing else has changed
     pub record Filled (before room : List Float) (i : ℕ) : Type 0 where
       pub long : length room ≡ length before
-      pub part : (k : ℕ) → take (5 * kindTo standsAll (s .order) k i) (drop (5 * startOf k) room) ≡ flatPositions (positionsOfKind k 0 (standingTo s i))
-      pub rest : (m : ℕ) → ((q : ℕ) → q < n → kindAt q < m) → drop (5 * startOf m) room ≡ drop (5 * startOf m) before
+      pub part : (k : ℕ) → take (6 * kindTo standsAll (s .order) k i) (drop (6 * startOf k) room) ≡ flatPositions (positionsOfKind k 0 (standingTo s i))
+      pub rest : (m : ℕ) → ((q : ℕ) → q < n → kindAt q < m) → drop (6 * startOf m) room ≡ drop (6 * startOf m) before
 
     pub filled-none : (room : List Float) → Filled room room 0
     unfolding kindTo standingTo positionsOfKind flatPositions
@@ -178,7 +182,7 @@ module _ (s : State) where
           let d = start-suc kind in
           omega arith
 
-      pub place-fits : 5 * (startOf kind + copy) + 5 * stands (number i) ≤ 5 * n
+      pub place-fits : 6 * (startOf kind + copy) + 6 * stands (number i) ≤ 6 * n
       place-fits = elim (below-or-not 0 (stands (number i))) [
         | inl l ↦ let m = stands-most (number i) in let a = room-left (omega arith) in let b = start-most (suc kind) in omega arith
         | inr l ↦ let a = kind-rise standsAll (s .order) kind i n (omega arith) in let d = start-suc kind in let b = start-most (suc kind) in omega arith
@@ -199,43 +203,55 @@ module _ (s : State) where
       filled-without before room e f =
           record {
             long = f .long;
-            part = λ k. subst (λ (m : ℕ). take (5 * m) (drop (5 * startOf k) room) ≡ flatPositions (positionsOfKind k 0 (standingTo s (i + 1)))) (sym (kind-still k e))
-                (subst (λ (l : List Standing). take (5 * kindTo standsAll (s .order) k i) (drop (5 * startOf k) room) ≡ flatPositions (positionsOfKind k 0 l)) (sym (standing-still e)) (f .part k));
+            part = λ k. subst (λ (m : ℕ). take (6 * m) (drop (6 * startOf k) room) ≡ flatPositions (positionsOfKind k 0 (standingTo s (i + 1))))
+                (sym (kind-still k e))
+                (subst (λ (l : List Standing). take (6 * kindTo standsAll (s .order) k i) (drop (6 * startOf k) room) ≡ flatPositions (positionsOfKind k 0 l))
+                (sym (standing-still e)) (f .part k));
             rest = f .rest;
           }
 
       -- a copy that stands is the next position of its kind
       abbrev one : ℕ → Position
-      one o = record { kind = kind; copy = copy; orientation = o; x = getD (s .layout .x) i nan; y = getD (s .layout .y) i nan }
+      one o =
+          record { kind = kind; copy = copy; orientation = o; x = getD (s .layout .x) i nan; y = getD (s .layout .y) i nan; gap = getD (s .layout .gap) i nan }
 
-      abbrev stander : ℕ → Standing
-      stander o = record { copy = copyAt s i; orientation = o; x = getD (s .layout .x) i nan; y = getD (s .layout .y) i nan }
-
-      standing-more : (o : ℕ) → number i ≡ suc o → standingTo s (i + 1) ≡ standingTo s i ++ (stander o ∷ [])
+      standing-more : (o : ℕ) → number i ≡ suc o → standingTo s (i + 1) ≡ standingTo s i ++ (stander i o ∷ [])
       unfolding standsAt
       standing-more o e = standing-next i ∙ ap (λ (o : ℕ). standingTo s i ++ standsAt s i o) e
 
       positions-same : (o k : ℕ) → number i ≡ suc o → (k ≡ kind → ⊥) → positionsOfKind k 0 (standingTo s (i + 1)) ≡ positionsOfKind k 0 (standingTo s i)
       unfolding copyAt
       positions-same o k e z =
-          rw (standing-more o e, positions-more k 0 (standingTo s i) (stander o ∷ []), kind-no k (0 + length (positionsOfKind k 0 (standingTo s i))) (stander o) [] (λ y. z (sym y)), kind-nil k (0 + length (positionsOfKind k 0 (standingTo s i))))
+          rw (
+            standing-more o e,
+            positions-more k 0 (standingTo s i) (stander i o ∷ []),
+            kind-no k (0 + length (positionsOfKind k 0 (standingTo s i)))
+                (stander i o) [] (λ y. z (sym y)),
+            kind-nil k (0 + length (positionsOfKind k 0 (standingTo s i))),
+          )
           (append-nil (positionsOfKind k 0 (standingTo s i)))
 
       positions-next : (o : ℕ) → number i ≡ suc o → positionsOfKind kind 0 (standingTo s (i + 1)) ≡ positionsOfKind kind 0 (standingTo s i) ++ (one o ∷ [])
       unfolding copyAt
       positions-next o e =
           let a : 0 + length (positionsOfKind kind 0 (standingTo s i)) ≡ copy = let b = kind-count kind i in omega arith in
-          rw (standing-more o e, positions-more kind 0 (standingTo s i) (stander o ∷ []), a, kind-yes kind copy (stander o) [] refl, kind-nil kind (suc copy))
+          rw (
+            standing-more o e,
+            positions-more kind 0 (standingTo s i) (stander i o ∷ []),
+            a,
+            kind-yes kind copy (stander i o) [] refl,
+            kind-nil kind (suc copy),
+          )
 
       -- where the parts of two kinds lie
-      part-before : (k : ℕ) → k < kind → 5 * startOf k + 5 * kindTo standsAll (s .order) k i ≤ 5 * (startOf kind + copy)
+      part-before : (k : ℕ) → k < kind → 6 * startOf k + 6 * kindTo standsAll (s .order) k i ≤ 6 * (startOf kind + copy)
       part-before k l =
           let a = kind-rise standsAll (s .order) k i n (omega arith) in
           let b = start-suc k in
           let d = sum-rise (λ q. kindTo standsAll (s .order) q n) (suc k) kind l in
           omega arith
 
-      part-after : (k : ℕ) → kind < k → stands (number i) ≡ 1 → 5 * (startOf kind + copy) + 5 ≤ 5 * startOf k
+      part-after : (k : ℕ) → kind < k → stands (number i) ≡ 1 → 6 * (startOf kind + copy) + 6 ≤ 6 * startOf k
       part-after k l e =
           let a = room-left e in
           let d = sum-rise (λ q. kindTo standsAll (s .order) q n) (suc kind) k l in
@@ -246,58 +262,70 @@ module _ (s : State) where
       stands-one o e = rw e
 
       part-same : (before room : List Float) (o k : ℕ) → number i ≡ suc o → (k ≡ kind → ⊥) → Filled before room i
-          → take (5 * kindTo standsAll (s .order) k (i + 1)) (drop (5 * startOf k) (setPosition room (startOf kind + copy) (one o))) ≡ flatPositions (positionsOfKind k 0 (standingTo s (i + 1)))
+          → take (6 * kindTo standsAll (s .order) k (i + 1)) (drop (6 * startOf k) (setPosition room (startOf kind + copy) (one o)))
+          ≡ flatPositions (positionsOfKind k 0 (standingTo s (i + 1)))
       part-same before room o k e z f =
           rw (kind-other standsAll (s .order) k i z, positions-same o k e z)
           (elim (below-or-not k kind) [
-            | inl l ↦ position-before room (startOf kind + copy) (one o) (5 * startOf k) (5 * kindTo standsAll (s .order) k i) (part-before k l)
-            | inr l ↦ ap (take (5 * kindTo standsAll (s .order) k i)) (position-after room (startOf kind + copy) (one o) (5 * startOf k) (part-after k (above l) (stands-one o e)))
+            | inl l ↦ position-before room (startOf kind + copy) (one o) (6 * startOf k) (6 * kindTo standsAll (s .order) k i) (part-before k l)
+            | inr l ↦ ap (take (6 * kindTo standsAll (s .order) k i)) (position-after room (startOf kind + copy) (one o) (6 * startOf k)
+                (part-after k (above l) (stands-one o e)))
           ] ∙ f .part k)
         where
           above : kind ≤ k → kind < k
           above l = elim (below-or-not kind k) [ inl m ↦ m | inr m ↦ absurd (z (omega arith)) ]
 
-      part-next : (before room : List Float) (o : ℕ) → number i ≡ suc o → 5 * n ≤ length room → Filled before room i
-          → take (5 * kindTo standsAll (s .order) kind (i + 1)) (drop (5 * startOf kind) (setPosition room (startOf kind + copy) (one o))) ≡ flatPositions (positionsOfKind kind 0 (standingTo s (i + 1)))
+      part-next : (before room : List Float) (o : ℕ) → number i ≡ suc o → 6 * n ≤ length room → Filled before room i
+          → take (6 * kindTo standsAll (s .order) kind (i + 1)) (drop (6 * startOf kind) (setPosition room (startOf kind + copy) (one o)))
+          ≡ flatPositions (positionsOfKind kind 0 (standingTo s (i + 1)))
       part-next before room o e w f =
           let u = stands-one o e in
           let a : kindTo standsAll (s .order) kind (i + 1) ≡ copy + 1 = let b = kind-here standsAll (s .order) i in omega arith in
-          let g : 5 * (startOf kind + copy) + 5 ≤ length room = let b = place-fits in omega arith in
+          let g : 6 * (startOf kind + copy) + 6 ≤ length room = let b = place-fits in omega arith in
           rw (a, positions-next o e, flat-append (positionsOfKind kind 0 (standingTo s i)) (one o ∷ []))
           (segment-next room (startOf kind) copy (one o) (flatPositions (positionsOfKind kind 0 (standingTo s i))) g (f .part kind))
 
-      filled-with : (before room : List Float) (o : ℕ) → number i ≡ suc o → 5 * n ≤ length room → Filled before room i → Filled before (setPosition room (startOf kind + copy) (one o)) (i + 1)
+      filled-with : (before room : List Float) (o : ℕ) → number i ≡ suc o → 6 * n ≤ length room → Filled before room i
+          → Filled before (setPosition room (startOf kind + copy) (one o)) (i + 1)
       filled-with before room o e w f =
           record {
             long = position-long room (startOf kind + copy) (one o) ∙ f .long;
             part = λ k. elim (same-or-not k kind) [
-              | inl z ↦ subst (λ (q : ℕ). take (5 * kindTo standsAll (s .order) q (i + 1)) (drop (5 * startOf q) (setPosition room (startOf kind + copy) (one o))) ≡ flatPositions (positionsOfKind q 0 (standingTo s (i + 1)))) (sym z) (part-next before room o e w f)
+              | inl z ↦ subst (λ (q : ℕ). take (6 * kindTo standsAll (s .order) q (i + 1))
+                  (drop (6 * startOf q) (setPosition room (startOf kind + copy) (one o))) ≡ flatPositions (positionsOfKind q 0 (standingTo s (i + 1)))) (sym z)
+                  (part-next before room o e w f)
               | inr z ↦ part-same before room o k e z f
             ];
-            rest = λ m g. position-after room (startOf kind + copy) (one o) (5 * startOf m) (part-after m (g i h) (stands-one o e)) ∙ f .rest m g;
+            rest = λ m g. position-after room (startOf kind + copy) (one o) (6 * startOf m) (part-after m (g i h) (stands-one o e)) ∙ f .rest m g;
           }
 
-      put-as : (room : List Float) (o : ℕ) → number i ≡ suc o → setPosition room (startOf kind + copy) (one o) ≡ putPosition (number i) room (startOf kind + copy) kind copy (getD (s .layout .x) i nan) (getD (s .layout .y) i nan)
+      abbrev putNext : List Float → List Float
+      putNext room =
+          putPosition (number i) room (startOf kind + copy) kind copy (getD (s .layout .x) i nan) (getD (s .layout .y) i nan) (getD (s .layout .gap) i nan)
+
+      put-as : (room : List Float) (o : ℕ) → number i ≡ suc o → setPosition room (startOf kind + copy) (one o) ≡ putNext room
       unfolding putPosition
       put-as room o e = rw e
 
-      pub filled-next : (before room : List Float) → 5 * n ≤ length room → Filled before room i → Filled before (putPosition (number i) room (startOf kind + copy) kind copy (getD (s .layout .x) i nan) (getD (s .layout .y) i nan)) (i + 1)
+      pub filled-next : (before room : List Float) → 6 * n ≤ length room → Filled before room i → Filled before (putNext room) (i + 1)
       filled-next before room w f = go (number i) refl
         where
-          go : (o : ℕ) → number i ≡ o → Filled before (putPosition (number i) room (startOf kind + copy) kind copy (getD (s .layout .x) i nan) (getD (s .layout .y) i nan)) (i + 1)
-          go zero e = subst (λ (r : List Float). Filled before r (i + 1)) (put-none-room room (startOf kind + copy) kind copy (number i) (getD (s .layout .x) i nan) (getD (s .layout .y) i nan) e) (filled-without before room e f)
+          go : (o : ℕ) → number i ≡ o → Filled before (putNext room) (i + 1)
+          go zero e = subst (λ (r : List Float). Filled before r (i + 1)) (put-none-room room (startOf kind + copy) kind copy (number i)
+              (getD (s .layout .x) i nan) (getD (s .layout .y) i nan) (getD (s .layout .gap) i nan) e) (filled-without before room e f)
           go (suc o) e = subst (λ (r : List Float). Filled before r (i + 1)) (put-as room o e) (filled-with before room o e w f)
 
     -- ---- all of them
 
-    laid-to : (before room : List Float) (m : ℕ) → Filled before room n → take (5 * startOf m) room ≡ flatPositions (flatMap (λ k. positionsOfKind k 0 (standingTo s n)) (upFrom m 0))
+    laid-to : (before room : List Float) (m : ℕ) → Filled before room n → take (6 * startOf m) room
+        ≡ flatPositions (flatMap (λ k. positionsOfKind k 0 (standingTo s n)) (upFrom m 0))
     unfolding flatMap upFrom sumTo flatPositions
     laid-to before room zero f = refl
     laid-to before room (suc m) f =
-        let a : 5 * startOf (suc m) ≡ 5 * startOf m + 5 * kindTo standsAll (s .order) m n = let b = start-suc m in omega arith in
+        let a : 6 * startOf (suc m) ≡ 6 * startOf m + 6 * kindTo standsAll (s .order) m n = let b = start-suc m in omega arith in
         let z : 0 + m ≡ m = omega arith in
         ap (λ (k : ℕ). take k room) a
-        ∙ (take-add (5 * startOf m) (5 * kindTo standsAll (s .order) m n) room
+        ∙ (take-add (6 * startOf m) (6 * kindTo standsAll (s .order) m n) room
         ∙ (ap₂ _++_ (laid-to before room m f) (f .part m)
         ∙ (sym (flat-append (flatMap (λ k. positionsOfKind k 0 (standingTo s n)) (upFrom m 0)) (positionsOfKind m 0 (standingTo s n)))
         ∙ ap flatPositions (sym (flat-snoc (λ k. positionsOfKind k 0 (standingTo s n)) m 0 ∙ ap (λ (k : ℕ). flatMap (λ k. positionsOfKind k 0 (standingTo s n)) (upFrom m 0) ++ positionsOfKind k 0 (standingTo s n)) z)))))
@@ -313,5 +341,5 @@ module _ (s : State) where
     unfolding laid
     filled-end before room m g f =
         let ps = flatMap (λ k. positionsOfKind k 0 (standingTo s n)) (upFrom m 0) in
-        let e : length (flatPositions ps) ≡ 5 * startOf m = flat-long ps ∙ ap (λ (k : ℕ). 5 * k) (all-long m) in
-        sym (take-append-drop (5 * startOf m) room) ∙ ap₂ _++_ (laid-to before room m f) (f .rest m g ∙ ap (λ (k : ℕ). drop k before) (sym e))
+        let e : length (flatPositions ps) ≡ 6 * startOf m = flat-long ps ∙ ap (λ (k : ℕ). 6 * k) (all-long m) in
+        sym (take-append-drop (6 * startOf m) room) ∙ ap₂ _++_ (laid-to before room m f) (f .rest m g ∙ ap (λ (k : ℕ). drop k before) (sym e))

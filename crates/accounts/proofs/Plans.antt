@@ -22,24 +22,40 @@ use Rattle.accounts.proofs.Looks.{looks-same}
 
 -- ---- two states with the same order and places
 
-stands-as : (s t : State) → s .order ≡ t .order → s .layout .x ≡ t .layout .x → s .layout .y ≡ t .layout .y → (i o : ℕ) → standsAt s i o ≡ standsAt t i o
-unfolding standsAt copyAt
-stands-as s t a b d i zero = refl
-stands-as s t a b d i (suc o) =
-    ap (λ (k : ℕ). record { copy = record { place = i; kind = k }; orientation = o; x = getD (s .layout .x) i nan; y = getD (s .layout .y) i nan } ∷ []) (ap (λ (l : List ℕ). getD l i 0) a)
-    ∙ (ap (λ (v : Float). record { copy = record { place = i; kind = getD (t .order) i 0 }; orientation = o; x = v; y = getD (s .layout .y) i nan } ∷ []) (ap (λ (l : List Float). getD l i nan) b)
-    ∙ ap (λ (v : Float). record { copy = record { place = i; kind = getD (t .order) i 0 }; orientation = o; x = getD (t .layout .x) i nan; y = v } ∷ []) (ap (λ (l : List Float). getD l i nan) d))
+abbrev stood : ℕ → ℕ → ℕ → Float → Float → Float → List Standing
+stood i o k x y v = record { copy = record { place = i; kind = k }; orientation = o; x = x; y = y; gap = v } ∷ []
 
-standing-as : (s t : State) → s .order ≡ t .order → s .layout .orientation ≡ t .layout .orientation → s .layout .x ≡ t .layout .x → s .layout .y ≡ t .layout .y → (n : ℕ) → standingTo s n ≡ standingTo t n
-unfolding standingTo
-standing-as s t a e b d zero = refl
-standing-as s t a e b d (suc n) = ap₂ _++_ (standing-as s t a e b d n) (stands-as s t a b d n (getD (s .layout .orientation) n 0) ∙ ap (λ (l : List ℕ). standsAt t n (getD l n 0)) e)
+module _ (s t : State) (a : s .order ≡ t .order) (b : s .layout .x ≡ t .layout .x) (d : s .layout .y ≡ t .layout .y)
+    (g : s .layout .gap ≡ t .layout .gap) where
+  stands-as : (i o : ℕ) → standsAt s i o ≡ standsAt t i o
+  unfolding standsAt copyAt
+  stands-as i zero = refl
+  stands-as i (suc o) =
+      let x = getD (s .layout .x) i nan in
+      let y = getD (s .layout .y) i nan in
+      let v = getD (s .layout .gap) i nan in
+      ap (λ (k : ℕ). stood i o k x y v) (ap (λ (l : List ℕ). getD l i 0) a)
+      ∙ (ap (λ (q : Float). stood i o (getD (t .order) i 0) q y v) (ap (λ (l : List Float). getD l i nan) b)
+      ∙ (ap (λ (q : Float). stood i o (getD (t .order) i 0) (getD (t .layout .x) i nan) q v) (ap (λ (l : List Float). getD l i nan) d)
+      ∙ ap (λ (q : Float). stood i o (getD (t .order) i 0) (getD (t .layout .x) i nan) (getD (t .layout .y) i nan) q)
+      (ap (λ (l : List Float). getD l i nan) g)))
 
-module _ (j : Job) (rows : List ℕ) (areas : List Float) (s : State) (order orientation : List ℕ) (x y : List Float) (looks : List ℕ) (kinds taken : ℕ) (h : Tabled j rows areas) (k : length (j .kinds) ≡ kinds) (t : PlanTold s order orientation x y looks taken) where
-  pub positions-are : (room before : List Float) → room ≡ laid (flatPositions (flatMap (λ k. positionsOfKind k 0 (standingTo (stateOf order orientation x y) taken)) (upFrom kinds 0))) before → room ≡ laid (flatPositions (positions j (standingOf s))) before
+  standing-as : s .layout .orientation ≡ t .layout .orientation → (n : ℕ) → standingTo s n ≡ standingTo t n
+  unfolding standingTo
+  standing-as e zero = refl
+  standing-as e (suc n) =
+      ap₂ _++_ (standing-as e n) (stands-as n (getD (s .layout .orientation) n 0) ∙ ap (λ (l : List ℕ). standsAt t n (getD l n 0)) e)
+
+module _ (j : Job) (rows : List ℕ) (areas : List Float) (s : State) (order orientation : List ℕ) (x y gap : List Float) (looks : List ℕ) (kinds taken : ℕ)
+    (h : Tabled j rows areas) (k : length (j .kinds) ≡ kinds) (t : PlanTold s order orientation x y gap looks taken) where
+  pub positions-are : (room before : List Float) → room ≡ laid (flatPositions (flatMap
+      (λ k. positionsOfKind k 0 (standingTo (stateOf order orientation x y gap) taken)) (upFrom kinds 0))) before
+      → room ≡ laid (flatPositions (positions j (standingOf s))) before
   unfolding positions standingOf
   positions-are room before e =
-      e ∙ ap (λ (l : List Standing). laid (flatPositions (flatMap (λ k. positionsOfKind k 0 l) (upFrom kinds 0))) before) (sym (standing-as s (stateOf order orientation x y) (t .order-is) (t .orientation-is) (t .x-is) (t .y-is) taken) ∙ ap (standingTo s) (sym (t .taken-is)))
+      e ∙ ap (λ (l : List Standing). laid (flatPositions (flatMap (λ k. positionsOfKind k 0 l) (upFrom kinds 0))) before)
+      (sym (standing-as s (stateOf order orientation x y gap) (t .order-is) (t .x-is) (t .y-is) (t .gap-is) (t .orientation-is) taken)
+      ∙ ap (standingTo s) (sym (t .taken-is)))
       ∙ ap (λ (m : ℕ). laid (flatPositions (flatMap (λ k. positionsOfKind k 0 (standingTo s (s .taken))) (upFrom m 0))) before) (sym k)
 
   pub placed-is : sumTo (standsIn orientation) taken ≡ length (standingOf s)

@@ -30,46 +30,51 @@ module _ {A : Type 0} where
 
 -- ---- one position
 
-stored : (room : List Float) (p : ℕ) (q : Position) → setPosition room p q ≡ sets room (5 * p) (flatPositions (q ∷ []))
+stored : (room : List Float) (p : ℕ) (q : Position) → setPosition room p q ≡ sets room (6 * p) (flatPositions (q ∷ []))
 unfolding setPosition flatPositions
 stored room p q =
-    let a : 5 * p + 1 ≡ suc (5 * p) = omega arith in
-    let b : 5 * p + 2 ≡ suc (suc (5 * p)) = omega arith in
-    let d : 5 * p + 3 ≡ suc (suc (suc (5 * p))) = omega arith in
-    let e : 5 * p + 4 ≡ suc (suc (suc (suc (5 * p)))) = omega arith in
-    rw (a, b, d, e)
+    let a : 6 * p + 1 ≡ suc (6 * p) = omega arith in
+    let b : 6 * p + 2 ≡ suc (suc (6 * p)) = omega arith in
+    let d : 6 * p + 3 ≡ suc (suc (suc (6 * p))) = omega arith in
+    let e : 6 * p + 4 ≡ suc (suc (suc (suc (6 * p)))) = omega arith in
+    let f : 6 * p + 5 ≡ suc (suc (suc (suc (suc (6 * p))))) = omega arith in
+    rw (a, b, d, e, f)
 
-one-long : (q : Position) → length (flatPositions (q ∷ [])) ≡ 5
+one-long : (q : Position) → length (flatPositions (q ∷ [])) ≡ 6
 unfolding flatPositions
 one-long q = refl
 
 module _ (room : List Float) (p : ℕ) (q : Position) where
   pub position-long : length (setPosition room p q) ≡ length room
-  position-long = rw stored (length-sets room (5 * p) (flatPositions (q ∷ [])))
+  position-long = rw stored (length-sets room (6 * p) (flatPositions (q ∷ [])))
 
-  pub position-after : (a : ℕ) → 5 * p + 5 ≤ a → drop a (setPosition room p q) ≡ drop a room
-  position-after a h = rw (stored room p q) (drop-sets (flatPositions (q ∷ [])) room (5 * p) a (rw (one-long q) h))
+  pub position-after : (a : ℕ) → 6 * p + 6 ≤ a → drop a (setPosition room p q) ≡ drop a room
+  position-after a h = rw (stored room p q) (drop-sets (flatPositions (q ∷ [])) room (6 * p) a (rw (one-long q) h))
 
-  pub position-before : (a n : ℕ) → a + n ≤ 5 * p → take n (drop a (setPosition room p q)) ≡ take n (drop a room)
-  position-before a n h = rw (stored room p q) (window-sets (flatPositions (q ∷ [])) room (5 * p) a n h)
+  pub position-before : (a n : ℕ) → a + n ≤ 6 * p → take n (drop a (setPosition room p q)) ≡ take n (drop a room)
+  position-before a n h = rw (stored room p q) (window-sets (flatPositions (q ∷ [])) room (6 * p) a n h)
 
-  pub position-here : 5 * p + 5 ≤ length room → take 5 (drop (5 * p) (setPosition room p q)) ≡ flatPositions (q ∷ [])
+  pub position-here : 6 * p + 6 ≤ length room → take 6 (drop (6 * p) (setPosition room p q)) ≡ flatPositions (q ∷ [])
   unfolding flatPositions
   position-here h =
       let v = flatPositions (q ∷ []) in
-      ap (λ (l : List Float). take 5 (drop (5 * p) l)) (stored room p q ∙ (sets-eq v room (5 * p) (omega arith) ∙ append-assoc (take (5 * p) room) v (drop (5 * p + length v) room)))
-      ∙ ap (take 5) (drop-at (take (5 * p) room) (v ++ drop (5 * p + length v) room) (5 * p) (length-take-le (5 * p) room (omega arith)))
+      ap (λ (l : List Float). take 6 (drop (6 * p) l)) (stored room p q ∙ (sets-eq v room (6 * p) (omega arith) ∙ append-assoc (take (6 * p) room) v
+      (drop (6 * p + length v) room)))
+      ∙ ap (take 6) (drop-at (take (6 * p) room) (v ++ drop (6 * p + length v) room) (6 * p) (length-take-le (6 * p) room (omega arith)))
 
 -- a kind's positions, from s on, with one more
-pub segment-next : (room : List Float) (s c : ℕ) (q : Position) (ps : List Float) → 5 * (s + c) + 5 ≤ length room → take (5 * c) (drop (5 * s) room) ≡ ps → take (5 * (c + 1)) (drop (5 * s) (setPosition room (s + c) q)) ≡ ps ++ flatPositions (q ∷ [])
+pub segment-next : (room : List Float) (s c : ℕ) (q : Position) (ps : List Float) → 6 * (s + c) + 6 ≤ length room → take (6 * c) (drop (6 * s) room) ≡ ps
+    → take (6 * (c + 1)) (drop (6 * s) (setPosition room (s + c) q)) ≡ ps ++ flatPositions (q ∷ [])
 segment-next room s c q ps h e =
-    let a : 5 * (c + 1) ≡ 5 * c + 5 = omega arith in
-    let b : 5 * s + 5 * c ≡ 5 * (s + c) = omega arith in
+    let a : 6 * (c + 1) ≡ 6 * c + 6 = omega arith in
+    let b : 6 * s + 6 * c ≡ 6 * (s + c) = omega arith in
     rw a
-    (take-add (5 * c) 5 (drop (5 * s) (setPosition room (s + c) q))
-    ∙ (ap (λ (l : List Float). l ++ take 5 (drop (5 * c) (drop (5 * s) (setPosition room (s + c) q)))) (position-before room (s + c) q (5 * s) (5 * c) (omega arith) ∙ e)
+    (take-add (6 * c) 6 (drop (6 * s) (setPosition room (s + c) q))
+    ∙ (ap (λ (l : List Float). l ++ take 6 (drop (6 * c) (drop (6 * s) (setPosition room (s + c) q))))
+    (position-before room (s + c) q (6 * s) (6 * c) (omega arith) ∙ e)
     ∙ ap (λ (l : List Float). ps ++ l)
-    (ap (take 5) (drop-drop (5 * c) (5 * s) (setPosition room (s + c) q)) ∙ (ap (λ (n : ℕ). take 5 (drop n (setPosition room (s + c) q))) b ∙ position-here room (s + c) q h))))
+    (ap (take 6) (drop-drop (6 * c) (6 * s) (setPosition room (s + c) q)) ∙ (ap (λ (n : ℕ). take 6 (drop n (setPosition room (s + c) q))) b
+    ∙ position-here room (s + c) q h))))
 
 -- ---- a copy that has no place, and one that stands
 
@@ -77,16 +82,17 @@ pub put-none : (copies : List ℕ) (k number : ℕ) → number ≡ 0 → copies 
 unfolding stands
 put-none copies k number e = let z : getD copies k 0 + 0 ≡ getD copies k 0 = omega arith in rw (e, z, set-getD copies k 0)
 
-pub put-none-room : (room : List Float) (p k c number : ℕ) (x y : Float) → number ≡ 0 → room ≡ putPosition number room p k c x y
+pub put-none-room : (room : List Float) (p k c number : ℕ) (x y gap : Float) → number ≡ 0 → room ≡ putPosition number room p k c x y gap
 unfolding putPosition
-put-none-room room p k c number x y e = rw e
+put-none-room room p k c number x y gap e = rw e
 
 pub put-some : (copies : List ℕ) (k number : ℕ) → (number ≡ 0 → ⊥) → set copies k (getD copies k 0 + 1) ≡ set copies k (getD copies k 0 + stands number)
 unfolding stands
 put-some copies k zero h = absurd (h refl)
 put-some copies k (suc o) h = refl
 
-pub put-some-room : (room : List Float) (p k c number : ℕ) (x y : Float) → (number ≡ 0 → ⊥) → setPosition room p (record { kind = k; copy = c; orientation = number - 1; x = x; y = y }) ≡ putPosition number room p k c x y
+pub put-some-room : (room : List Float) (p k c number : ℕ) (x y gap : Float) → (number ≡ 0 → ⊥)
+    → setPosition room p (record { kind = k; copy = c; orientation = number - 1; x = x; y = y; gap = gap }) ≡ putPosition number room p k c x y gap
 unfolding putPosition
-put-some-room room p k c zero x y h = absurd (h refl)
-put-some-room room p k c (suc o) x y h = let z : suc o - 1 ≡ o = omega arith in rw z
+put-some-room room p k c zero x y gap h = absurd (h refl)
+put-some-room room p k c (suc o) x y gap h = let z : suc o - 1 ≡ o = omega arith in rw z

@@ -27,37 +27,41 @@ module _ (order orientation : List ℕ) (n : ℕ) (t : List ℕ) (e : t ≡ byKi
   pub starts-are : startsBy (λ i. getD t i 0) ≡ startsBy (λ k. kindTo (standsIn orientation) order k n)
   starts-are = upFrom-same (sumTo (λ i. getD t i 0)) (sumTo (λ q. kindTo (standsIn orientation) order q n)) 64 0 (λ i a b. sums-are i (omega arith))
 
-module _ (order orientation : List ℕ) (x y : List Float) (n : ℕ) (starts copies : List ℕ) (before room : List Float) (i : ℕ)
-    (h : i < n) (b : getD order i 0 < 64) (e : starts ≡ startsBy (λ k. kindTo (standsIn orientation) order k n)) (w : 5 * n ≤ length before)
-    (q : Counted (standsIn orientation) order copies i) (f : Filled (stateOf order orientation x y) n before room i) where
+module _ (order orientation : List ℕ) (x y gap : List Float) (n : ℕ) (starts copies : List ℕ) (before room : List Float) (i : ℕ)
+    (h : i < n) (b : getD order i 0 < 64) (e : starts ≡ startsBy (λ k. kindTo (standsIn orientation) order k n)) (w : 6 * n ≤ length before)
+    (q : Counted (standsIn orientation) order copies i) (f : Filled (stateOf order orientation x y gap) n before room i) where
   abbrev k : ℕ
   k = getD order i 0
 
-  start : getD starts k 0 ≡ startOf (stateOf order orientation x y) n k
+  start : getD starts k 0 ≡ startOf (stateOf order orientation x y gap) n k
   start = ap (λ (l : List ℕ). getD l k 0) e ∙ at-kind (sumTo (λ k. kindTo (standsIn orientation) order k n)) k b
 
   starts-long : length starts ≡ 64
   starts-long = ap length e ∙ (length-map (upFrom 64 0) (sumTo (λ k. kindTo (standsIn orientation) order k n)) ∙ length-upFrom 64 0)
 
-  pub put-fits : (k < length starts) × (k < length copies) × (5 * (getD starts k 0 + getD copies k 0) + 5 * stands (getD orientation i 0) ≤ length room)
+  pub put-fits : (k < length starts) × (k < length copies) × (6 * (getD starts k 0 + getD copies k 0) + 6 * stands (getD orientation i 0) ≤ length room)
   put-fits =
       let l = starts-long in
       let m = q .long in
       let a = start in
       let c = q .count k b in
-      let d = place-fits (stateOf order orientation x y) n i h in
+      let d = place-fits (stateOf order orientation x y gap) n i h in
       let r = f .long in
       (omega arith, omega arith, omega arith)
 
   pub put-counted : (after : List ℕ) → after ≡ set copies k (getD copies k 0 + stands (getD orientation i 0)) → Counted (standsIn orientation) order after (i + 1)
   put-counted after u = subst (λ (l : List ℕ). Counted (standsIn orientation) order l (i + 1)) (sym u) (counted-next (standsIn orientation) order copies i (stands (getD orientation i 0)) q b refl)
 
-  pub put-filled : (after : List Float) → after ≡ putPosition (getD orientation i 0) room (getD starts k 0 + getD copies k 0) k (getD copies k 0) (getD x i nan) (getD y i nan) → Filled (stateOf order orientation x y) n before after (i + 1)
+  abbrev putAs : ℕ → ℕ → List Float
+  putAs p c = putPosition (getD orientation i 0) room p k c (getD x i nan) (getD y i nan) (getD gap i nan)
+
+  pub put-filled : (after : List Float) → after ≡ putAs (getD starts k 0 + getD copies k 0) (getD copies k 0)
+      → Filled (stateOf order orientation x y gap) n before after (i + 1)
   put-filled after u =
       let c = q .count k b in
       let r = f .long in
-      let p : getD starts k 0 + getD copies k 0 ≡ startOf (stateOf order orientation x y) n k + kindTo (standsIn orientation) order k i = let a = start in omega arith in
-      subst (λ (l : List Float). Filled (stateOf order orientation x y) n before l (i + 1))
-      (sym (u ∙ (ap (λ (v : ℕ). putPosition (getD orientation i 0) room v k (getD copies k 0) (getD x i nan) (getD y i nan)) p
-      ∙ ap (λ (v : ℕ). putPosition (getD orientation i 0) room (startOf (stateOf order orientation x y) n k + kindTo (standsIn orientation) order k i) k v (getD x i nan) (getD y i nan)) c)))
-      (filled-next (stateOf order orientation x y) n i h before room (omega arith) f)
+      let m = startOf (stateOf order orientation x y gap) n k + kindTo (standsIn orientation) order k i in
+      let p : getD starts k 0 + getD copies k 0 ≡ m = let a = start in omega arith in
+      subst (λ (l : List Float). Filled (stateOf order orientation x y gap) n before l (i + 1))
+      (sym (u ∙ (ap (λ (v : ℕ). putAs v (getD copies k 0)) p ∙ ap (λ (v : ℕ). putAs m v) c)))
+      (filled-next (stateOf order orientation x y gap) n i h before room (omega arith) f)

@@ -73,7 +73,7 @@ fn sum_up(counts: &[usize], starts: &mut [usize])
     }
 }
 
-// Stores position number p of a room: kind, copy, orientation, x, y.
+// Stores position number p of a room: kind, copy, orientation, x, y, gap.
 fn store_position(
     room: &mut [f64],
     p: usize,
@@ -82,16 +82,19 @@ fn store_position(
     orientation: usize,
     x: f64,
     y: f64,
+    gap: f64,
 )
-    requires { ⌜ 5 * p + 5 ≤ length (now room) ⌝ }
-    ensures { λ _. ⌜ now (room .exit) ≡ setPosition (now (room .entry)) p (record { kind = kind; copy = copy; orientation = orientation; x = x; y = y }) ⌝ }
+    requires { ⌜ 6 * p + 6 ≤ length (now room) ⌝ }
+    ensures { λ _. ⌜ now (room .exit) ≡ setPosition (now (room .entry)) p
+        (record { kind = kind; copy = copy; orientation = orientation; x = x; y = y; gap = gap }) ⌝ }
 {
-    let at = 5 * p;
+    let at = 6 * p;
     room[at] = std::num::nearest_u64_to_f64(kind as u64);
     room[at + 1] = std::num::nearest_u64_to_f64(copy as u64);
     room[at + 2] = std::num::nearest_u64_to_f64(orientation as u64);
     room[at + 3] = x;
     room[at + 4] = y;
+    room[at + 5] = gap;
 }
 
 // Stores the next position of kind k if the copy stands, and counts it.
@@ -103,18 +106,19 @@ fn put(
     number: usize,
     x: f64,
     y: f64,
+    gap: f64,
 )
     requires { ⌜ (k < length (now starts)) × (k < length (now copies))
-        × (5 * (getD (now starts) k 0 + getD (now copies) k 0) + 5 * stands number ≤ length (now room)) ⌝ }
+        × (6 * (getD (now starts) k 0 + getD (now copies) k 0) + 6 * stands number ≤ length (now room)) ⌝ }
     ensures { λ _. ⌜ (now (copies .exit) ≡ set (now (copies .entry)) k (getD (now (copies .entry)) k 0 + stands number))
         × (now (room .exit) ≡ putPosition number (now (room .entry)) (getD (now (starts .entry)) k 0 + getD (now (copies .entry)) k 0) k
-        (getD (now (copies .entry)) k 0) x y) ⌝ }
+        (getD (now (copies .entry)) k 0) x y gap) ⌝ }
 {
     if number == 0 {
         return;
     }
     let c = copies[k];
-    store_position(room, starts[k] + c, k, c, number - 1, x, y);
+    store_position(room, starts[k] + c, k, c, number - 1, x, y, gap);
     copies[k] = c + 1;
 }
 
@@ -124,6 +128,7 @@ fn lay(
     orientation: &[usize],
     x: &[f64],
     y: &[f64],
+    gap: &[f64],
     n: usize,
     starts: &[usize],
     copies: &mut [usize],
@@ -131,15 +136,25 @@ fn lay(
 )
     requires { ⌜ (n ≤ length (now order)) × (n ≤ length (now orientation)) × (n ≤ length (now x)) × (n ≤ length (now y))
         × ((i : ℕ) → i < n → getD (now order) i 0 < 64)
-        × (now starts ≡ startsBy (λ k. kindTo (standsIn (now orientation)) (now order) k n)) × (now copies ≡ replicate 64 0) × (5 * n ≤ length (now room)) ⌝ }
+        × (now starts ≡ startsBy (λ k. kindTo (standsIn (now orientation)) (now order) k n)) × (now copies ≡ replicate 64 0) × (6 * n ≤ length (now room))
+        × (n ≤ length (now gap)) ⌝ }
     ensures { λ _. ⌜ ((m : ℕ) → m ≤ 64 → ((i : ℕ) → i < n → getD (now (order .entry)) i 0 < m)
         → now (room .exit) ≡ laid (flatPositions
-        (flatMap (λ k. positionsOfKind k 0 (standingTo (stateOf (now (order .entry)) (now (orientation .entry)) (now (x .entry)) (now (y .entry))) n))
-        (upFrom m 0))) (now (room .entry))) ⌝ }
+        (flatMap (λ k. positionsOfKind k 0 (standingTo (stateOf (now (order .entry)) (now (orientation .entry)) (now (x .entry)) (now (y .entry))
+        (now (gap .entry))) n)) (upFrom m 0))) (now (room .entry))) ⌝ }
 {
     let mut i = 0;
     while i < n {
-        put(room, starts, copies, order[i], orientation[i], x[i], y[i]);
+        put(
+            room,
+            starts,
+            copies,
+            order[i],
+            orientation[i],
+            x[i],
+            y[i],
+            gap[i],
+        );
         i += 1;
     }
 }
@@ -181,6 +196,7 @@ pub fn plan_of(
     orientation: &[usize],
     x: &[f64],
     y: &[f64],
+    gap: &[f64],
     look_counts: &[usize],
     right: f64,
     unplaced_area: f64,
@@ -190,9 +206,9 @@ pub fn plan_of(
 ) -> Plan
     requires { ⌜ (kinds ≤ 64) × (256 ≤ length (now rows)) × (taken ≤ length (now order)) × (taken ≤ length (now orientation)) × (taken ≤ length (now x))
         × (taken ≤ length (now y)) × (1024 ≤ length (now «look_counts»))
-        × ((i : ℕ) → i < taken → getD (now order) i 0 < kinds) × (taken ≤ 4096) × (5 * taken ≤ length (now room)) ⌝ }
+        × ((i : ℕ) → i < taken → getD (now order) i 0 < kinds) × (taken ≤ 4096) × (6 * taken ≤ length (now room)) × (taken ≤ length (now gap)) ⌝ }
     ensures { λ r. ⌜ ((j : Job) (areas : List Float) (s : State) → Tabled j (now (rows .entry)) areas → length (j .kinds) ≡ kinds
-        → PlanTold s (now (order .entry)) (now (orientation .entry)) (now (x .entry)) (now (y .entry)) (now («look_counts» .entry)) taken
+        → PlanTold s (now (order .entry)) (now (orientation .entry)) (now (x .entry)) (now (y .entry)) (now (gap .entry)) (now («look_counts» .entry)) taken
         → Totalled j s right «unplaced_area» offcut
         → (r ≡ planOf j s improvements) × (now (room .exit) ≡ laid (flatPositions (positions j (standingOf s))) (now (room .entry)))) ⌝ }
 {
@@ -203,7 +219,17 @@ pub fn plan_of(
     let mut table = [0; 1024];
     let placed = count(order, orientation, taken, &mut placed_of, &mut unplaced_of);
     sum_up(&placed_of, &mut starts);
-    lay(order, orientation, x, y, taken, &starts, &mut copies, room);
+    lay(
+        order,
+        orientation,
+        x,
+        y,
+        gap,
+        taken,
+        &starts,
+        &mut copies,
+        room,
+    );
     look_table(rows, kinds, look_counts, &mut table);
     let unplaced = taken - placed;
     Plan {

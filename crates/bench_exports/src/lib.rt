@@ -2,14 +2,14 @@
 // comparisons with the Rust and its benchmarks alone. What a function requires its caller owes, and
 // nothing here tests it. A shop links plan_exports.
 ghost use Prim.Native.Nat.{_+_, _*_, _/_, _≤_, _<_};
-ghost use lib.ListN.{length};
+ghost use lib.ListN.{length, set};
 ghost use mathlib.Core.Bool.{true, false};
 ghost use mathlib.Core.Path.{_≡_};
 ghost use Rattle.trapezoid.specs.Strip.{capacity};
 ghost use Rattle.strips.specs.Strips.{trapezoids};
 ghost use Rattle.strips.specs.inner.Tables.{Loops, stripsStored};
 ghost use Rattle.job.specs.Jobs.{readJob, verdictOf};
-ghost use Rattle.bench_exports.specs.inner.Answers.{verdictNumber, told, heightTold, lookTold};
+ghost use Rattle.bench_exports.specs.inner.Answers.{verdictNumber, told, heightTold, lookTold, gapTold, gapSeen};
 ghost use Rattle.random.specs.SplitMix64.{nextState, mixed};
 ghost use Rattle.numbers.proofs.Doubles.{Finite};
 ghost use Rattle.index.specs.Buckets.{buckets, stripNumbers, indexOf};
@@ -74,8 +74,37 @@ fn height_or(l: Look) -> f64
     ensures { λ r. ⌜ r ≡ heightTold l ⌝ }
 {
     match l {
-        Look::Free(h) => h,
+        Look::Free(h, _) => h,
         Look::Full => 1.0e300,
+    }
+}
+
+// The clear height above a free height; 0 where it is full.
+fn gap_or(l: Look) -> f64
+    ensures { λ r. ⌜ r ≡ gapTold l ⌝ }
+{
+    match l {
+        Look::Free(_, gap) => gap,
+        Look::Full => 0.0,
+    }
+}
+
+// The same of a look; 0 where the room does not hold its intervals.
+fn gap_seen(a: Answer) -> f64
+    ensures { λ r. ⌜ r ≡ gapSeen a ⌝ }
+{
+    match a {
+        Answer::NoRoom => 0.0,
+        Answer::Seen(l) => gap_or(l),
+    }
+}
+
+// A number into the first slot, where there is one.
+fn put_first(room: &mut [f64], x: f64)
+    ensures { λ _. ⌜ now (room .exit) ≡ set (now (room .entry)) 0 x ⌝ }
+{
+    if room.len() > 0 {
+        room[0] = x;
     }
 }
 
@@ -88,8 +117,8 @@ pub extern "C" fn panel_width(x0: f64, x1: f64) -> f64
     ix.width
 }
 
-// A look: its height, 1e300 where it is full, -1e300 where the room does not hold its intervals. The
-// room's contents are used up.
+// A look: its height, 1e300 where it is full, -1e300 where the room does not hold its intervals, and
+// the gap above a free height in the first slot of `gap`. The room's contents are used up.
 #[no_mangle]
 pub extern "C" fn panel_look(
     x0: f64,
@@ -108,13 +137,16 @@ pub extern "C" fn panel_look(
     room: &mut [f64],
     sheet_firsts: &[Bucket],
     placed_firsts: &[Bucket],
+    gap: &mut [f64],
 ) -> f64
     requires { ⌜ Lookable (record { x0 = x0; width = width }) x «y_low» «y_high» (now inset) (now apart) (now sheet) (now placed) (now «sheet_entries»)
         (now «sheet_starts») (now «placed_entries») (now «placed_starts»)
         × FirstBuckets (record { x0 = x0; width = width }) (now sheet) (capacity (now sheet)) (now «sheet_firsts»)
         × FirstBuckets (record { x0 = x0; width = width }) (now placed) (capacity (now placed)) (now «placed_firsts») ⌝ }
-    ensures { λ r. ⌜ r ≡ lookTold (lookOf (length (now (room .entry)) / 2) x «y_low» «y_high» (now (inset .entry)) (now (apart .entry)) (now (sheet .entry))
-        (now (placed .entry))) ⌝ }
+    ensures { λ r. ⌜ (r ≡ lookTold (lookOf (length (now (room .entry)) / 2) x «y_low» «y_high» (now (inset .entry)) (now (apart .entry)) (now (sheet .entry))
+        (now (placed .entry))))
+        × (now (gap .exit) ≡ set (now (gap .entry)) 0 (gapSeen (lookOf (length (now (room .entry)) / 2) x «y_low» «y_high» (now (inset .entry))
+        (now (apart .entry)) (now (sheet .entry)) (now (placed .entry))))) ⌝ }
 {
     let ix = Index {
         x0: x0,
@@ -137,6 +169,7 @@ pub extern "C" fn panel_look(
         sheet_firsts,
         placed_firsts,
     );
+    put_first(gap, gap_seen(answer));
     match answer {
         Answer::NoRoom => -1.0e300,
         Answer::Seen(l) => height_or(l),

@@ -13,7 +13,7 @@ use Rattle.filling.specs.declared.Verdict.the-variants.{Accepted, Refused}
 use Rattle.filling.specs.Shapes.{Planner}
 use Rattle.filling.specs.Fill.{filled, stopped}
 use Rattle.place.specs.declared.Totals.{Totals}
-use Rattle.rooms.specs.tracks.inner.Tracks.{nextColumns, lookCounts, orientations, xs, ys, trackNumbers, spotNumbers}
+use Rattle.rooms.specs.tracks.inner.Tracks.{nextColumns, lookCounts, orientations, xs, ys, gaps, trackNumbers, spotNumbers}
 use Rattle.nesting.specs.Rounds.{Kept, Swaps, kept, ended, betterThan, judged}
 use Rattle.filling_laws.specs.fill_laws.inner.Prepared.{stateBy, fillingIn}
 use Rattle.better.specs.declared.Best.{Best}
@@ -53,7 +53,7 @@ module _ (first : Bool) (v : Verdict) (p : Planner) (b : Best) (t : Totals) (ord
   spots' = half spotNumbers (1 - b .kept) spots
 
   abbrev state' : State
-  state' = stateBy p order (length order) (nextColumns tracks') (lookCounts tracks') t (orientations tracks') (xs spots') (ys spots')
+  state' = stateBy p order (length order) (nextColumns tracks') (lookCounts tracks') t (orientations tracks') (xs spots') (ys spots') (gaps spots')
 
   -- what the definition keeps
   abbrev judgedIn : Bool → Verdict → Swaps

@@ -86,7 +86,7 @@ search-other f slot j h (suc n) c counts = go (f c) (search-other f slot j h n (
 
     seen : (l : Look) (s : Looked) → getD (s .counts) j 0 ≡ getD (counted slot counts) j 0 → getD (afterLook l c (counted slot counts) s .counts) j 0 ≡ getD
         counts j 0
-    seen (Free y) s e = unfold afterLook in once
+    seen (Free y g) s e = unfold afterLook in once
     seen Full s e = unfold afterLook in (e ∙ once)
 
     go : (v : Answer) → getD (searchFrom f slot n (c + 1) (counted slot counts) .counts) j 0 ≡ getD (counted slot counts) j 0 → getD

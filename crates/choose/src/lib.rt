@@ -27,11 +27,13 @@ pub struct Part {
     pub inset_count: usize,
 }
 
-// A place that an orientation's search found: right is x + b2, top is y + b3.
+// A place that an orientation's search found, with the clear height above it: right is x + b2, top is
+// y + b3.
 pub struct Choice {
     pub orientation: usize,
     pub x: f64,
     pub y: f64,
+    pub gap: f64,
     pub right: f64,
     pub top: f64,
 }
@@ -100,12 +102,13 @@ fn winner_of(k: Columns, b: Rect, o: usize, found: Found) -> Winner
     ensures { λ r. ⌜ r ≡ winnerOf k b o found ⌝ }
 {
     match found {
-        Found::At(c, y) => {
+        Found::At(c, y, gap) => {
             let x = k.x(c);
             Winner::At(Choice {
                 orientation: o,
                 x: x,
                 y: y,
+                gap: gap,
                 right: x + b.right,
                 top: y + b.top,
             })

@@ -10,7 +10,10 @@ use lib.Ieee.{Float, binary64, le, lt, ofBits}
 use lib.Ieee.Scale.{finite}
 use Rattle.numbers.specs.Numbers.{_⊖_, _⊘_, fromInt, plusZero, posZero}
 use Rattle.trapezoid.specs.Strip.{stripAt, capacity}
+use Rattle.index.specs.declared.Interval.{Interval}
 use Rattle.index.specs.Buckets.{bucketIn}
+use Rattle.look.specs.declared.height.Look.the-variants.{Free}
+use Rattle.look.specs.height.Smallest.{outside, nextBottom, heightOf}
 use Rattle.bits.specs.declared.Refusal as Input
 use Rattle.bits.specs.declared.Refusal.the-variants as Wrong
 use Rattle.bits.specs.Bits.{fieldAt}
@@ -27,7 +30,7 @@ use Rattle.filling.specs.Shapes.{plannerOf, standingStrips}
 use Rattle.filling.specs.Rooms.{Rooms, Lent, laid, zeros}
 use Rattle.filling.specs.Order.{rearranged}
 use Rattle.filling.specs.State.{standingOf}
-use Rattle.filling.specs.Consistent.{every, plannerFits, sheetIndex, sheetStrips, placedStrips, firstsFor, firstsFit}
+use Rattle.filling.specs.Consistent.{every, bounded, plannerFits, gapsFit, sheetIndex, sheetStrips, placedStrips, firstsFor, firstsFit}
 use Rattle.filling.specs.Start.{startVerdict, noStart, goodStart, startOf}
 use Rattle.filling.specs.NextCopy.{noStep, nextCopyOf}
 use Rattle.filling.specs.Accounts.{reachOf, notBelowZero, offcutOf}
@@ -57,6 +60,8 @@ use Rattle.claims.proofs.plan_promises.Refused as ProvedPlan
 use Rattle.claims.proofs.plan_promises.Replies as ProvedReplies
 use Rattle.claims.specs.JobNumbers.{jobWithin}
 use Rattle.claims.proofs.Within.{job-within}
+use Rattle.claims.specs.LookNumbers.{isFinite, endsFinite}
+use Rattle.claims.proofs.Gaps as ProvedGaps
 use Rattle.claims.proofs.ExactLines as ProvedLines
 use Rattle.claims.proofs.Reader as ProvedReader
 
@@ -190,7 +195,7 @@ plan-offcut bytes l j e v q d = let h = Proved1.nest-offcut bytes j e l v q d in
 
 -- ---- Demand 3. "take every list of next-copy calls, refused ones included .. After it the copies standing, with orientation, x and y, and those without
 -- ---- a place are exactly those of document 01's plain planner .. Each orientation's look count equals its last found column plus its finds .. For one
--- ---- filling in a given order that is not refused, all this holds as after one call for every copy of that order, none refused."
+-- ---- filling in a given order that is not refused, all this holds as after one call for every copy of that order, none refused." Gaps (W7) are compared too.
 pub demand-3 : (bytes order : List ℕ) (l : Lent) (j : Job) → readJob bytes ≡ accepted j
     → (startOf bytes order l .verdict ≡ Accepted
     → (calls : List Call)
@@ -252,6 +257,41 @@ firsts-started = ProvedFirsts.accepted-start-firsts
 pub false-first-refused : (bytes : List ℕ) (j : Job) → readJob bytes ≡ accepted j → (s : State) (w : Rooms) (iv : List Float) → firstsFit s w ≡ false
     → (nextCopyOf bytes s w iv ≡ noStep Why.Inconsistent s w iv) × (verdictNumber (noStep Why.Inconsistent s w iv .verdict) ≡ 31)
 false-first-refused bytes j e s w iv f = (ProvedFirsts.false-refused bytes j e s w iv f, ProvedFirsts.number-31 s w iv)
+
+-- ---- Document 02, W7: "A free look now answers its height and the clear height above it: the next counted interval's bottom at or above it, or y_high if
+-- ---- none is below that, minus the height. .. a state's gap not in 0..1,000,000 is 31"
+
+-- what it means: every height from the one answered up to that bottom lies in no interval
+pub gap-clear : (y-low y-high : Float) (is : List Interval) → isFinite y-low ≡ true → isFinite y-high ≡ true → every endsFinite is ≡ true
+    → (h g : Float) → heightOf y-low y-high is ≡ Free h g
+    → (g ≡ plusZero (nextBottom y-high is h) ⊖ h)
+    × ((z : Float) → isFinite z ≡ true → le h z ≡ true → le z (nextBottom y-high is h) ≡ true → outside is z ≡ true)
+gap-clear y-low y-high is a b c h g e = (ProvedGaps.gap-is y-low y-high is a b c h g e, ProvedGaps.clear-to-next y-low y-high is a b c h g e)
+
+-- height and gap do not depend on the intervals' order, nor on how often one is listed
+pub gap-order : (y-low y-high : Float) (is js : List Interval) → isFinite y-low ≡ true → isFinite y-high ≡ true
+    → every endsFinite is ≡ true → every endsFinite js ≡ true
+    → ((i : Interval) → List·Memᴰ i is → List·Memᴰ i js) → ((i : Interval) → List·Memᴰ i js → List·Memᴰ i is)
+    → heightOf y-low y-high is ≡ heightOf y-low y-high js
+gap-order y-low y-high is js a b c d = ProvedGaps.any-order y-low y-high is a b c js d
+
+-- a gap is finite, not minus zero and not below zero, of every look within 31's limits
+pub gap-number : (y-low y-high : Float) (is : List Interval) → isFinite y-low ≡ true → isFinite y-high ≡ true → every endsFinite is ≡ true
+    → bounded y-low ≡ true → bounded y-high ≡ true → (h g : Float) → heightOf y-low y-high is ≡ Free h g → (isNumber g ≡ true) × (le posZero g ≡ true)
+gap-number y-low y-high is a b c l m h g e = ProvedGaps.gap-number y-low y-high is a b c h g e l m
+
+-- every standing copy's gap is in 0..1,000,000 after an accepted start and every list of calls, a filling and the whole plan's kept filling
+pub gaps-own : (bytes order : List ℕ) (l : Lent) (j : Job) → readJob bytes ≡ accepted j
+    → (startOf bytes order l .verdict ≡ Accepted → (calls : List Call)
+    → gapsFit (afterCalls bytes calls (startOf bytes order l .state) (startOf bytes order l .lent .rooms) .state) ≡ true)
+    × (startVerdict j order l ≡ Accepted → (s : State) → fillOrder j l order ≡ filled s → gapsFit s ≡ true)
+    × (nestVerdict j l ≡ Accepted → (q : Kept) → swapSearch j l ≡ kept q → gapsFit (q .state) ≡ true)
+gaps-own bytes order l j e = (ProvedGaps.calls-gaps bytes order l j e, ProvedGaps.fill-gaps bytes order l j e, Proved1.nest-gaps bytes j e l)
+
+-- any other is 31: of every accepted job, state and rooms unchanged
+pub gap-refused : (bytes : List ℕ) (j : Job) → readJob bytes ≡ accepted j → (s : State) (w : Rooms) (iv : List Float) → gapsFit s ≡ false
+    → (nextCopyOf bytes s w iv ≡ noStep Why.Inconsistent s w iv) × (verdictNumber (noStep Why.Inconsistent s w iv .verdict) ≡ 31)
+gap-refused bytes j e s w iv f = (ProvedGaps.gaps-refused bytes j e s w iv f, ProvedFirsts.number-31 s w iv)
 
 -- ---- what the job reader promises
 

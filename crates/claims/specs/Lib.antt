@@ -1,2 +1,3 @@
 pub mod plan_promises
 pub mod JobNumbers
+pub mod LookNumbers

@@ -324,14 +324,17 @@ pub fn consistent(
     placed_starts: &mut [usize],
     sheet_firsts: &[Bucket],
     placed_firsts: &[Bucket],
+    orientation: &[usize],
+    gap: &[f64],
 ) -> bool
     requires { ⌜ (kinds ≤ 64) × (256 ≤ length (now rows)) × ((k : ℕ) → k < kinds → getD (now rows) (4 * k + 3) 0 ≤ 16) × (copies ≤ 4096)
         × (4096 ≤ length (now order)) × (4096 ≤ length (now «inset_bounds»)) × (4096 ≤ length (now parts)) × (1024 ≤ length (now «next_column»))
-        × (1024 ≤ length (now «look_counts»)) × (length (now «sheet_starts») ≡ buckets + 1) × (length (now «placed_starts») ≡ buckets + 1) ⌝ }
-    ensures { λ r. ⌜ ((j : Job) (areas : List Float) (orientation : List ℕ) (x y : List Float) → Tabled j (now (rows .entry)) areas → length (j .kinds) ≡ kinds
-        → j .copies ≡ copies
+        × (1024 ≤ length (now «look_counts»)) × (length (now «sheet_starts») ≡ buckets + 1) × (length (now «placed_starts») ≡ buckets + 1)
+        × (4096 ≤ length (now orientation)) × (4096 ≤ length (now gap)) ⌝ }
+    ensures { λ r. ⌜ ((j : Job) (areas : List Float) (x y : List Float) → Tabled j (now (rows .entry)) areas → length (j .kinds) ≡ kinds → j .copies ≡ copies
         → r ≡ consistent j (stateOf taken «placed_strips» right «unplaced_area» resolution bounds «sheet_strips» «apart_strips» (now («inset_bounds» .entry))
-        (now (parts .entry)) (now (order .entry)) (now («next_column» .entry)) (now («look_counts» .entry)) orientation x y)
+        (now (parts .entry)) (now (order .entry)) (now («next_column» .entry)) (now («look_counts» .entry))
+        (now (orientation .entry)) x y (now (gap .entry)))
         (roomsOf (now (shapes .entry)) (now (sheet .entry)) (now (placed .entry)) (now («sheet_entries» .entry)) (now («placed_entries» .entry))
         (now («sheet_firsts» .entry)) (now («placed_firsts» .entry))))
         × (r ≡ true → Laid (sheetIndex bounds) (take (6 * «sheet_strips») (now (sheet .entry))) (capacity (take (6 * «sheet_strips») (now (sheet .entry))))
@@ -341,7 +344,7 @@ pub fn consistent(
         (now («sheet_firsts» .entry)) × FirstBuckets (sheetIndex bounds) (take (6 * «placed_strips») (now (placed .entry)))
         (capacity (take (6 * «placed_strips») (now (placed .entry)))) (now («placed_firsts» .entry))) ⌝ }
 {
-    if state_fits(
+    if !state_fits(
         taken,
         right,
         unplaced_area,
@@ -352,29 +355,32 @@ pub fn consistent(
         kinds,
         copies,
     ) {
-        return rooms_fit(
-            taken,
-            placed_strips,
-            resolution,
-            bounds,
-            sheet_strips,
-            apart_strips,
-            inset_bounds,
-            parts,
-            next_column,
-            look_counts,
-            rows,
-            kinds,
-            shapes,
-            sheet,
-            placed,
-            sheet_entries,
-            placed_entries,
-            sheet_starts,
-            placed_starts,
-            sheet_firsts,
-            placed_firsts,
-        );
+        return false;
     }
-    false
+    if !strip_tests::gaps_fit(orientation, gap, taken) {
+        return false;
+    }
+    rooms_fit(
+        taken,
+        placed_strips,
+        resolution,
+        bounds,
+        sheet_strips,
+        apart_strips,
+        inset_bounds,
+        parts,
+        next_column,
+        look_counts,
+        rows,
+        kinds,
+        shapes,
+        sheet,
+        placed,
+        sheet_entries,
+        placed_entries,
+        sheet_starts,
+        placed_starts,
+        sheet_firsts,
+        placed_firsts,
+    )
 }

@@ -2,10 +2,13 @@
 // a resolution that pass are also told to be of a bounded size.
 ghost use mathlib.Core.Path.{_≡_};
 ghost use mathlib.Core.Bool.{true};
+ghost use Prim.Native.Nat.{_≤_};
+ghost use lib.ListN.{length};
 ghost use Rattle.index.specs.inner.Listing.{Bounded};
 ghost use Rattle.search.proofs.columns.Sizes.{BoundedRect, Resolving};
 ghost use Rattle.consistent.specs.strip_tests.inner.Heights.{heightsFit};
-ghost use Rattle.filling.specs.Consistent.{bounded, stripFits, stripsFit, boundsFit, resolutionFits, layoutFits};
+ghost use Rattle.consistent.specs.strip_tests.inner.Gaps.{placeTest, gapsTest};
+ghost use Rattle.filling.specs.Consistent.{bounded, stripFits, stripsFit, boundsFit, resolutionFits, layoutFits, gapFits};
 use strips::Rect;
 use trapezoid::Trapezoid;
 
@@ -104,4 +107,39 @@ pub fn layout_fits(right: f64, area: f64) -> bool
         return area <= 10000000000000000.0;
     }
     false
+}
+
+// A standing copy's gap (document 02, W7).
+fn gap_fits(gap: f64) -> bool
+    ensures { λ r. ⌜ r ≡ gapFits gap ⌝ }
+{
+    if gap >= 0.0 {
+        return gap <= 1000000.0;
+    }
+    false
+}
+
+// The gap at a place, by the copy's number in the layout: one without a place has none.
+fn place_fits(number: usize, gap: f64) -> bool
+    ensures { λ r. ⌜ r ≡ placeTest number gap ⌝ }
+{
+    if number == 0 {
+        return true;
+    }
+    gap_fits(gap)
+}
+
+// The gaps of the copies that stand among the first n (document 02, W7).
+pub fn gaps_fit(orientation: &[usize], gap: &[f64], n: usize) -> bool
+    requires { ⌜ (n ≤ length (now orientation)) × (n ≤ length (now gap)) ⌝ }
+    ensures { λ r. ⌜ r ≡ gapsTest (now (orientation .entry)) (now (gap .entry)) n ⌝ }
+{
+    let mut i = 0;
+    while i < n {
+        if !place_fits(orientation[i], gap[i]) {
+            return false;
+        }
+        i += 1;
+    }
+    true
 }

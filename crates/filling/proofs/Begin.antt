@@ -287,6 +287,7 @@ module _ (j : Job) (z : Sized j) where
           numbers = length-replicate {A = ℕ} 4096 0;
           xs = length-replicate 4096 posZero;
           ys = length-replicate 4096 posZero;
+          gaps = length-replicate 4096 posZero;
           next-columns = length-replicate {A = ℕ} 1024 1;
           look-counts = length-replicate {A = ℕ} 1024 0;
         }

@@ -13,7 +13,7 @@ use Rattle.filling.specs.State.{plannerAt, orderOf, copyAt, standsAt, mi
 use Rattle.filling.specs.State.{rememberedNumber, trackAt, tracksOf, zeroTables, emptyLayout, zeroState}
 use Rattle.filling.specs.Order.{countIn, inFull, rearranged}
 use Rattle.filling.specs.Consistent.{every, bounded, stripFits, stripsFit, boundsFit, takenFits, stripCountsFit, partFits, partsFit, columnFits}
-use Rattle.filling.specs.Consistent.{trackFits, tracksFit, trackTableFits, resolutionFits, shapeFits, plannerFits, layoutFits, sameNumbers, numbersLie}
+use Rattle.filling.specs.Consistent.{trackFits, tracksFit, trackTableFits, resolutionFits, shapeFits, plannerFits, layoutFits, gapFits, gapsFit, sameNumbers, numbersLie}
 use Rattle.filling.specs.Consistent.{sheetIndex, entriesFor, entriesFit, sheetStrips, placedStrips, firstsFor, firstsFit, consistent}
 use Rattle.filling.specs.Start.{apartStrips, insetStrips, partsFrom, tablesOf, firstState, firstRooms, prepareVerdict, startVerdict, noStart, goodStart}
 use Rattle.filling.specs.Start.{startJob, startGiven, startOf}
@@ -69,7 +69,7 @@ unfolding every neg bounded stripFits stripsFit boundsFit takenFits stripCountsF
 consistent-computes-1 = tt
 
 unfoldable pub consistent-computes-2 : Unit {0}
-unfolding resolutionFits shapeFits plannerFits layoutFits sameNumbers numbersLie sheetIndex entriesFor entriesFit sheetStrips placedStrips firstsFor firstsFit consistent
+unfolding resolutionFits shapeFits plannerFits layoutFits gapFits gapsFit sameNumbers numbersLie sheetIndex entriesFor entriesFit sheetStrips placedStrips firstsFor firstsFit consistent
 consistent-computes-2 = tt
 
 unfoldable pub consistent-computes : Unit {0}

@@ -94,7 +94,7 @@ module _ (p : Planner) (st : List Float) (s : Shape) where
   pub data Fit (t : Track) (fs : List Found) : Type 0 where
     fresh : t .next-column ≡ column 0 → t .look-count ≡ 0 → fs ≡ [] → Fit t fs
     closed : reversedFor p s ≡ true → t .next-column ≡ none → t .look-count ≡ 0 → fs ≡ [] → Fit t fs
-    reached : (c : ℕ) (y : Float) (gs : List Found) → reversedFor p s ≡ false → c ≤ lastOf p s → Fulls c → t .next-column ≡ column c → fs ≡ at c y ∷ gs → t .look-count ≡ c + finds fs → Fit t fs
+    reached : (c : ℕ) (y g : Float) (gs : List Found) → reversedFor p s ≡ false → c ≤ lastOf p s → Fulls c → t .next-column ≡ column c → fs ≡ at c y g ∷ gs → t .look-count ≡ c + finds fs → Fit t fs
     spent : (gs : List Found) → reversedFor p s ≡ false → Fulls (suc (lastOf p s)) → t .next-column ≡ none → fs ≡ nowhere ∷ gs → t .look-count ≡ suc (lastOf p s) + finds fs → Fit t fs
 
   -- from a column below which all is full the search finds what the plain planner finds
@@ -119,12 +119,12 @@ module _ (p : Planner) (st : List Float) (s : Shape) where
       go (inl o) = search-reversed 0 o ∙ sym (plain-reversed o)
       go (inr o) = from-column 0 o (omega arith) (λ d i j. absurd (omega arith))
   same-search t fs (closed o m n e) = ap (search p st s) m ∙ sym (plain-reversed o)
-  same-search t fs (reached c y gs o l h m e n) = ap (search p st s) m ∙ from-column c o (omega arith) h
+  same-search t fs (reached c y g gs o l h m e n) = ap (search p st s) m ∙ from-column c o (omega arith) h
   same-search t fs (spent gs o h m e n) = ap (search p st s) m ∙ sym (all-full o h)
 
-  pub yields : (f : Found) → (f ≡ nowhere) ⊎ ((d : ℕ) × (y : Float) × (f ≡ at d y))
+  pub yields : (f : Found) → (f ≡ nowhere) ⊎ ((d : ℕ) × (y : Float) × (g : Float) × (f ≡ at d y g))
   yields nowhere = inl refl
-  yields (at d y) = inr (d, y, refl)
+  yields (at d y g) = inr (d, y, g, refl)
 
   -- a search from a column below which all is full
   from-open : (t : Track) (fs : List Found) (c : ℕ) → reversedFor p s ≡ false → c ≤ lastOf p s → Fulls c → t .next-column ≡ column c → t .look-count ≡ c + finds fs
@@ -150,7 +150,7 @@ module _ (p : Planner) (st : List Float) (s : Shape) where
       looks-f : looks p s (t .next-column) f ≡ columnsFrom c last f
       looks-f = ap (λ k. looks p s k f) m ∙ looks-open c f o
 
-      go : (f ≡ nowhere) ⊎ ((d : ℕ) × (y : Float) × (f ≡ at d y)) → Fit (searched p s t f) (plainSearched p st s fs)
+      go : (f ≡ nowhere) ⊎ ((d : ℕ) × (y : Float) × (g : Float) × (f ≡ at d y g)) → Fit (searched p s t f) (plainSearched p st s fs)
       go (inl e) = spent fs o fulls (ap remembered e) (searches ∙ ap (λ g. g ∷ fs) e) count
         where
           rest : FullFrom (lookAt p st s) c (c + (suc last - c))
@@ -164,10 +164,10 @@ module _ (p : Planner) (st : List Float) (s : Shape) where
               let a : length (looks p s (t .next-column) f) ≡ suc last - c = ap length (looks-f ∙ ap (columnsFrom c last) e) ∙ length-upFrom (suc last - c) c in
               let b : finds (plainSearched p st s fs) ≡ finds fs = ap finds (searches ∙ ap (λ g. g ∷ fs) e) in
               omega arith
-      go (inr e) = reached (e .0) (e .1) fs o within fulls (ap remembered (e .2)) (searches ∙ ap (λ g. g ∷ fs) (e .2)) count
+      go (inr e) = reached (e .0) (e .1) (e .2) fs o within fulls (ap remembered (e .3)) (searches ∙ ap (λ g. g ∷ fs) (e .3)) count
         where
-          place : FoundAt (lookAt p st s) c (c + (suc last - c)) (e .0) (e .1)
-          place = found-at (lookAt p st s) (suc last - c) c (e .0) (e .1) (sym found ∙ e .2)
+          place : FoundAt (lookAt p st s) c (c + (suc last - c)) (e .0) (e .1) (e .2)
+          place = found-at (lookAt p st s) (suc last - c) c (e .0) (e .1) (e .2) (sym found ∙ e .3)
 
           fulls : Fulls (e .0)
           fulls d i j = join (lookAt p st s) c (e .0) h (place .fulls) d i j
@@ -178,8 +178,8 @@ module _ (p : Planner) (st : List Float) (s : Shape) where
           count : t .look-count + length (looks p s (t .next-column) f) ≡ e .0 + finds (plainSearched p st s fs)
           count =
               let i = place .from in
-              let a : length (looks p s (t .next-column) f) ≡ suc (e .0) - c = ap length (looks-f ∙ ap (columnsFrom c last) (e .2)) ∙ length-upFrom (suc (e .0) - c) c in
-              let b : finds (plainSearched p st s fs) ≡ suc (finds fs) = ap finds (searches ∙ ap (λ g. g ∷ fs) (e .2)) in
+              let a : length (looks p s (t .next-column) f) ≡ suc (e .0) - c = ap length (looks-f ∙ ap (columnsFrom c last) (e .3)) ∙ length-upFrom (suc (e .0) - c) c in
+              let b : finds (plainSearched p st s fs) ≡ suc (finds fs) = ap finds (searches ∙ ap (λ g. g ∷ fs) (e .3)) in
               omega arith
 
   fit-searched : (t : Track) (fs : List Found) → Fit t fs → Fit (searched p s t (search p st s (t .next-column))) (plainSearched p st s fs)
@@ -197,7 +197,7 @@ module _ (p : Planner) (st : List Float) (s : Shape) where
   fit-searched t fs (closed o m n e) =
       let a : length (looks p s (t .next-column) (search p st s (t .next-column))) ≡ 0 = ap (λ k. length (looks p s k (search p st s (t .next-column)))) m in
       closed o (ap (λ k. remembered (search p st s k)) m) (omega arith) (searched-reversed fs o ∙ e)
-  fit-searched t fs (reached c y gs o l h m e n) = from-open t fs c o l h m n
+  fit-searched t fs (reached c y g gs o l h m e n) = from-open t fs c o l h m n
   fit-searched t fs (spent gs o h m e n) =
       let a : length (looks p s (t .next-column) (search p st s (t .next-column))) ≡ 0 = ap (λ k. length (looks p s k (search p st s (t .next-column)))) m in
       let z : plainSearched p st s fs ≡ nowhere ∷ fs = searched-open fs o ∙ ap (λ g. g ∷ fs) (all-full o h) in
@@ -210,7 +210,7 @@ module _ (p : Planner) (st : List Float) (s : Shape) where
     where
       go : (t : Bool) (f : Found) → finds (elim t [ true ↦ fs | false ↦ f ∷ fs ]) ≤ suc (finds fs)
       go true f = omega arith
-      go false (at c y) = omega arith
+      go false (at c y g) = omega arith
       go false nowhere = omega arith
 
   -- the look equation
@@ -222,7 +222,7 @@ module _ (p : Planner) (st : List Float) (s : Shape) where
       none-yet true = refl
       none-yet false = refl
   expects t fs (closed o m n e) = n ∙ sym (expects-reversed fs o)
-  expects t fs (reached c y gs o l h m e n) = n ∙ ap (λ g. c + finds g) e ∙ sym (ap (expectedLooks (lastOf p s)) e) ∙ sym (expects-open fs o)
+  expects t fs (reached c y g gs o l h m e n) = n ∙ ap (λ g. c + finds g) e ∙ sym (ap (expectedLooks (lastOf p s)) e) ∙ sym (expects-open fs o)
   expects t fs (spent gs o h m e n) =
       let a : finds fs ≡ finds gs = ap finds e in
       let b : suc (lastOf p s) + finds gs ≡ lastOf p s + 1 + finds gs = omega arith in
@@ -232,7 +232,7 @@ module _ (p : Planner) (st : List Float) (s : Shape) where
 grown : (p : Planner) (st st′ : List Float) (s : Shape) → Grows st st′ → (t : Track) (fs : List Found) → Fit p st s t fs → Fit p st′ s t fs
 grown p st st′ s w t fs (fresh m n e) = fresh m n e
 grown p st st′ s w t fs (closed o m n e) = closed o m n e
-grown p st st′ s w t fs (reached c y gs o l h m e n) = reached c y gs o l (λ d i j. look-grows p st st′ s d w (h d i j)) m e n
+grown p st st′ s w t fs (reached c y g gs o l h m e n) = reached c y g gs o l (λ d i j. look-grows p st st′ s d w (h d i j)) m e n
 grown p st st′ s w t fs (spent gs o h m e n) = spent gs o (λ d i j. look-grows p st st′ s d w (h d i j)) m e n
 
 -- ---- the state and the plain planner's

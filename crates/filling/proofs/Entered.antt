@@ -21,14 +21,14 @@ use Rattle.filling.proofs.Reading.{rows-write, Sixteen, sixteen-get, ro
 
 -- ---- a copy entered: what the new state says
 
-module _ (s : State) (k : ℕ) (ts : List Track) (strips out : ℕ) (x y area right : Float) where
+module _ (s : State) (k : ℕ) (ts : List Track) (strips out : ℕ) (x y gap area right : Float) where
   abbrev pub Now : State
-  Now = stateWith s k ts strips (entered (s .layout) (s .taken) out x y area right)
+  Now = stateWith s k ts strips (entered (s .layout) (s .taken) out x y gap area right)
 
   stands-same : (n o : ℕ) → n ≢ s .taken → standsAt Now n o ≡ standsAt s n o
   unfolding standsAt copyAt stateWith entered
   stands-same n zero h = refl
-  stands-same n (suc o) h = rw (getD-set-other (s .layout .x) (s .taken) n x nan h, getD-set-other (s .layout .y) (s .taken) n y nan h)
+  stands-same n (suc o) h = rw (getD-set-other (s .layout .x) (s .taken) n x nan h, getD-set-other (s .layout .y) (s .taken) n y nan h, getD-set-other (s .layout .gap) (s .taken) n gap nan h)
 
   misses-same : (n o : ℕ) → missesAt Now n o ≡ missesAt s n o
   unfolding missesAt copyAt stateWith

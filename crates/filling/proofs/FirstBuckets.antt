@@ -32,7 +32,7 @@ use Rattle.filling.specs.Choice.{Choice, choices, best}
 use Rattle.filling.specs.Rooms.{Rooms, Lent, laid, zeros, zeroRooms, onlyPositions}
 use Rattle.filling.specs.Order.{rearranged}
 use Rattle.filling.specs.State.{plannerAt, orderOf, tracksOf, zeroTables, zeroState}
-use Rattle.filling.specs.Consistent.{takenFits, stripCountsFit, partsFit, stripsFit, plannerFits, layoutFits, trackTableFits, entriesFit, consistent}
+use Rattle.filling.specs.Consistent.{takenFits, stripCountsFit, partsFit, stripsFit, plannerFits, layoutFits, gapsFit, trackTableFits, entriesFit, consistent}
 use Rattle.filling.specs.Consistent.{sameNumbers, numbersLie, sheetIndex, sheetStrips, placedStrips, firstsFor, firstsFit}
 use Rattle.filling.specs.Start.{tablesOf, firstState, firstRooms, startVerdict, noStart, goodStart, startJob, startGiven, startOf}
 use Rattle.filling.specs.NextCopy.{newStrips, copyVerdict, stateWith, stateAfter, stored, roomsAfter, Step, noStep}
@@ -241,8 +241,9 @@ module _ (j : Job) (s : State) (w : Rooms) (c : consistent j s w ≡ true) where
       let c5 = both-second (plannerFits p) _ c4 in
       let c6 = both-second (stripsFit (placedStrips s w)) _ c5 in
       let c7 = both-second (layoutFits (s .layout .right) (s .layout .«unplaced_area»)) _ c6 in
-      let c8 = both-second (trackTableFits p (s .taken) (p .shapes) (tracksOf j s)) _ c7 in
-      both-second (entriesFit p w (placedStrips s w)) (firstsFit s w) c8
+      let c8 = both-second (gapsFit s) _ c7 in
+      let c9 = both-second (trackTableFits p (s .taken) (p .shapes) (tracksOf j s)) _ c8 in
+      both-second (entriesFit p w (placedStrips s w)) (firstsFit s w) c9
 
   placed-count : s .«placed_strips» ≤ standingCapacity (w .placed) (w .placed-firsts)
   unfolding stripCountsFit

@@ -36,24 +36,21 @@ use Rattle.filling.proofs.Reading.{Sixfold}
 
 -- ---- the first free column
 
-free≢full : {y : Float} → Free y ≡ Full → ⊥
-free≢full e = let z : _≡_ {A = ℕ} 0 1 = cc in omega arith
-
-nowhere≢at : {c : ℕ} {y : Float} → nowhere ≡ at c y → ⊥
+nowhere≢at : {c : ℕ} {y g : Float} → nowhere ≡ at c y g → ⊥
 nowhere≢at e = let z : _≡_ {A = ℕ} 0 1 = cc in omega arith
 
-answers : (l : Look) → (l ≡ Full) ⊎ ((y : Float) × (l ≡ Free y))
+answers : (l : Look) → (l ≡ Full) ⊎ ((y : Float) × (g : Float) × (l ≡ Free y g))
 answers Full = inl refl
-answers (Free y) = inr (y, refl)
+answers (Free y g) = inr (y, g, refl)
 
 module _ (f : ℕ → Look) where
   pub first-full : (n c : ℕ) → f c ≡ Full → firstFree f (suc n) c ≡ firstFree f n (suc c)
   unfolding firstFree
   first-full n c e = rw (e, firstFree)
 
-  pub first-free : (n c : ℕ) (y : Float) → f c ≡ Free y → firstFree f (suc n) c ≡ at c y
+  pub first-free : (n c : ℕ) (y g : Float) → f c ≡ Free y g → firstFree f (suc n) c ≡ at c y g
   unfolding firstFree
-  first-free n c y e = rw (e, firstFree)
+  first-free n c y g e = rw (e, firstFree)
 
   abbrev pub FullFrom : ℕ → ℕ → Type 0
   FullFrom b e = (d : ℕ) → b ≤ d → d < e → f d ≡ Full
@@ -81,18 +78,18 @@ module _ (f : ℕ → Look) where
   none-free zero b h = refl
   none-free (suc n) b h = first-full n b (h b (omega arith) (omega arith)) ∙ none-free n (suc b) (λ d p q. h d (omega arith) (omega arith))
 
-  pub record FoundAt (b e c : ℕ) (y : Float) : Type 0 where
+  pub record FoundAt (b e c : ℕ) (y g : Float) : Type 0 where
     pub from : b ≤ c
     pub before : c < e
     pub fulls : FullFrom b c
-    pub frees : f c ≡ Free y
+    pub frees : f c ≡ Free y g
 
-  pub found-at : (n b c : ℕ) (y : Float) → firstFree f n b ≡ at c y → FoundAt b (b + n) c y
+  pub found-at : (n b c : ℕ) (y g : Float) → firstFree f n b ≡ at c y g → FoundAt b (b + n) c y g
   unfolding firstFree
-  found-at zero b c y e = absurd (nowhere≢at e)
-  found-at (suc n) b c y e = go (found-at n (suc b) c y) (answers (f b))
+  found-at zero b c y g e = absurd (nowhere≢at e)
+  found-at (suc n) b c y g e = go (found-at n (suc b) c y g) (answers (f b))
     where
-      go : (firstFree f n (suc b) ≡ at c y → FoundAt (suc b) (suc b + n) c y) → (f b ≡ Full) ⊎ ((z : Float) × (f b ≡ Free z)) → FoundAt b (b + suc n) c y
+      go : (firstFree f n (suc b) ≡ at c y g → FoundAt (suc b) (suc b + n) c y g) → (f b ≡ Full) ⊎ ((z : Float) × (v : Float) × (f b ≡ Free z v)) → FoundAt b (b + suc n) c y g
       go below (inl h) =
           let r = below (sym (first-full n b h) ∙ e) in
           let i = r .from in
@@ -103,7 +100,7 @@ module _ (f : ℕ → Look) where
           first r q h (inl z) = ap f (sym z) ∙ h
           first r q h (inr z) = r z q
       go below (inr h) =
-          let z : at b (h .0) ≡ at c y = sym (first-free n b (h .0) (h .1)) ∙ e in
+          let z : at b (h .0) (h .1) ≡ at c y g = sym (first-free n b (h .0) (h .1) (h .2)) ∙ e in
           let i : b ≡ c = cc in
           record { from = omega arith; before = omega arith; fulls = λ d p q. absurd (omega arith); frees = cc }
 
@@ -111,10 +108,10 @@ module _ (f : ℕ → Look) where
   found-nowhere zero b e d p q = absurd (omega arith)
   found-nowhere (suc n) b e d p q = go (λ e′ p′. found-nowhere n (suc b) e′ d p′ (omega arith)) (answers (f b)) (eq-or-lt-of-le p)
     where
-      go : (firstFree f n (suc b) ≡ nowhere → suc b ≤ d → f d ≡ Full) → (f b ≡ Full) ⊎ ((z : Float) × (f b ≡ Free z)) → (b ≡ d) ⊎ (b < d) → f d ≡ Full
+      go : (firstFree f n (suc b) ≡ nowhere → suc b ≤ d → f d ≡ Full) → (f b ≡ Full) ⊎ ((z : Float) × (v : Float) × (f b ≡ Free z v)) → (b ≡ d) ⊎ (b < d) → f d ≡ Full
       go below (inl h) (inl z) = ap f (sym z) ∙ h
       go below (inl h) (inr z) = below (sym (first-full n b h) ∙ e) z
-      go below (inr h) w = absurd (nowhere≢at (sym e ∙ first-free n b (h .0) (h .1)))
+      go below (inr h) w = absurd (nowhere≢at (sym e ∙ first-free n b (h .0) (h .1) (h .2)))
 
 -- ---- more standing strips
 

@@ -16,7 +16,7 @@ use Rattle.index.specs.Intervals.{countsOf}
 use Rattle.look.specs.declared.height.Look.{Look}
 use Rattle.look.specs.declared.height.Look.the-variants.{Free, Full}
 use Rattle.look.proofs.height.SmallestHeight.{Real, le-is-true, is-le, outside-of, of-outside, keep-mem, mem-keep, lowest-full, RealEnd, candidate-real, nearest}
-use Rattle.look.specs.height.Smallest.{outside, candidates, lowest, heightOf}
+use Rattle.look.specs.height.Smallest.{outside, candidates, freeAt, lowest, heightOf}
 use Rattle.filling.proofs.Lists.{Within}
 
 -- ---- doubles that are no NaN, by their keys
@@ -31,7 +31,7 @@ lt-reals (fin s m d) nan e = absurd (true≢false (sym e))
 lt-reals (fin s m d) (inf t) e = (tt, tt)
 lt-reals (fin s m d) (fin t n c) e = (tt, tt)
 
-le-reals : (x y : Float) → le x y ≡ true → T (Keys.real x) × T (Keys.real y)
+pub le-reals : (x y : Float) → le x y ≡ true → T (Keys.real x) × T (Keys.real y)
 unfolding le lt lib.Ieee.eq
 le-reals nan y e = absurd (true≢false (sym e))
 le-reals (inf s) nan e = absurd (true≢false (sym e))
@@ -43,10 +43,10 @@ le-reals (fin s m d) (fin t n c) e = (tt, tt)
 
 -- ---- the look
 
-lowest-some : (cs : List Float) (h : Float) → lowest cs ≡ Free h → (c : Float) × List·Memᴰ c cs
-unfolding lowest
-lowest-some [] h e = absurd (let z : _≡_ {A = ℕ} 0 1 = cc in omega arith)
-lowest-some (c ∷ cs) h e = (c, List·Memᴰ·head refl)
+lowest-some : (yh : Float) (is : List Interval) (cs : List Float) (h g : Float) → lowest yh is cs ≡ Free h g → (c : Float) × List·Memᴰ c cs
+unfolding lowest freeAt
+lowest-some yh is [] h g e = absurd (let z : _≡_ {A = ℕ} 0 1 = cc in omega arith)
+lowest-some yh is (c ∷ cs) h g e = (c, List·Memᴰ·head refl)
 
 no-members : {A : Type 0} (xs : List A) → ((a : A) → List·Memᴰ a xs → ⊥) → xs ≡ []
 no-members [] h = refl
@@ -98,16 +98,16 @@ module _ (yl yh : Float) (fl : T (fits binary64 yl)) (fh : T (fits binary64 yh))
           let D = candidate-real yl is Y (λ i n. ends yl yh i (ci i n)) (d .0) (d .1) in
           let d2 = d .2 in
           let u : k c ≤ k yh = le-is-true (C .0) H (both-first (le c yh) _ t) in
-          lowest-full (keep (λ c. le c yh && outside is c) (candidates yl is)) e (d .0)
+          lowest-full yh is (keep (λ c. le c yh && outside is c) (candidates yl is)) e (d .0)
           (mem-keep (λ c. le c yh && outside is c) (d .0) (candidates yl is) (d .1) (rw (is-le (D .0) H (omega arith), d .3)))
 
       go : (l : Look) → heightOf yl yh js ≡ l → T (Keys.real yl) ⊎ (yl ≡ nan) → heightOf yl yh js ≡ Full
       go Full f L = f
-      go (Free h) f (inl L) =
-          let s = lowest-some (keep (λ c. le c yh && outside js c) (candidates yl js)) h f in
+      go (Free h g) f (inl L) =
+          let s = lowest-some yh js (keep (λ c. le c yh && outside js c) (candidates yl js)) h g f in
           let m = keep-mem (λ c. le c yh && outside js c) (s .0) (candidates yl js) (s .1) in
           absurd (height (s .0) (m .0) (m .1) L)
-      go (Free h) f (inr z) =
+      go (Free h g) f (inr z) =
           let a : is ≡ [] = no-members is (λ i m. none z i (ci i m)) in
           let b : js ≡ [] = no-members js (λ i m. none z i (cj i m)) in
           ap (heightOf yl yh) (b ∙ sym a) ∙ e

@@ -28,7 +28,7 @@ use Rattle.filling.specs.Plain.{Plain, plainStart, plainTake, finds}
 use Rattle.filling.specs.Rooms.{Rooms, Lent, laid, zeros}
 use Rattle.filling.specs.Order.{rearranged}
 use Rattle.filling.specs.State.{bySlot, slotShape, slotRows, orientationCounts, Part, partAt, apartRoom, insetRoom, plannerAt, orderOf, standingOf, withoutTo, withoutOf, missesAt, tracksOf, emptyLayout}
-use Rattle.filling.specs.Consistent.{every, bounded, stripsFit, takenFits, stripCountsFit, partFits, partsFit, columnFits, trackFits, tracksFit, trackTableFits, plannerFits, layoutFits, numbersLie, entriesFor, entriesFit, placedStrips, firstsFor, firstsFit, consistent}
+use Rattle.filling.specs.Consistent.{every, bounded, stripsFit, takenFits, stripCountsFit, partFits, partsFit, columnFits, trackFits, tracksFit, trackTableFits, plannerFits, layoutFits, gapFits, gapsFit, numbersLie, entriesFor, entriesFit, placedStrips, firstsFor, firstsFit, consistent}
 use Rattle.filling.specs.Start.{apartStrips, insetStrips, tablesOf, firstState, firstRooms, prepareVerdict, startVerdict, noStart, startGiven, startOf}
 use Rattle.filling.specs.NextCopy.{intervalCounts, anyAbove, newStrips, storeVerdict, winnerVerdict, copyVerdict, stateWith, stateAfter, stored, roomsAfter, Step, noStep, placeCopy, placeNext, coreStep, stepJob, stepGiven, nextCopyOf}
 use Rattle.filling.specs.Calls.{Call, nextCopy, After, callStep, afterCalls}
@@ -50,7 +50,7 @@ fits-one : (p : Planner) (st : List Float) (n : ℕ) (s : Shape) (t : Track) (fs
 unfolding trackFits columnFits
 fits-one p st n s t fs (fresh m l e, f) = rw (m, l, le-leb 0 (lastOf p s) (omega arith), le-leb 0 (suc (lastOf p s) + n) (omega arith))
 fits-one p st n s t fs (closed o m l e, f) = rw (m, l, le-leb 0 (suc (lastOf p s) + n) (omega arith))
-fits-one p st n s t fs (reached c y gs o b h m e l, f) = rw (m, le-leb c (lastOf p s) b, le-leb (t .look-count) (suc (lastOf p s) + n) (omega arith))
+fits-one p st n s t fs (reached c y g gs o b h m e l, f) = rw (m, le-leb c (lastOf p s) b, le-leb (t .look-count) (suc (lastOf p s) + n) (omega arith))
 fits-one p st n s t fs (spent gs o h m e l, f) = rw (m, le-leb (t .look-count) (suc (lastOf p s) + n) (omega arith))
 
 fits-row : (p : Planner) (st : List Float) (n : ℕ) {ss : List Shape} {ts : List Track} {fss : List (List Found)} → Row (Tracked p st n) ss ts fss → tracksFit p n ss ts ≡ true
@@ -104,7 +104,7 @@ pub own-consistent : (j : Job) (order : List ℕ) (s : State) (w : Rooms) (q : P
 unfolding consistent takenFits entriesFit
 own-consistent j order s w q z b r h =
     let few : length (withoutOf s) ≤ 4096 = unfold withoutOf in (let a = without-few s (s .taken) in let f = h .few in let g = z .few in omega arith) in
-    rw (le-leb (s .taken) (j .copies) (h .few), h .counts, h .parts, h .order-kept, r, h .kept .linked .plan, b .own, h .kept .linked .stand, h .fine .strips, layout-fits j s b few (h .fine), fits-table (plannerOf j) (standingStrips (plannerOf j) (standingOf s)) (s .taken) (h .kept .paired .table), h .sheet-entries, h .placed-entries, h .firsts)
+    rw (le-leb (s .taken) (j .copies) (h .few), h .counts, h .parts, h .order-kept, r, h .kept .linked .plan, b .own, h .kept .linked .stand, h .fine .strips, layout-fits j s b few (h .fine), h .fine .gaps, fits-table (plannerOf j) (standingStrips (plannerOf j) (standingOf s)) (s .taken) (h .kept .paired .table), h .sheet-entries, h .placed-entries, h .firsts)
 
 -- ---- a copy taken
 
@@ -260,11 +260,15 @@ first-fine j z b order n =
     record {
       strips = ap (λ c. stripsFit (standingStrips (plannerOf j) c)) (first-standing j z order n) ∙ none-fit j;
       right = ap bounded (first-right j order) ∙ left-bounded (plannerOf j) (b .own);
+      gaps = first-gaps;
       area = first-area j order ∙ ap (summed (plannerOf j) posZero) (sym (first-without j z order n));
     }
   where
     none-fit : (j : Job) → stripsFit (standingStrips (plannerOf j) []) ≡ true
     none-fit j = unfold stripsFit in (unfold standingStrips in (unfold flatMap in (unfold capacity in (unfold upFrom in (unfold every in refl)))))
+
+    first-gaps : gapsFit (firstState (plannerOf j) order) ≡ true
+    first-gaps = unfold gapsFit in (ap (every (λ c. gapFits (c .gap))) (first-standing j z order n) ∙ (unfold every in refl))
 
     first-right : (j : Job) (order : List ℕ) → firstState (plannerOf j) order .layout .right ≡ plannerOf j .bounds .left
     first-right j order = unfold firstState in (unfold emptyLayout in refl)

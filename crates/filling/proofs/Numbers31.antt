@@ -18,25 +18,25 @@ use Rattle.job.specs.Jobs.{Job}
 use Rattle.filling.specs.declared.State.{State}
 use Rattle.filling.specs.declared.Layout.{Layout}
 use Rattle.filling.specs.Columns.{columnAt}
-use Rattle.filling.specs.Shapes.{Planner, plannerOf, Shape, Copy, noShape, shapeOf, movedStrips, standingStrips}
+use Rattle.filling.specs.Shapes.{Planner, plannerOf, Shape, Copy, Standing, noShape, shapeOf, movedStrips, standingStrips}
 use Rattle.filling.specs.Search.{Found, at, nowhere, Remembered, column, none, Track, rangesOf, lookAt, lastOf, reversedFor, search, searchAll}
 use Rattle.filling.specs.Choice.{Choice, choiceOf, choices, wins, best, standingAt}
 use Rattle.filling.specs.State.{standingOf, withoutOf}
-use Rattle.filling.specs.Consistent.{every, bounded, stripFits, stripsFit, boundsFit, plannerFits, resolutionFits, shapeFits, layoutFits}
+use Rattle.filling.specs.Consistent.{every, bounded, stripFits, stripsFit, boundsFit, plannerFits, resolutionFits, shapeFits, layoutFits, gapFits, gapsFit}
 use Rattle.filling.specs.NextCopy.{newStrips, entered, stateWith, layoutAfter, stateAfter}
 use Rattle.filling.proofs.FirstFree.{FoundAt, found-at, grows-append}
 use Rattle.filling.proofs.Reading.{Sixfold, capacity-append}
 use Rattle.filling.proofs.Steps.{new-sixfold, standing-sixfold, standing-more}
 use Rattle.filling.proofs.Demand3.{search-open, search-reversed}
 
--- a place that a search can yield: a column, and a height that a look found free there
-pub record Yielded (p : Planner) (s : Shape) (x y : Float) : Type 0 where
+-- a place that a search can yield: a column, a height that a look found free there, and the clear height above it
+pub record Yielded (p : Planner) (s : Shape) (x y g : Float) : Type 0 where
   pub opened : reversedFor p s ≡ false
   pub column-number : ℕ
   pub within : column-number ≤ lastOf p s
   pub x-is : x ≡ columnAt (p .resolution) (rangesOf p s) column-number
   pub standing : List Float
-  pub freed : lookAt p standing s column-number ≡ Free y
+  pub freed : lookAt p standing s column-number ≡ Free y g
 
 -- areas, added in order
 unfoldable pub summed : Planner → Float → List Copy → Float
@@ -46,8 +46,9 @@ summed p a (c ∷ cs) = summed p (a ⊕ getD (p .areas) (c .kind) posZero) cs
 -- a job's numbers are within the bounds that 31 tests
 pub record WithinBounds (p : Planner) : Type 0 where
   pub own : plannerFits p ≡ true
-  pub strips : (k o : ℕ) (x y : Float) → Yielded p (shapeOf p k o) x y → stripsFit (movedStrips (shapeOf p k o .apart) x y) ≡ true
-  pub right : (k o : ℕ) (x y : Float) → Yielded p (shapeOf p k o) x y → bounded (x ⊕ shapeOf p k o .bounds .right) ≡ true
+  pub strips : (k o : ℕ) (x y g : Float) → Yielded p (shapeOf p k o) x y g → stripsFit (movedStrips (shapeOf p k o .apart) x y) ≡ true
+  pub right : (k o : ℕ) (x y g : Float) → Yielded p (shapeOf p k o) x y g → bounded (x ⊕ shapeOf p k o .bounds .right) ≡ true
+  pub gaps : (k o : ℕ) (x y g : Float) → Yielded p (shapeOf p k o) x y g → gapFits g ≡ true
   pub sums-low : (cs : List Copy) → length cs ≤ 4096 → le posZero (summed p posZero cs) ≡ true
   pub sums-high : (cs : List Copy) → length cs ≤ 4096 → le (summed p posZero cs) (fromInt 10_000_000_000_000_000) ≡ true
 
@@ -57,6 +58,11 @@ every-upFrom : (f : ℕ → Bool) (n c : ℕ) → ((i : ℕ) → c ≤ i → i <
 unfolding every upFrom
 every-upFrom f zero c h = refl
 every-upFrom f (suc n) c h = rw (h c (omega arith) (omega arith), every-upFrom f n (suc c) (λ i a b. h i (omega arith) (omega arith)))
+
+every-snoc : {A : Type 0} (f : A → Bool) (l : List A) (a : A) → every f l ≡ true → f a ≡ true → every f (l ++ (a ∷ [])) ≡ true
+unfolding every
+every-snoc f [] a e h = rw h
+every-snoc f (b ∷ l) a e h = rw (both-first (f b) _ e, every-snoc f l a (both-second (f b) _ e) h)
 
 upFrom-every : (f : ℕ → Bool) (n c : ℕ) → every f (upFrom n c) ≡ true → (i : ℕ) → c ≤ i → i < c + n → f i ≡ true
 unfolding every upFrom
@@ -104,7 +110,7 @@ summed-snoc p a (b ∷ cs) c = summed-snoc p (a ⊕ getD (p .areas) (b .kind) po
 
 module _ (p : Planner) (k : ℕ) where
   pub record Good (c : Choice) : Type 0 where
-    pub place : Yielded p (shapeOf p k (c .orientation)) (c .x) (c .y)
+    pub place : Yielded p (shapeOf p k (c .orientation)) (c .x) (c .y) (c .gap)
     pub right-is : c .right ≡ c .x ⊕ shapeOf p k (c .orientation) .bounds .right
 
   pub data Goods : List Choice → Type 0 where
@@ -120,15 +126,15 @@ module _ (p : Planner) (k : ℕ) where
       go true x y = x
       go false x y = y
 
-  yielded : (st : List Float) (s : Shape) (m : Remembered) (c : ℕ) (y : Float) → search p st s m ≡ at c y → Yielded p s (columnAt (p .resolution) (rangesOf p s) c) y
+  yielded : (st : List Float) (s : Shape) (m : Remembered) (c : ℕ) (y g : Float) → search p st s m ≡ at c y g → Yielded p s (columnAt (p .resolution) (rangesOf p s) c) y g
   unfolding search
-  yielded st s none c y e = absurd (let z : _≡_ {A = ℕ} 0 1 = cc in omega arith)
-  yielded st s (column d) c y e = go (either (reversedFor p s))
+  yielded st s none c y g e = absurd (let z : _≡_ {A = ℕ} 0 1 = cc in omega arith)
+  yielded st s (column d) c y g e = go (either (reversedFor p s))
     where
-      go : (reversedFor p s ≡ true) ⊎ (reversedFor p s ≡ false) → Yielded p s (columnAt (p .resolution) (rangesOf p s) c) y
-      go (inl o) = absurd (let f : nowhere ≡ at c y = sym (search-reversed p st s d o) ∙ e in let z : _≡_ {A = ℕ} 0 1 = cc in omega arith)
+      go : (reversedFor p s ≡ true) ⊎ (reversedFor p s ≡ false) → Yielded p s (columnAt (p .resolution) (rangesOf p s) c) y g
+      go (inl o) = absurd (let f : nowhere ≡ at c y g = sym (search-reversed p st s d o) ∙ e in let z : _≡_ {A = ℕ} 0 1 = cc in omega arith)
       go (inr o) =
-          let f = found-at (lookAt p st s) (suc (lastOf p s) - d) d c y (sym (search-open p st s d o) ∙ e) in
+          let f = found-at (lookAt p st s) (suc (lastOf p s) - d) d c y g (sym (search-open p st s d o) ∙ e) in
           let i = f .from in
           let j = f .before in
           record { opened = o; column-number = c; within = omega arith; x-is = refl; standing = st; freed = f .frees }
@@ -136,10 +142,10 @@ module _ (p : Planner) (k : ℕ) where
   choice-good : (st : List Float) (o : ℕ) (s : Shape) → s ≡ shapeOf p k o → (m : Remembered) (f : Found) → search p st s m ≡ f → (cs : List Choice) → Goods cs → Goods (choiceOf p o s f ++ cs)
   unfolding choiceOf
   choice-good st o s e m nowhere d cs h = h
-  choice-good st o s e m (at c y) d cs h =
+  choice-good st o s e m (at c y v) d cs h =
       let x = columnAt (p .resolution) (rangesOf p s) c in
-      let g : Good (record { orientation = o; x = x; y = y; right = x ⊕ s .bounds .right; top = y ⊕ s .bounds .top }) =
-      record { place = subst (λ (t : Shape). Yielded p t x y) e (yielded st s m c y d); right-is = ap (λ t. x ⊕ t .bounds .right) e }
+      let g : Good (record { orientation = o; x = x; y = y; gap = v; right = x ⊕ s .bounds .right; top = y ⊕ s .bounds .top }) =
+      record { place = subst (λ (t : Shape). Yielded p t x y v) e (yielded st s m c y v d); right-is = ap (λ t. x ⊕ t .bounds .right) e }
       in
       and-good g h
 
@@ -164,7 +170,12 @@ module _ (p : Planner) (k : ℕ) where
 pub record Fine (j : Job) (s : State) : Type 0 where
   pub strips : stripsFit (standingStrips (plannerOf j) (standingOf s)) ≡ true
   pub right : bounded (s .layout .right) ≡ true
+  pub gaps : gapsFit s ≡ true
   pub area : s .layout .«unplaced_area» ≡ summed (plannerOf j) posZero (withoutOf s)
+
+gaps-of : (s : State) (cs : List Standing) → standingOf s ≡ cs → gapsFit s ≡ every (λ c. gapFits (c .gap)) cs
+unfolding gapsFit
+gaps-of s cs e = ap (every (λ c. gapFits (c .gap))) e
 
 larger-bounded : (a b : Float) → bounded a ≡ true → bounded b ≡ true → bounded (larger a b) ≡ true
 unfolding larger
@@ -212,15 +223,20 @@ module _ (j : Job) (z : WithinBounds (plannerOf j)) (s : State) (h : Fine j s) (
   unfolding stateAfter stateWith layoutAfter entered
   right-placed c cs = refl
 
-  new-fit : (d : Choice) → Yielded P (shapeOf P k (d .orientation)) (d .x) (d .y) → stripsFit (newStrips P k d) ≡ true
+  new-fit : (d : Choice) → Yielded P (shapeOf P k (d .orientation)) (d .x) (d .y) (d .gap) → stripsFit (newStrips P k d) ≡ true
   unfolding newStrips
-  new-fit d y = z .strips k (d .orientation) (d .x) (d .y) y
+  new-fit d y = z .strips k (d .orientation) (d .x) (d .y) (d .gap) y
+
+  new-gap : (d : Choice) → Yielded P (shapeOf P k (d .orientation)) (d .x) (d .y) (d .gap) → gapFits (standingAt N d .gap) ≡ true
+  unfolding standingAt
+  new-gap d y = z .gaps k (d .orientation) (d .x) (d .y) (d .gap) y
 
   pub fine-none : standingOf (stateAfter P k ts s St []) ≡ standingOf s → withoutOf (stateAfter P k ts s St []) ≡ withoutOf s ++ (N ∷ []) → Fine j (stateAfter P k ts s St [])
   fine-none a b =
       record {
         strips = ap (λ c. stripsFit (standingStrips P c)) a ∙ h .strips;
         right = ap bounded right-none ∙ h .right;
+        gaps = gaps-of (stateAfter P k ts s St []) (standingOf s) a ∙ sym (gaps-of s (standingOf s) refl) ∙ h .gaps;
         area = area-none ∙ ap (λ u. u ⊕ getD (P .areas) k posZero) (h .area) ∙ sym (summed-snoc P posZero (withoutOf s) N) ∙ ap (summed P posZero) (sym b);
       }
 
@@ -231,6 +247,7 @@ module _ (j : Job) (z : WithinBounds (plannerOf j)) (s : State) (h : Fine j s) (
       record {
         strips = ap (λ l. stripsFit (standingStrips P l)) a ∙ ap stripsFit (standing-more P (standingOf s) N d)
             ∙ strips-append St (newStrips P k d) (standing-sixfold P (standingOf s)) (new-sixfold P k d) (h .strips) (new-fit d (w .place));
-        right = ap bounded (right-placed c cs) ∙ larger-bounded (s .layout .right) (d .right) (h .right) (ap bounded (w .right-is) ∙ z .right k (d .orientation) (d .x) (d .y) (w .place));
+        right = ap bounded (right-placed c cs) ∙ larger-bounded (s .layout .right) (d .right) (h .right) (ap bounded (w .right-is) ∙ z .right k (d .orientation) (d .x) (d .y) (d .gap) (w .place));
+        gaps = gaps-of (stateAfter P k ts s St (c ∷ cs)) (standingOf s ++ (standingAt N d ∷ [])) a ∙ every-snoc (λ e. gapFits (e .gap)) (standingOf s) (standingAt N d) (sym (gaps-of s (standingOf s) refl) ∙ h .gaps) (new-gap d (w .place));
         area = area-placed c cs ∙ h .area ∙ ap (summed P posZero) (sym b);
       }

@@ -65,6 +65,7 @@ pub record Linked (j : Job) (s : State) (w : Rooms) : Type 0 where
   pub numbers : length (s .layout .orientation) ≡ 4096
   pub xs : length (s .layout .x) ≡ 4096
   pub ys : length (s .layout .y) ≡ 4096
+  pub gaps : length (s .layout .gap) ≡ 4096
   pub next-columns : length (s .«next_column») ≡ 1024
   pub look-counts : length (s .«look_counts») ≡ 1024
 
@@ -217,9 +218,9 @@ module _ (j : Job) (z : Sized j) (s : State) (w : Rooms) (h : Linked j s w) (k :
   unfolding orientationCounts
   kinds-few = let a = z .kinds in simp length-map (omega arith)
 
-  module _ (ts : List Track) (lts : length ts ≡ getD (orientationCounts j) k 0) (strips out : ℕ) (x y area right : Float) where
+  module _ (ts : List Track) (lts : length ts ≡ getD (orientationCounts j) k 0) (strips out : ℕ) (x y gap area right : Float) where
     abbrev New : State
-    New = stateWith s k ts strips (entered (s .layout) (s .taken) out x y area right)
+    New = stateWith s k ts strips (entered (s .layout) (s .taken) out x y gap area right)
 
     to-come-now : toCome j New ≡ copiesFrom (suc (s .taken)) ks
     unfolding toCome stateWith orderOf
@@ -233,9 +234,9 @@ module _ (j : Job) (z : Sized j) (s : State) (w : Rooms) (h : Linked j s w) (k :
     unfolding copyAt stateWith
     copy-now = ap (λ i. record { place = s .taken; kind = i }) kind-is
 
-    stands-now : (o : ℕ) → standsAt New (s .taken) (suc o) ≡ record { copy = Next; orientation = o; x = x; y = y } ∷ []
+    stands-now : (o : ℕ) → standsAt New (s .taken) (suc o) ≡ record { copy = Next; orientation = o; x = x; y = y; gap = gap } ∷ []
     unfolding standsAt stateWith entered
-    stands-now o = rw (copy-now, getD-set-same (s .layout .x) (s .taken) x nan (in-layout (s .layout .x) (h .xs)), getD-set-same (s .layout .y) (s .taken) y nan (in-layout (s .layout .y) (h .ys)))
+    stands-now o = rw (copy-now, getD-set-same (s .layout .x) (s .taken) x nan (in-layout (s .layout .x) (h .xs)), getD-set-same (s .layout .y) (s .taken) y nan (in-layout (s .layout .y) (h .ys)), getD-set-same (s .layout .gap) (s .taken) gap nan (in-layout (s .layout .gap) (h .gaps)))
 
     linked-by : (w′ : Rooms) → plannerAt j (s .tables) w′ ≡ plannerOf j → placedStrips New w′ ≡ standingStrips (plannerOf j) (standingOf New) → Linked j New w′
     unfolding stateWith entered
@@ -246,6 +247,7 @@ module _ (j : Job) (z : Sized j) (s : State) (w : Rooms) (h : Linked j s w) (k :
           numbers = length-set (s .layout .orientation) (s .taken) out ∙ h .numbers;
           xs = length-set (s .layout .x) (s .taken) x ∙ h .xs;
           ys = length-set (s .layout .y) (s .taken) y ∙ h .ys;
+          gaps = length-set (s .layout .gap) (s .taken) gap ∙ h .gaps;
           next-columns = length-sets (s .«next_column») (16 * k) (map (λ t. rememberedNumber (t .next-column)) ts) ∙ h .next-columns;
           look-counts = length-sets (s .«look_counts») (16 * k) (map (λ t. t .look-count) ts) ∙ h .look-counts;
         }
@@ -253,22 +255,22 @@ module _ (j : Job) (z : Sized j) (s : State) (w : Rooms) (h : Linked j s w) (k :
   module _ (ts : List Track) (lts : length ts ≡ getD (orientationCounts j) k 0) where
     -- no place
     module _ (strips : ℕ) (area right : Float) where
-      none-stands : standingOf (New ts lts strips 0 posZero posZero area right) ≡ standingOf s
+      none-stands : standingOf (New ts lts strips 0 posZero posZero posZero area right) ≡ standingOf s
       unfolding standsAt
-      none-stands = standing-now s k ts strips 0 posZero posZero area right in-numbers ∙ append-nil (standingOf s)
+      none-stands = standing-now s k ts strips 0 posZero posZero posZero area right in-numbers ∙ append-nil (standingOf s)
 
-      one-misses : withoutOf (New ts lts strips 0 posZero posZero area right) ≡ withoutOf s ++ (Next ∷ [])
+      one-misses : withoutOf (New ts lts strips 0 posZero posZero posZero area right) ≡ withoutOf s ++ (Next ∷ [])
       unfolding missesAt
-      one-misses = without-now s k ts strips 0 posZero posZero area right in-numbers ∙ ap (λ c. withoutOf s ++ (c ∷ [])) (copy-now ts lts strips 0 posZero posZero area right)
+      one-misses = without-now s k ts strips 0 posZero posZero posZero area right in-numbers ∙ ap (λ c. withoutOf s ++ (c ∷ [])) (copy-now ts lts strips 0 posZero posZero posZero area right)
 
     -- a place
-    module _ (strips o : ℕ) (x y area right : Float) where
-      one-stands : standingOf (New ts lts strips (suc o) x y area right) ≡ standingOf s ++ (record { copy = Next; orientation = o; x = x; y = y } ∷ [])
-      one-stands = standing-now s k ts strips (suc o) x y area right in-numbers ∙ ap (λ l. standingOf s ++ l) (stands-now ts lts strips (suc o) x y area right o)
+    module _ (strips o : ℕ) (x y gap area right : Float) where
+      one-stands : standingOf (New ts lts strips (suc o) x y gap area right) ≡ standingOf s ++ (record { copy = Next; orientation = o; x = x; y = y; gap = gap } ∷ [])
+      one-stands = standing-now s k ts strips (suc o) x y gap area right in-numbers ∙ ap (λ l. standingOf s ++ l) (stands-now ts lts strips (suc o) x y gap area right o)
 
-      none-misses : withoutOf (New ts lts strips (suc o) x y area right) ≡ withoutOf s
+      none-misses : withoutOf (New ts lts strips (suc o) x y gap area right) ≡ withoutOf s
       unfolding missesAt
-      none-misses = without-now s k ts strips (suc o) x y area right in-numbers ∙ append-nil (withoutOf s)
+      none-misses = without-now s k ts strips (suc o) x y gap area right in-numbers ∙ append-nil (withoutOf s)
 
     -- ---- by the choices
 
@@ -277,13 +279,13 @@ module _ (j : Job) (z : Sized j) (s : State) (w : Rooms) (h : Linked j s w) (k :
 
     pub after-to-come : (cs : List Choice) → toCome j (After cs) ≡ copiesFrom (suc (s .taken)) ks
     unfolding stateAfter layoutAfter
-    after-to-come [] = to-come-now ts lts _ _ _ _ _ _
-    after-to-come (a ∷ as′) = to-come-now ts lts _ _ _ _ _ _
+    after-to-come [] = to-come-now ts lts _ _ _ _ _ _ _
+    after-to-come (a ∷ as′) = to-come-now ts lts _ _ _ _ _ _ _
 
     pub after-tracks : (cs : List Choice) → tracksOf j (After cs) ≡ set (tracksOf j s) k ts
     unfolding stateAfter layoutAfter
-    after-tracks [] = tracks-now ts lts _ _ _ _ _ _
-    after-tracks (a ∷ as′) = tracks-now ts lts _ _ _ _ _ _
+    after-tracks [] = tracks-now ts lts _ _ _ _ _ _ _
+    after-tracks (a ∷ as′) = tracks-now ts lts _ _ _ _ _ _ _
 
     pub after-none-stands : standingOf (After []) ≡ standingOf s
     unfolding stateAfter layoutAfter
@@ -297,19 +299,19 @@ module _ (j : Job) (z : Sized j) (s : State) (w : Rooms) (h : Linked j s w) (k :
     unfolding stateAfter layoutAfter standingAt
     after-one-stands a as′ =
         let c = best a as′ in
-        one-stands (capacity (Here j s ++ newStrips (plannerOf j) k c)) (c .orientation) (c .x) (c .y) (s .layout .«unplaced_area») (larger (s .layout .right) (c .right))
+        one-stands (capacity (Here j s ++ newStrips (plannerOf j) k c)) (c .orientation) (c .x) (c .y) (c .gap) (s .layout .«unplaced_area») (larger (s .layout .right) (c .right))
 
     pub after-none-misses : (a : Choice) (as′ : List Choice) → withoutOf (After (a ∷ as′)) ≡ withoutOf s
     unfolding stateAfter layoutAfter
     after-none-misses a as′ =
         let c = best a as′ in
-        none-misses (capacity (Here j s ++ newStrips (plannerOf j) k c)) (c .orientation) (c .x) (c .y) (s .layout .«unplaced_area») (larger (s .layout .right) (c .right))
+        none-misses (capacity (Here j s ++ newStrips (plannerOf j) k c)) (c .orientation) (c .x) (c .y) (c .gap) (s .layout .«unplaced_area») (larger (s .layout .right) (c .right))
 
     pub after-linked : (cs : List Choice) → Linked j (After cs) (roomsAfter (plannerOf j) k w (Here j s) cs)
     unfolding stateAfter layoutAfter roomsAfter
     after-linked [] =
         let area = s .layout .«unplaced_area» ⊕ getD (plannerOf j .areas) k posZero in
-        linked-by ts lts (s .«placed_strips») 0 posZero posZero area (s .layout .right) w (h .plan)
+        linked-by ts lts (s .«placed_strips») 0 posZero posZero posZero area (s .layout .right) w (h .plan)
         (kept ∙ sym (ap (standingStrips (plannerOf j)) (none-stands (s .«placed_strips») area (s .layout .right))))
       where
         kept : placedStrips (stateWith s k ts (s .«placed_strips») (layoutAfter (plannerOf j) k (s .taken) (s .layout) [])) w ≡ standingStrips (plannerOf j) (standingOf s)
@@ -318,8 +320,8 @@ module _ (j : Job) (z : Sized j) (s : State) (w : Rooms) (h : Linked j s w) (k :
         let c = best a as′ in
         let now = Here j s ++ newStrips (plannerOf j) k c in
         let right = larger (s .layout .right) (c .right) in
-        linked-by ts lts (capacity now) (suc (c .orientation)) (c .x) (c .y) (s .layout .«unplaced_area») right (stored (plannerOf j) w now) (planner-stored j (s .tables) (plannerOf j) w now ∙ h .plan)
-        (placed-stored s k ts (entered (s .layout) (s .taken) (suc (c .orientation)) (c .x) (c .y) (s .layout .«unplaced_area») right) (plannerOf j) w now
+        linked-by ts lts (capacity now) (suc (c .orientation)) (c .x) (c .y) (c .gap) (s .layout .«unplaced_area») right (stored (plannerOf j) w now) (planner-stored j (s .tables) (plannerOf j) w now ∙ h .plan)
+        (placed-stored s k ts (entered (s .layout) (s .taken) (suc (c .orientation)) (c .x) (c .y) (c .gap) (s .layout .«unplaced_area») right) (plannerOf j) w now
         (sixfold-append (Here j s) (newStrips (plannerOf j) k c) (standing-sixfold (plannerOf j) (standingOf s)) (new-sixfold (plannerOf j) k c))
         ∙ sym (standing-more (plannerOf j) (standingOf s) Next c) ∙ sym (ap (standingStrips (plannerOf j)) (after-one-stands a as′)))
 

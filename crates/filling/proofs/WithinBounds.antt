@@ -20,9 +20,9 @@ use Rattle.kinds.proofs.Accepted.{Every, GoodSets, GoodKind}
 use Rattle.job.specs.Jobs.{Job, accepted, readJob}
 use Rattle.job.proofs.Accepted.{GoodJob, job-good}
 use Rattle.filling.specs.Shapes.{Planner, plannerOf, Copy, shapeFor, noShape, shapeOf, setBounds}
-use Rattle.filling.specs.Consistent.{every, bounded, plannerFits, shapeFits}
+use Rattle.filling.specs.Consistent.{every, bounded, plannerFits, shapeFits, gapFits}
 use Rattle.filling.proofs.Numbers31.{Yielded, summed, WithinBounds}
-use Rattle.filling.proofs.WithinBoundsNumbers.{small-bounded, resolution-fits, zero-small, sum-grows, area-low, area-high}
+use Rattle.filling.proofs.WithinBoundsNumbers.{small-bounded, resolution-fits, zero-small, sum-grows, area-low, area-high, gap-high}
 use Rattle.filling.proofs.WithinBoundsPlaces.{place-small}
 use Rattle.filling.proofs.WithinBoundsStrips.{set-framed, set-fits, frame-fits, FineShape, shape-fine, shape-fits, lacking-fine}
 
@@ -108,23 +108,31 @@ module _ (j : Job) (g : GoodJob j) where
   unfolding plannerOf
   area i = area-at (j .kinds) (g .kinds) i
 
-  pub place : (i o : ℕ) (x y : Float) → Yielded P (shapeOf P i o) x y → Small 610000 x × Small 200000 y
-  place i o x y Y = place-small P (shapeOf P i o) resolution-in framed (shape i o .frame) x y Y
+  pub place : (i n : ℕ) (x y g : Float) → Yielded P (shapeOf P i n) x y g → Small 610000 x × Small 200000 y × Small 400000 g × (o ≤ k g)
+  place i n x y g Y = place-small P (shapeOf P i n) resolution-in framed (shape i n .frame) x y g Y
 
-  right-bounded : (i o : ℕ) (x y : Float) → Yielded P (shapeOf P i o) x y → bounded (x ⊕ shapeOf P i o .bounds .right) ≡ true
-  right-bounded i o x y Y =
-      let X = place i o x y Y .0 in
+  right-bounded : (i o : ℕ) (x y g : Float) → Yielded P (shapeOf P i o) x y g → bounded (x ⊕ shapeOf P i o .bounds .right) ≡ true
+  right-bounded i o x y g Y =
+      let X = place i o x y g Y .0 in
       let R = shape i o .frame .right in
       let r = add-upto (finite (X .num)) (finite (R .num)) (X .bound) (R .bound) (lit≤ tt) in
       let S : Small 710000 (x ⊕ shapeOf P i o .bounds .right) = record { num = add-number (X .num) (finite (R .num)) (r .0); bound = r .1 } in
       small-bounded S (lit≤ tt)
 
+  gap-fits : (i o : ℕ) (x y g : Float) → Yielded P (shapeOf P i o) x y g → gapFits g ≡ true
+  unfolding gapFits
+  gap-fits i o x y g Y =
+      let w = place i o x y g Y in
+      let G = finite (w .2 .num) in
+      rw (area-low G (w .3), gap-high (w .2))
+
   pub job-within : WithinBounds P
   job-within =
       record {
         own = planner-fits;
-        strips = λ i o x y Y. shape i o .moved x y (place i o x y Y .0) (place i o x y Y .1);
+        strips = λ i o x y g Y. shape i o .moved x y (place i o x y g Y .0) (place i o x y g Y .1);
         right = right-bounded;
+        gaps = gap-fits;
         sums-low = λ cs l. (let s = sums P area cs l in area-low (s .fine) (s .low));
         sums-high = λ cs l. (let s = sums P area cs l in area-high (s .fine) (s .high));
       }

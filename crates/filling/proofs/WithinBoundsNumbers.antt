@@ -195,6 +195,12 @@ pub most : T (fits binary64 (fromInt 10_000_000_000_000_000)) × T (finite (from
 unfolding fits ofInt
 most = (tt, tt, (refl, refl))
 
+pub gap-high : {x : Float} → Small 400000 x → le x (fromInt 1_000_000) ≡ true
+gap-high {x} S = le-of-keys (Doubles.finite (S .num)) (Doubles.finite (limit .0)) (high (k (fromInt 1_000_000)) (k x) u (limit .1) (S .bound .atMost))
+  where
+    high : (l x u : ℕ) → l ≡ o + 1000000 * u → x ≤ o + 400000 * u → x ≤ l
+    high l x u e h = omega arith
+
 pub area-low : {x : Float} → Finite x → o ≤ k x → le posZero x ≡ true
 area-low {x} X h = le-of-keys (Doubles.finite (zero-num binary64)) X (subst (λ (n : ℕ). n ≤ k x) (sym (zero-key binary64)) h)
 

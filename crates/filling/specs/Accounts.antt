@@ -18,20 +18,21 @@ use Rattle.filling.specs.Search.{Track}
 use Rattle.filling.specs.Order.{countIn}
 use Rattle.filling.specs.State.{bySlot, standingOf, withoutOf, tracksOf}
 
--- "`put`: kind, copy, orientation, x, y"
+-- "`put`: kind, copy, orientation, x, y"; document 02, W7: "`put` lines gain a sixth field"
 pub record Position : Type 0 where
   pub kind : ℕ
   pub copy : ℕ
   pub orientation : ℕ
   pub x : Float
   pub y : Float
+  pub gap : Float
 
 -- "Placed copies of a kind are numbered from 0 in the final order": those of kind k, from copy n on
 unfoldable pub positionsOfKind : ℕ → ℕ → List Standing → List Position
 positionsOfKind k n [] = []
 positionsOfKind k n (c ∷ cs) =
     elim (eqb (c .copy .kind) k) [
-      | true ↦ record { kind = k; copy = n; orientation = c .orientation; x = c .x; y = c .y } ∷ positionsOfKind k (suc n) cs
+      | true ↦ record { kind = k; copy = n; orientation = c .orientation; x = c .x; y = c .y; gap = c .gap } ∷ positionsOfKind k (suc n) cs
       | false ↦ positionsOfKind k n cs
     ]
 
@@ -39,10 +40,10 @@ positionsOfKind k n (c ∷ cs) =
 unfoldable pub positions : Job → List Standing → List Position
 positions j cs = flatMap (λ k. positionsOfKind k 0 cs) (upFrom (length (j .kinds)) 0)
 
--- as they lie in the position room, five doubles each
+-- as they lie in the position room, six doubles each
 unfoldable pub flatPositions : List Position → List Float
 flatPositions [] = []
-flatPositions (p ∷ ps) = fromInt (p .kind) ∷ fromInt (p .copy) ∷ fromInt (p .orientation) ∷ p .x ∷ p .y ∷ flatPositions ps
+flatPositions (p ∷ ps) = fromInt (p .kind) ∷ fromInt (p .copy) ∷ fromInt (p .orientation) ∷ p .x ∷ p .y ∷ p .gap ∷ flatPositions ps
 
 -- by kind (64) the copies that stand, and those without a place
 unfoldable pub placedOf : List Standing → List ℕ

@@ -8,20 +8,21 @@ use Rattle.filling.specs.Columns.{columnAt}
 use Rattle.filling.specs.Shapes.{Shape, Planner, Copy, Standing}
 use Rattle.filling.specs.Search.{Found, at, nowhere, rangesOf}
 
--- a place that an orientation's search found: right is x + b2, top is y + b3
+-- a place that an orientation's search found, with the clear height above it: right is x + b2, top is y + b3
 pub record Choice : Type 0 where
   pub orientation : ℕ
   pub x : Float
   pub y : Float
+  pub gap : Float
   pub right : Float
   pub top : Float
 
 -- what orientation o found
 unfoldable pub choiceOf : Planner → ℕ → Shape → Found → List Choice
 choiceOf p o s nowhere = []
-choiceOf p o s (at c y) =
+choiceOf p o s (at c y g) =
     let x = columnAt (p .resolution) (rangesOf p s) c in
-    record { orientation = o; x = x; y = y; right = x ⊕ s .bounds .right; top = y ⊕ s .bounds .top } ∷ []
+    record { orientation = o; x = x; y = y; gap = g; right = x ⊕ s .bounds .right; top = y ⊕ s .bounds .top } ∷ []
 
 -- what the orientations from o on found, in the listed order
 unfoldable pub choices : Planner → ℕ → List Shape → List Found → List Choice
@@ -40,4 +41,4 @@ best a (b ∷ bs) = elim (wins b a) [ true ↦ best b bs | false ↦ best a bs ]
 
 -- "The winner stands"
 unfoldable pub standingAt : Copy → Choice → Standing
-standingAt k c = record { copy = k; orientation = c .orientation; x = c .x; y = c .y }
+standingAt k c = record { copy = k; orientation = c .orientation; x = c .x; y = c .y; gap = c .gap }

@@ -17,11 +17,11 @@ use Rattle.bits.specs.Fields.{Range, resolutionRange}
 use Rattle.job.specs.Jobs.{Job}
 use Rattle.filling.specs.declared.Tables.{Tables}
 use Rattle.filling.specs.declared.State.{State}
-use Rattle.filling.specs.Shapes.{Shape, Planner}
+use Rattle.filling.specs.Shapes.{Shape, Planner, Standing}
 use Rattle.filling.specs.Search.{Remembered, column, none, Track, lastOf}
 use Rattle.filling.specs.Rooms.{Rooms}
 use Rattle.filling.specs.Order.{rearranged}
-use Rattle.filling.specs.State.{Part, slotRows, orientationCounts, partAt, apartRoom, insetRoom, plannerAt, orderOf, tracksOf}
+use Rattle.filling.specs.State.{Part, slotRows, orientationCounts, partAt, apartRoom, insetRoom, plannerAt, orderOf, standingOf, tracksOf}
 
 -- every one of a list passes the test
 unfoldable pub every {ℓ} : {A : Type ℓ} → (A → Bool) → List A → Bool
@@ -111,6 +111,14 @@ plannerFits p = resolutionFits (p .resolution) && (stripsFit (p .sheet) && (boun
 unfoldable pub layoutFits : Float → Float → Bool
 layoutFits right area = bounded right && (le posZero area && le area (fromInt 10_000_000_000_000_000))
 
+-- document 02, W7: "a state's gap not in 0..1,000,000"
+unfoldable pub gapFits : Float → Bool
+gapFits g = le posZero g && le g (fromInt 1_000_000)
+
+-- of every standing copy; a copy to come or without a place has none
+unfoldable pub gapsFit : State → Bool
+gapsFit s = every (λ c. gapFits (c .gap)) (standingOf s)
+
 -- ---- "entries that are not those of the standing strips"
 
 -- equal lists
@@ -171,6 +179,7 @@ consistent j s w =
     && (plannerFits p
     && (stripsFit standing
     && (layoutFits (s .layout .right) (s .layout .«unplaced_area»)
+    && (gapsFit s
     && (trackTableFits p (s .taken) (p .shapes) (tracksOf j s)
     && (entriesFit p w standing
-    && firstsFit s w))))))))
+    && firstsFit s w)))))))))

@@ -64,10 +64,17 @@ copyVerdict p w intervals k standing ss ts fs =
 
 -- ---- a copy of kind k is taken
 
--- its entry in the layout: 0 for none, or 1 + orientation with x and y
-unfoldable pub entered : Layout → ℕ → ℕ → Float → Float → Float → Float → Layout
-entered l place orientation x y area right =
-    record { orientation = set (l .orientation) place orientation; x = set (l .x) place x; y = set (l .y) place y; «unplaced_area» = area; right = right }
+-- its entry in the layout: 0 for none, or 1 + orientation with x, y and the clear height above
+unfoldable pub entered : Layout → ℕ → ℕ → Float → Float → Float → Float → Float → Layout
+entered l place orientation x y gap area right =
+    record {
+      orientation = set (l .orientation) place orientation;
+      x = set (l .x) place x;
+      y = set (l .y) place y;
+      gap = set (l .gap) place gap;
+      «unplaced_area» = area;
+      right = right;
+    }
 
 -- the state with the copy taken, its kind's tracks and its layout
 unfoldable pub stateWith : State → ℕ → List Track → ℕ → Layout → State
@@ -84,10 +91,10 @@ stateWith s k ts strips layout =
 
 -- "A copy without a place adds its kind's area, in order, to the unplaced area. Right is the largest winning x + b2"
 unfoldable pub layoutAfter : Planner → ℕ → ℕ → Layout → List Choice → Layout
-layoutAfter p k place l [] = entered l place 0 posZero posZero (l .«unplaced_area» ⊕ getD (p .areas) k posZero) (l .right)
+layoutAfter p k place l [] = entered l place 0 posZero posZero posZero (l .«unplaced_area» ⊕ getD (p .areas) k posZero) (l .right)
 layoutAfter p k place l (a ∷ as′) =
     let c = best a as′ in
-    entered l place (suc (c .orientation)) (c .x) (c .y) (l .«unplaced_area») (larger (l .right) (c .right))
+    entered l place (suc (c .orientation)) (c .x) (c .y) (c .gap) (l .«unplaced_area») (larger (l .right) (c .right))
 
 -- the state after, given what the orientations found
 unfoldable pub stateAfter : Planner → ℕ → List Track → State → List Float → List Choice → State

@@ -69,13 +69,13 @@ plainPlanner p order refused = plainCalls p refused (plainStart p order)
 -- "A find is such a search yielding a column, winning or not."
 unfoldable pub finds : List Found → ℕ
 finds [] = 0
-finds (at c y ∷ fs) = suc (finds fs)
+finds (at c y g ∷ fs) = suc (finds fs)
 finds (nowhere ∷ fs) = finds fs
 
 -- "its last found column plus its finds, or, once it has found none, its last column plus one plus its finds"; 0 where it is not yet searched
 unfoldable pub expectedLooks : ℕ → List Found → ℕ
 expectedLooks last [] = 0
-expectedLooks last (at c y ∷ fs) = c + finds (at c y ∷ fs)
+expectedLooks last (at c y g ∷ fs) = c + finds (at c y g ∷ fs)
 expectedLooks last (nowhere ∷ fs) = last + 1 + finds (nowhere ∷ fs)
 
 -- "it is 0 for an orientation with a range that document 01 calls reversed, or not yet searched"

@@ -44,13 +44,13 @@ lentOf shapes sheet placed sheet-entries placed-entries sheet-firsts placed-firs
       positions = positions;
     }
 
--- an interval is two doubles, a position five: kind, copy, orientation, x, y
+-- an interval is two doubles, a position six: kind, copy, orientation, x, y, gap
 abbrev pub intervalCapacity : List Float → ℕ
 intervalCapacity room = length room / 2
 
 -- how many positions a room holds
 abbrev pub positionCapacity : List Float → ℕ
-positionCapacity room = length room / 5
+positionCapacity room = length room / 6
 
 -- the room with xs at its beginning, the rest as it was
 unfoldable pub laid {ℓ} : {A : Type ℓ} → List A → List A → List A

@@ -39,15 +39,15 @@ lookAt p standing s c = let r = rangesOf p s in heightOf (r .y-low) (r .y-high) 
 
 -- ---- a search
 
--- the column that a search yields, with its free height
+-- the column that a search yields, with its free height and the clear height above it (document 02, W7)
 pub data Found : Type 0 where
-  at : ℕ → Float → Found
+  at : ℕ → Float → Float → Found
   nowhere : Found
 
 -- "it yields the first column with a free height and stops there": of the n columns from c on
 unfoldable pub firstFree : (ℕ → Look) → ℕ → ℕ → Found
 firstFree look zero c = nowhere
-firstFree look (suc n) c = elim (look c) [ Free y ↦ at c y | Full ↦ firstFree look n (suc c) ]
+firstFree look (suc n) c = elim (look c) [ Free y g ↦ at c y g | Full ↦ firstFree look n (suc c) ]
 
 -- the remembered column (document 01): nesting.rs's next_column, where the next search starts, or "none"
 pub data Remembered : Type 0 where
@@ -62,12 +62,12 @@ search p standing s (column c) =
 
 -- "that column is remembered, or "none" for good"
 unfoldable pub remembered : Found → Remembered
-remembered (at c y) = column c
+remembered (at c y g) = column c
 remembered nowhere = none
 
 -- "the list of columns from the remembered one to the one yielded, else to the last"
 unfoldable pub columnsFrom : ℕ → ℕ → Found → List ℕ
-columnsFrom c last (at d y) = upFrom (suc d - c) c
+columnsFrom c last (at d y g) = upFrom (suc d - c) c
 columnsFrom c last nowhere = upFrom (suc last - c) c
 
 -- "A search's looks are the list of columns .., empty after "none" or where there is no look"

@@ -70,12 +70,13 @@ pub record Copy : Type 0 where
   pub place : ℕ
   pub kind : ℕ
 
--- a standing copy (document 01): "standing copies with orientation, x and y"
+-- a standing copy (document 01): "standing copies with orientation, x and y"; document 02, W7: "state and positions keep it with the copy"
 pub record Standing : Type 0 where
   pub copy : Copy
   pub orientation : ℕ
   pub x : Float
   pub y : Float
+  pub gap : Float
 
 -- the copies of an order, from place n on
 unfoldable pub copiesFrom : ℕ → List ℕ → List Copy

@@ -105,7 +105,15 @@ copyAt s n = record { place = n; kind = getD (s .order) n 0 }
 -- the copy at place n, if it stands: its orientation's number is 1 + orientation, 0 for none
 unfoldable pub standsAt : State → ℕ → ℕ → List Standing
 standsAt s n zero = []
-standsAt s n (suc o) = record { copy = copyAt s n; orientation = o; x = getD (s .layout .x) n nan; y = getD (s .layout .y) n nan } ∷ []
+standsAt s n (suc o) =
+    record {
+      copy = copyAt s n;
+      orientation = o;
+      x = getD (s .layout .x) n nan;
+      y = getD (s .layout .y) n nan;
+      gap = getD (s .layout .gap) n nan;
+    }
+    ∷ []
 
 -- the copy at place n, if it has no place
 unfoldable pub missesAt : State → ℕ → ℕ → List Copy
@@ -166,7 +174,15 @@ zeroTables =
 
 -- no copy is placed
 unfoldable pub emptyLayout : Float → Layout
-emptyLayout right = record { orientation = replicate 4096 0; x = replicate 4096 posZero; y = replicate 4096 posZero; «unplaced_area» = posZero; right = right }
+emptyLayout right =
+    record {
+      orientation = replicate 4096 0;
+      x = replicate 4096 posZero;
+      y = replicate 4096 posZero;
+      gap = replicate 4096 posZero;
+      «unplaced_area» = posZero;
+      right = right;
+    }
 
 -- "A refused whole plan returns only the number": a refused start's state
 unfoldable pub zeroState : State

@@ -35,11 +35,12 @@ pub struct Tables {
     pub parts: [usize; 4096],
 }
 
-// For each place in the order 0 for none, or 1 + orientation with x and y.
+// For each place in the order 0 for none, or 1 + orientation with x, y and the clear height above.
 pub struct Layout {
     pub orientation: [usize; 4096],
     pub x: [f64; 4096],
     pub y: [f64; 4096],
+    pub gap: [f64; 4096],
     pub unplaced_area: f64,
     pub right: f64,
 }

@@ -34,7 +34,7 @@ use Rattle.filling.specs.Rooms.{Rooms}
 use Rattle.filling.specs.Order.{rearranged}
 use Rattle.filling.specs.State as States
 use Rattle.filling.specs.State.{orientationCounts, apartRoom, insetRoom, shapeAt, plannerAt, orderOf, trackAt, tracksOf}
-use Rattle.filling.specs.Consistent.{every, stripsFit, boundsFit, takenFits, stripCountsFit, partsFit, columnFits, trackFits, trackTableFits, resolutionFits, shapeFits, plannerFits, layoutFits, entriesFit, firstsFit, sheetIndex, placedStrips, consistent}
+use Rattle.filling.specs.Consistent.{every, stripsFit, boundsFit, takenFits, stripCountsFit, partsFit, columnFits, trackFits, trackTableFits, resolutionFits, shapeFits, plannerFits, layoutFits, gapsFit, entriesFit, firstsFit, sheetIndex, placedStrips, consistent}
 use Rattle.search.specs.columns.inner.Stands.{columnsOf, columnX, lastOf}
 use Rattle.search.proofs.columns.Same as Same
 use Rattle.search.proofs.columns.Steps.{last-bound}
@@ -97,7 +97,8 @@ tests-of j s w e =
     let e5 = both-second (plannerFits p) _ e4 in
     let e6 = both-second (stripsFit (placedStrips s w)) _ e5 in
     let e7 = both-second (layoutFits (s .layout .right) (s .layout .«unplaced_area»)) _ e6 in
-    let e8 = both-second (trackTableFits p (s .taken) (p .shapes) (tracksOf j s)) _ e7 in
+    let e8 = both-second (gapsFit s) _ e7 in
+    let e9 = both-second (trackTableFits p (s .taken) (p .shapes) (tracksOf j s)) _ e8 in
     record {
       taken = both-first (takenFits j s) _ e;
       counts = both-first (stripCountsFit (s .tables) (s .«placed_strips») w) _ e1;
@@ -106,9 +107,9 @@ tests-of j s w e =
       planner = both-first (plannerFits p) _ e4;
       strips = both-first (stripsFit (placedStrips s w)) _ e5;
       layout = both-first (layoutFits (s .layout .right) (s .layout .«unplaced_area»)) _ e6;
-      tracks = both-first (trackTableFits p (s .taken) (p .shapes) (tracksOf j s)) _ e7;
-      entries = both-first (entriesFit p w (placedStrips s w)) _ e8;
-      firsts = both-second (entriesFit p w (placedStrips s w)) _ e8;
+      tracks = both-first (trackTableFits p (s .taken) (p .shapes) (tracksOf j s)) _ e8;
+      entries = both-first (entriesFit p w (placedStrips s w)) _ e9;
+      firsts = both-second (entriesFit p w (placedStrips s w)) _ e9;
     }
 
 -- what the planner's test says

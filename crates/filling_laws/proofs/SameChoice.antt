@@ -37,7 +37,7 @@ use Rattle.filling_laws.proofs.SameSearch.{foundOf, countFor, foundFor,
 
 -- ---- the winner
 abbrev pub choiceIn : Definition.Choice → Choice
-choiceIn c = record { orientation = c .orientation; x = c .x; y = c .y; right = c .right; top = c .top }
+choiceIn c = record { orientation = c .orientation; x = c .x; y = c .y; gap = c .gap; right = c .right; top = c .top }
 
 abbrev pub bestOf : List Definition.Choice → Winner
 bestOf [] = Nowhere
@@ -166,8 +166,8 @@ module _ (p : Planner) (standing : List Float) (capacity : ℕ) (inset-bounds : 
 
     choice-is : (g : Filling.Found) (cs : List Definition.Choice) → betterOf (bestOf cs) (winnerOf (columnsAt worldOf i) (boundsAt inset-bounds i) o (foundOf g)) ≡ bestOf (cs ++ choiceOf p o (shapeIn i) g)
     unfolding choiceOf rangesOf
-    choice-is (Filling.at c y) cs =
-        ap (λ (x : Float). betterOf (bestOf cs) (At (record { orientation = o; x = x; y = y; right = x ⊕ boundsAt inset-bounds i .right; top = y ⊕ boundsAt inset-bounds i .top }))) (Same.x-same (p .bounds) (boundsAt inset-bounds i) (p .resolution) c)
+    choice-is (Filling.at c y g) cs =
+        ap (λ (x : Float). betterOf (bestOf cs) (At (record { orientation = o; x = x; y = y; gap = g; right = x ⊕ boundsAt inset-bounds i .right; top = y ⊕ boundsAt inset-bounds i .top }))) (Same.x-same (p .bounds) (boundsAt inset-bounds i) (p .resolution) c)
         ∙ better-one cs _
     choice-is Filling.nowhere cs = better-nowhere cs
 

@@ -46,7 +46,7 @@ use Rattle.place.specs.declared.Totals.{Totals}
 use Rattle.place.specs.declared.Outcome.{Outcome}
 use Rattle.place.specs.declared.Outcome.the-variants.{At, Nowhere, Refused}
 use Rattle.place.specs.declared.Step.{Step}
-use Rattle.place.specs.inner.Placing.{totalsOf, step, afterOf, withoutOf, PutLeft, put, putLeft, putOf, settleOf, Among, Placed, placeWith, placeOf, orientationNumber, outcomeX, yOf}
+use Rattle.place.specs.inner.Placing.{totalsOf, step, afterOf, withoutOf, PutLeft, put, putLeft, putOf, settleOf, Among, Placed, placeWith, placeOf, orientationNumber, outcomeX, yOf, gapOf}
 use Rattle.place.proofs.Putting.{chosen-among}
 use Rattle.filling_laws.proofs.Firsts.{firsts-stay, firsts-front}
 use Rattle.filling_laws.proofs.SameChoice.{choiceIn, bestOf, worldOf, shapeIn, shapesFrom, tracksFrom, foundsFrom, trackedFrom, aboveFrom, choose-over, choose-fine}
@@ -64,7 +64,8 @@ takenWith s w intervals firsts r =
         «next_column» = r .next;
         «look_counts» = r .counts;
         «placed_strips» = r .left .reply .totals .«placed_strips»;
-        layout = entered (s .layout) (s .taken) (orientationNumber (r .left .reply .outcome)) (outcomeX (r .left .reply .outcome)) (yOf (r .left .reply .outcome)) (r .left .reply .totals .«unplaced_area») (r .left .reply .totals .right);
+        layout = entered (s .layout) (s .taken) (orientationNumber (r .left .reply .outcome)) (outcomeX (r .left .reply .outcome))
+            (yOf (r .left .reply .outcome)) (gapOf (r .left .reply .outcome)) (r .left .reply .totals .«unplaced_area») (r .left .reply .totals .right);
       };
       rooms = record {
         shapes = w .shapes;
@@ -287,7 +288,7 @@ module _ (p : Planner) (k : ℕ) (s : State) (w : Rooms) (intervals : List Float
       standsAfter =
           record {
             verdict = Verdicts.Accepted;
-            state = stateWith s k (searchedAll p ss ts (searchAll p standing ss ts)) (capacity (standing ++ newStrips p k c)) (entered (s .layout) (s .taken) (suc (c .orientation)) (c .x) (c .y) (s .layout .«unplaced_area») (larger (s .layout .right) (c .right)));
+            state = stateWith s k (searchedAll p ss ts (searchAll p standing ss ts)) (capacity (standing ++ newStrips p k c)) (entered (s .layout) (s .taken) (suc (c .orientation)) (c .x) (c .y) (c .gap) (s .layout .«unplaced_area») (larger (s .layout .right) (c .right)));
             rooms = stored p w (standing ++ newStrips p k c);
             intervals = zeros posZero intervals;
           }
@@ -315,13 +316,13 @@ module _ (p : Planner) (k : ℕ) (s : State) (w : Rooms) (intervals : List Float
           ∙ (ap (λ (z : ℕ). takenWith s w intervals (laid (firstsOf ix strips (capacity strips)) (w .placed-firsts)) (record { left = put (step (At (choiceIn c)) (record { «placed_strips» = z; right = larger (s .layout .right) (c .right); «unplaced_area» = s .layout .«unplaced_area» })) (laid strips (w .placed)) (laid (entriesOf ix strips (capacity strips)) (w .placed-entries)) (startsOf ix strips (capacity strips)); counts = counts'; next = next' })) count-is
           ∙ (ap (λ (z : ℕ). record {
             verdict = Verdicts.Accepted;
-            state = stateWith s k (searchedAll p ss ts (searchAll p standing ss ts)) (capacity strips) (entered (s .layout) (s .taken) z (c .x) (c .y) (s .layout .«unplaced_area») (larger (s .layout .right) (c .right)));
+            state = stateWith s k (searchedAll p ss ts (searchAll p standing ss ts)) (capacity strips) (entered (s .layout) (s .taken) z (c .x) (c .y) (c .gap) (s .layout .«unplaced_area») (larger (s .layout .right) (c .right)));
             rooms = stored p w strips;
             intervals = zeros posZero intervals;
           }) (add-one (c .orientation))
           ∙ sym (ap (λ (z : List Float). record {
             verdict = Verdicts.Accepted;
-            state = stateWith s k (searchedAll p ss ts (searchAll p standing ss ts)) (capacity z) (entered (s .layout) (s .taken) (suc (c .orientation)) (c .x) (c .y) (s .layout .«unplaced_area») (larger (s .layout .right) (c .right)));
+            state = stateWith s k (searchedAll p ss ts (searchAll p standing ss ts)) (capacity z) (entered (s .layout) (s .taken) (suc (c .orientation)) (c .x) (c .y) (c .gap) (s .layout .«unplaced_area») (larger (s .layout .right) (c .right)));
             rooms = stored p w z;
             intervals = zeros posZero intervals;
           }) strips-are)))

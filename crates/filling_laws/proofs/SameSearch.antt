@@ -39,29 +39,29 @@ use Rattle.search.proofs.Turns.{search-end, search-overflow, search-free, searc
 
 -- what the definition finds, as the code says it
 abbrev pub foundOf : Filling.Found → Found
-foundOf (Filling.at c y) = At c y
+foundOf (Filling.at c y g) = At c y g
 foundOf Filling.nowhere = Nowhere
 
 -- ---- the looks of the n columns from c on, to the first that is free
 unfoldable pub looksTo : (ℕ → Look) → ℕ → ℕ → List ℕ
 looksTo look zero c = []
-looksTo look (suc n) c = c ∷ elim (look c) [ Free y ↦ [] | Full ↦ looksTo look n (suc c) ]
+looksTo look (suc n) c = c ∷ elim (look c) [ Free y g ↦ [] | Full ↦ looksTo look n (suc c) ]
 
 module _ (look : ℕ → Look) where
-  looks-free : (n c : ℕ) (y : Float) → look c ≡ Free y → looksTo look (suc n) c ≡ c ∷ []
+  looks-free : (n c : ℕ) (y g : Float) → look c ≡ Free y g → looksTo look (suc n) c ≡ c ∷ []
   unfolding looksTo
-  looks-free n c y e = rw (e, looksTo)
+  looks-free n c y g e = rw (e, looksTo)
 
   looks-full : (n c : ℕ) → look c ≡ Full → looksTo look (suc n) c ≡ c ∷ looksTo look n (suc c)
   unfolding looksTo
   looks-full n c e = rw (e, looksTo)
 
   abbrev From : ℕ → Filling.Found → Type 0
-  From c (Filling.at d y) = c ≤ d
+  From c (Filling.at d y g) = c ≤ d
   From c Filling.nowhere = Unit
 
   from-more : (c : ℕ) (f : Filling.Found) → From (suc c) f → From c f
-  from-more c (Filling.at d y) h = omega (arith, h)
+  from-more c (Filling.at d y g) h = omega (arith, h)
   from-more c Filling.nowhere h = tt
 
   found-from : (n c : ℕ) → From c (firstFree look n c)
@@ -73,21 +73,21 @@ module _ (look : ℕ → Look) where
       same d = omega arith
 
       go : (l : Look) → look c ≡ l → From (suc c) (firstFree look n (suc c)) → From c (firstFree look (suc n) c)
-      go (Free y) e h = subst (From c) (sym (first-free look n c y e)) (same c)
+      go (Free y g) e h = subst (From c) (sym (first-free look n c y g e)) (same c)
       go Full e h = subst (From c) (sym (first-full look n c e)) (from-more c (firstFree look n (suc c)) h)
 
   columns-cons : (c last : ℕ) (f : Filling.Found) → c ≤ last → From (suc c) f → columnsFrom c last f ≡ c ∷ columnsFrom (suc c) last f
   unfolding columnsFrom upFrom
-  columns-cons c last (Filling.at d y) h g = let e : suc d - c ≡ suc (suc d - suc c) = omega (arith, g) in rw e
+  columns-cons c last (Filling.at d y v) h g = let e : suc d - c ≡ suc (suc d - suc c) = omega (arith, g) in rw e
   columns-cons c last Filling.nowhere h g = let e : suc last - c ≡ suc (suc last - suc c) = omega arith in rw e
 
   columns-end : (c last : ℕ) → suc last - c ≡ 0 → columnsFrom c last (firstFree look 0 c) ≡ looksTo look 0 c
   unfolding columnsFrom firstFree looksTo upFrom
   columns-end c last e = rw e
 
-  columns-one : (c last : ℕ) (y : Float) → columnsFrom c last (Filling.at c y) ≡ c ∷ []
+  columns-one : (c last : ℕ) (y g : Float) → columnsFrom c last (Filling.at c y g) ≡ c ∷ []
   unfolding columnsFrom upFrom
-  columns-one c last y = let e : suc c - c ≡ 1 = omega arith in rw e
+  columns-one c last y g = let e : suc c - c ≡ 1 = omega arith in rw e
 
   -- "the list of columns from the remembered one to the one yielded, else to the last"
   columns-are : (n c last : ℕ) → n ≡ suc last - c → columnsFrom c last (firstFree look n c) ≡ looksTo look n c
@@ -98,7 +98,7 @@ module _ (look : ℕ → Look) where
       inside = omega (arith, h)
 
       go : (l : Look) → look c ≡ l → columnsFrom (suc c) last (firstFree look n (suc c)) ≡ looksTo look n (suc c) → From (suc c) (firstFree look n (suc c)) → columnsFrom c last (firstFree look (suc n) c) ≡ looksTo look (suc n) c
-      go (Free y) e b g = ap (columnsFrom c last) (first-free look n c y e) ∙ (columns-one c last y ∙ sym (looks-free n c y e))
+      go (Free y v) e b g = ap (columnsFrom c last) (first-free look n c y v e) ∙ (columns-one c last y v ∙ sym (looks-free n c y v e))
       go Full e b g = ap (columnsFrom c last) (first-full look n c e) ∙ (columns-cons c last (firstFree look n (suc c)) inside g ∙ (ap (λ (z : List ℕ). c ∷ z) b ∙ sym (looks-full n c e)))
 
 -- ---- the n columns from c on
@@ -134,7 +134,7 @@ module _ (f : ℕ → Answer) (look : ℕ → Look) (capacity : ℕ) (count : �
       go : (ltb capacity (count c) ≡ true) ⊎ (ltb capacity (count c) ≡ false) → (l : Look) → look c ≡ l
           → (anyAbove capacity (map count (looksTo look n (c + 1))) ≡ true → searchFrom f slot n (c + 1) (counted slot counts) .found ≡ Overflow) → searchFrom f slot (suc n) c counts .found ≡ Overflow
       go (inl e) l q b = ap (λ (z : Looked). z .found) (search-overflow f slot c counts (suc n) n refl (yes c e))
-      go (inr e) (Free y) q b = absurd (true≢false (sym h ∙ (ap (λ (z : List ℕ). anyAbove capacity (map count z)) (looks-free look n c y q) ∙ (above-rest c [] e ∙ above-none))))
+      go (inr e) (Free y g) q b = absurd (true≢false (sym h ∙ (ap (λ (z : List ℕ). anyAbove capacity (map count z)) (looks-free look n c y g q) ∙ (above-rest c [] e ∙ above-none))))
       go (inr e) Full q b =
           ap (λ (z : Looked). z .found) (search-full f slot c counts (suc n) n refl (no c e ∙ ap Seen q))
           ∙ b (ap (λ (z : ℕ). anyAbove capacity (map count (looksTo look n z))) (add-one c) ∙ (sym (above-rest c (looksTo look n (suc c)) e) ∙ (sym (ap (λ (z : List ℕ). anyAbove capacity (map count z)) (looks-full look n c q)) ∙ h)))
@@ -148,8 +148,8 @@ module _ (f : ℕ → Answer) (look : ℕ → Look) (capacity : ℕ) (count : �
       more : (a b m : ℕ) → a ≡ b + 1 → a + m ≡ b + suc m
       more a b m e = omega arith
 
-      first : (y : Float) → look c ≡ Free y → looked (At c y) (counted slot counts) ≡ looked (foundOf (firstFree look (suc n) c)) (set counts slot (getD counts slot 0 + length (looksTo look (suc n) c)))
-      first y q = sym (ap (λ (z : Filling.Found). looked (foundOf z) (set counts slot (getD counts slot 0 + length (looksTo look (suc n) c)))) (first-free look n c y q) ∙ ap (λ (z : List ℕ). looked (At c y) (set counts slot (getD counts slot 0 + length z))) (looks-free look n c y q))
+      first : (y g : Float) → look c ≡ Free y g → looked (At c y g) (counted slot counts) ≡ looked (foundOf (firstFree look (suc n) c)) (set counts slot (getD counts slot 0 + length (looksTo look (suc n) c)))
+      first y g q = sym (ap (λ (z : Filling.Found). looked (foundOf z) (set counts slot (getD counts slot 0 + length (looksTo look (suc n) c)))) (first-free look n c y g q) ∙ ap (λ (z : List ℕ). looked (At c y g) (set counts slot (getD counts slot 0 + length z))) (looks-free look n c y g q))
 
       rest : look c ≡ Full → looked (foundOf (firstFree look n (c + 1))) (set (counted slot counts) slot (getD (counted slot counts) slot 0 + length (looksTo look n (c + 1)))) ≡ looked (foundOf (firstFree look (suc n) c)) (set counts slot (getD counts slot 0 + length (looksTo look (suc n) c)))
       rest q =
@@ -160,9 +160,9 @@ module _ (f : ℕ → Answer) (look : ℕ → Look) (capacity : ℕ) (count : �
       go : (ltb capacity (count c) ≡ true) ⊎ (ltb capacity (count c) ≡ false) → (l : Look) → look c ≡ l
           → (anyAbove capacity (map count (looksTo look n (c + 1))) ≡ false → searchFrom f slot n (c + 1) (counted slot counts) ≡ looked (foundOf (firstFree look n (c + 1))) (set (counted slot counts) slot (getD (counted slot counts) slot 0 + length (looksTo look n (c + 1)))))
           → searchFrom f slot (suc n) c counts ≡ looked (foundOf (firstFree look (suc n) c)) (set counts slot (getD counts slot 0 + length (looksTo look (suc n) c)))
-      go (inl e) (Free y) q r = absurd (true≢false (sym (ap (λ (z : List ℕ). anyAbove capacity (map count z)) (looks-free look n c y q) ∙ above-first c [] e) ∙ h))
+      go (inl e) (Free y g) q r = absurd (true≢false (sym (ap (λ (z : List ℕ). anyAbove capacity (map count z)) (looks-free look n c y g q) ∙ above-first c [] e) ∙ h))
       go (inl e) Full q r = absurd (true≢false (sym (ap (λ (z : List ℕ). anyAbove capacity (map count z)) (looks-full look n c q) ∙ above-first c (looksTo look n (suc c)) e) ∙ h))
-      go (inr e) (Free y) q r = search-free f slot c counts (suc n) n y refl (no c e ∙ ap Seen q) ∙ first y q
+      go (inr e) (Free y g) q r = search-free f slot c counts (suc n) n y g refl (no c e ∙ ap Seen q) ∙ first y g q
       go (inr e) Full q r =
           search-full f slot c counts (suc n) n refl (no c e ∙ ap Seen q)
           ∙ (r (ap (λ (z : ℕ). anyAbove capacity (map count (looksTo look n z))) (add-one c) ∙ (sym (above-rest c (looksTo look n (suc c)) e) ∙ (sym (ap (λ (z : List ℕ). anyAbove capacity (map count z)) (looks-full look n c q)) ∙ h)))
@@ -253,7 +253,7 @@ module _ (p : Planner) (standing : List Float) (s : Shape) (capacity : ℕ) wher
 
     number-is : (g : Filling.Found) → nextOf (foundOf g) ≡ rememberedNumber (remembered g)
     unfolding remembered rememberedNumber
-    number-is (Filling.at c y) = add-one c
+    number-is (Filling.at c y g) = add-one c
     number-is Filling.nowhere = refl
 
     kept-number : (g : Filling.Found) (cs : List ℕ) → remembering slot next (looked (foundOf g) cs) ≡ tracked (foundOf g) cs (set next slot (rememberedNumber (remembered g)))

@@ -154,7 +154,7 @@ fn main() {
     let mut sheet_firsts = [0u16; 1400];
     let mut placed_firsts = [0u16; 1400];
     let mut intervals = [0.0f64; 8200];
-    let mut positions = [0.0f64; 20500];
+    let mut positions = [0.0f64; 24600];
     let mut state = edit::zero_state();
     let mut left: u64 = 1000000000;
     while left > 0 {

@@ -31,6 +31,7 @@ module _ (word : List ℕ) where
   unfolding fieldsThen
   line-three a b c = line-is word (a ∷ b ∷ c ∷ [])
 
-  pub line-five : (a b c d e : List ℕ) → word ++ ((32 ∷ a) ++ ((32 ∷ b) ++ ((32 ∷ c) ++ ((32 ∷ d) ++ ((32 ∷ e) ++ (10 ∷ [])))))) ≡ line word (a ∷ b ∷ c ∷ d ∷ e ∷ [])
+  pub line-six : (a b c d e f : List ℕ)
+      → word ++ ((32 ∷ a) ++ ((32 ∷ b) ++ ((32 ∷ c) ++ ((32 ∷ d) ++ ((32 ∷ e) ++ ((32 ∷ f) ++ (10 ∷ []))))))) ≡ line word (a ∷ b ∷ c ∷ d ∷ e ∷ f ∷ [])
   unfolding fieldsThen
-  line-five a b c d e = line-is word (a ∷ b ∷ c ∷ d ∷ e ∷ [])
+  line-six a b c d e f = line-is word (a ∷ b ∷ c ∷ d ∷ e ∷ f ∷ [])

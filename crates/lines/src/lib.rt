@@ -136,7 +136,7 @@ pub fn double_line(out: &mut [u8], at: usize, word: &[u8], x: f64) -> usize
     put_byte(out, end, 10)
 }
 
-// A word, three counts and two doubles.
+// A word, three counts and three doubles.
 pub fn place_line(
     out: &mut [u8],
     at: usize,
@@ -146,9 +146,11 @@ pub fn place_line(
     c: usize,
     x: f64,
     y: f64,
+    z: f64,
 ) -> usize
-    requires { ⌜ at + length (now word) + 98 ≤ length (now out) ⌝ }
-    ensures { λ r. ⌜ Wrote (now (out .entry)) at (line (now (word .entry)) (decimal a ∷ decimal b ∷ decimal c ∷ hex x ∷ hex y ∷ [])) (now (out .exit)) r ⌝ }
+    requires { ⌜ at + length (now word) + 115 ≤ length (now out) ⌝ }
+    ensures { λ r. ⌜ Wrote (now (out .entry)) at (line (now (word .entry)) (decimal a ∷ decimal b ∷ decimal c ∷ hex x ∷ hex y ∷ hex z ∷ []))
+        (now (out .exit)) r ⌝ }
 {
     let end = put_word(out, at, word);
     let end = put_count(out, end, a);
@@ -156,5 +158,6 @@ pub fn place_line(
     let end = put_count(out, end, c);
     let end = put_double(out, end, x);
     let end = put_double(out, end, y);
+    let end = put_double(out, end, z);
     put_byte(out, end, 10)
 }

@@ -28,7 +28,7 @@ use Rattle.look.specs.declared.Answer.the-variants.{NoRoom, Seen}
 use Rattle.look.specs.Looking.{countedIn}
 use Rattle.look.specs.inner.Ready.{BoundedStrip, BoundedStrips, Lookable, answerOf, lookOf}
 use Rattle.look.proofs.IntervalEnds.{widen, moved-x0, moved-x1}
-use Rattle.look.proofs.Counted.{outside-within, same-height, counted-finite}
+use Rattle.look.proofs.Counted.{same-look, counted-finite}
 
 answer-over : (cap : ℕ) (yl yh : Float) (is : List Interval) → cap < length is → answerOf cap yl yh is ≡ NoRoom
 unfolding answerOf
@@ -77,7 +77,7 @@ module _ (r r' : List Float) (n : ℕ) (l is : List Interval) (E : collected r' 
     pub seen : n ≤ length r / 2 → (v : Look) → v ≡ heightOf yl yh (intervals r' n) → Seen v ≡ answerOf (length r / 2) yl yh is
     seen h v e =
         let c = counts-right h in
-        let same = same-height yl yh L H l is (λ i m. G i (perm-mem P i m)) G (λ z Z a b o. outside-within is l (λ i m. perm-mem (Permᴰ·symm P) i m) z o) (λ z Z a b o. outside-within l is (λ i m. perm-mem P i m) z o) in
+        let same = same-look yl yh L H l is (λ i m. G i (perm-mem P i m)) G (λ i m. perm-mem P i m) (λ i m. perm-mem (Permᴰ·symm P) i m) in
         ap Seen (e ∙ (ap (heightOf yl yh) (holds h) ∙ same)) ∙ sym (answer-fits (length r / 2) yl yh is (omega (arith, perm-length P)))
 
 -- ---- of a look

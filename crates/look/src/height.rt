@@ -4,13 +4,13 @@ ghost use Prim.Native.Nat.{ℕ, _+_, _-_, _*_, _/_, _≤_, _<_};
 ghost use lib.ListN.{length};
 ghost use Rattle.numbers.proofs.Doubles.{Finite};
 ghost use Rattle.index.specs.inner.Listing.{intervals, intervalAt};
-ghost use Rattle.look.specs.height.Smallest.{heightOf};
-ghost use Rattle.look.specs.height.inner.Raising.{lift, raised, fromLast, inTurn, swapped, Rearranged, FiniteEnds};
+ghost use Rattle.look.specs.height.Smallest.{nextBottom, heightOf};
+ghost use Rattle.look.specs.height.inner.Raising.{lift, raised, lower, fromLast, inTurn, swapped, Rearranged, FiniteEnds};
 use index::Interval;
 
-// A look's answer (document 01): a free height, or full.
+// A look's answer (document 01; 02, W7): a free height and the clear height above it, or full.
 pub enum Look {
-    Free(f64),
+    Free(f64, f64),
     Full,
 }
 
@@ -172,8 +172,33 @@ fn next_turn(room: &mut [f64], n: usize, turn: usize) -> usize
     SORTED_AT + 2
 }
 
+// The lower of `next` and the interval's bottom, if that is at h or above it.
+fn lower_next(next: f64, i: Interval, h: f64) -> f64
+    ensures { λ r. ⌜ r ≡ lower h next i ⌝ }
+{
+    if h <= i.from {
+        return numbers::smaller(next, i.from);
+    }
+    next
+}
+
+// The lowest bottom of the first n intervals at h or above it; y_high if none is below that.
+fn next_bottom(room: &[f64], n: usize, h: f64, y_high: f64) -> f64
+    requires { ⌜ 2 * n ≤ length (now room) ⌝ }
+    ensures { λ r. ⌜ r ≡ nextBottom «y_high» (intervals (now (room .entry)) n) h ⌝ }
+{
+    let mut next = y_high;
+    let mut k = 0;
+    while k < n {
+        let i = interval(room, k);
+        next = lower_next(next, i, h);
+        k += 1;
+    }
+    next
+}
+
 // The smallest height from y_low to y_high that lies in none of the first n intervals of the room,
-// which are left in some other order.
+// which are left in some other order, and how far it is from there up to the next interval.
 pub fn height(room: &mut [f64], n: usize, y_low: f64, y_high: f64) -> Look
     requires { ⌜ (2 * n ≤ length (now room)) × Finite «y_low» × Finite «y_high» × FiniteEnds (intervals (now room) n) ⌝ }
     ensures { λ r. ⌜ r ≡ heightOf «y_low» «y_high» (intervals (now (room .entry)) n) ⌝ }
@@ -190,7 +215,9 @@ pub fn height(room: &mut [f64], n: usize, y_low: f64, y_high: f64) -> Look
         z = raise(room, n, y, turn);
     }
     if y <= y_high {
-        return Look::Free(numbers::plus_zero(y));
+        let h = numbers::plus_zero(y);
+        let next = numbers::plus_zero(next_bottom(room, n, h, y_high));
+        return Look::Free(h, next - h);
     }
     Look::Full
 }

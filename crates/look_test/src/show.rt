@@ -2,9 +2,11 @@
 use look::Answer;
 use look::height::Look;
 
-fn show_free(h: f64) {
+fn show_free(h: f64, gap: f64) {
     io::write_all(1, b"free ");
     io::print_hex(1, numbers::bits_of(h), 16);
+    io::write_all(1, b" ");
+    io::print_hex(1, numbers::bits_of(gap), 16);
     io::write_all(1, b"\n");
 }
 
@@ -14,7 +16,7 @@ fn show_full() {
 
 fn show_look(l: Look) {
     match l {
-        Look::Free(h) => show_free(h),
+        Look::Free(h, gap) => show_free(h, gap),
         Look::Full => show_full(),
     }
 }

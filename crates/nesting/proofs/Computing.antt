@@ -16,11 +16,12 @@ use Rattle.nesting.specs.Rounds.{betterThan, noKind, swappable, swapped,
 use Rattle.nesting.specs.Nest.{nestVerdict, nested, nestJob, nestGiven, nestOf}
 use Rattle.nesting.specs.Text.{decimalUpTo, decimal, hexDigit, hexUpTo, hex, line, planLine, positionAt, putLine, putLines, leftLine, leftLines}
 use Rattle.nesting.specs.Text.{fillLine, fillLines, lookLine, lookLines, lastLines, planText, refusalText, replyText, printedFor, printed}
+use Rattle.nesting.specs.Case4.{case4, case4Text}
 use Rattle.nesting.specs.Cases.{rectangle, triangle, clockwise, both, jobOf, bits, room, roomsSized, lentSized, ample, roomsBits, lentBits, planBits}
-use Rattle.nesting.specs.Cases.{jobBits, drawsOf, stateBits, afterBits, columnBits, plannedBits, case4, calledBits, fiveCopies, nothing, fourPlates}
-use Rattle.nesting.specs.Cases.{plateStrips, fourStrips, fourEntries, fourFirsts, roomsLeft, fourStanding, case4Plan, exact, case4Rooms, case4Text, starred1}
+use Rattle.nesting.specs.Cases.{jobBits, drawsOf, stateBits, afterBits, columnBits, plannedBits, calledBits, fiveCopies, nothing, fourPlates}
+use Rattle.nesting.specs.Cases.{plateStrips, fourStrips, fourEntries, fourFirsts, roomsLeft, fourStanding, case4Plan, exact, case4Rooms, starred1}
 use Rattle.nesting.specs.Cases.{starred2, starred3, starred4, starred4-fill, starred4-plan, starred4-text, starred5, starred5-calls, starred6, starred7}
-use Rattle.nesting.specs.Cases.{starred8, starred9, starred10, starred11, starred}
+use Rattle.nesting.specs.Cases.{starred8, starred9, starred10, starred11, gapped, gapNumber, gapNumbers, gapsJudged, starred-gap, starred}
 
 unfoldable pub copy-order-computes : Unit {0}
 unfolding samePriority numbered largerFirst higherFirst ahead copyOrder
@@ -71,7 +72,8 @@ unfolding fourStrips fourEntries fourFirsts roomsLeft fourStanding case4Plan exa
 cases-compute-6 = tt
 
 unfoldable pub cases-compute-7 : Unit {0}
-unfolding starred4-plan starred4-text starred5 starred5-calls starred6 starred7 starred8 starred9 starred10 starred11 starred
+unfolding starred4-plan starred4-text starred5 starred5-calls starred6 starred7 starred8 starred9 starred10 starred11
+    gapped gapNumber gapNumbers gapsJudged starred-gap starred
 cases-compute-7 = tt
 
 unfoldable pub cases-compute : Unit {0}

@@ -1,11 +1,12 @@
 -- Document 01, "Sheets tried by hand": the starred cases as one list; `got` is what the definitions come to, `want` what the paper says.
+-- The last is 31 by a gap (document 02, W7).
 -- Definitions only. Assumes nothing.
 use Prim.Native.Nat.{ℕ, zero, suc, _+_, _*_, _/_, _%_, _^_}
 use mathlib.Core.Bool.{Bool, true, false}
 use mathlib.Core.List.{List, [], _∷_, _++_, map, flatMap}
-use lib.ListN.{length, take, replicate}
+use lib.ListN.{length, take, set, replicate}
 use lib.IntN.{ℤ, pos}
-use lib.Ieee.{Float, binary64, toBits}
+use lib.Ieee.{Float, binary64, ofBits, toBits}
 use Rattle.numbers.specs.Numbers.{fromInt}
 use Rattle.trapezoid.specs.declared.Heights.{Heights}
 use Rattle.trapezoid.specs.Strip.{stripAt, heightsAt}
@@ -14,6 +15,7 @@ use Rattle.job.specs.declared.Header.{Header}
 use Rattle.kinds.specs.sets.Sets.{Set}
 use Rattle.kinds.specs.Kinds.{Orientation, Kind}
 use Rattle.job.specs.Jobs.{Job}
+use Rattle.filling.specs.declared.Layout.{Layout}
 use Rattle.filling.specs.declared.State.{State}
 use Rattle.filling.specs.declared.Plan.{Plan}
 use Rattle.filling.specs.declared.Verdict.{Verdict}
@@ -23,11 +25,13 @@ use Rattle.filling.specs.Shapes.{Copy, Standing, setBounds, setStrips}
 use Rattle.filling.specs.Rooms.{Rooms, Lent}
 use Rattle.filling.specs.State.{standingOf, withoutOf}
 use Rattle.filling.specs.Start.{Start, startOf}
+use Rattle.filling.specs.NextCopy.{Step, nextCopyOf}
 use Rattle.filling.specs.Fill.{Planned, fillOf}
 use Rattle.filling.specs.Calls.{Call, nextCopy, After, afterCalls}
 use Rattle.nesting.specs.Rounds.{Kept, Swaps, kept, ended, swapSearch}
 use Rattle.nesting.specs.Nest.{nestJob, nestOf}
 use Rattle.nesting.specs.Text.{printed}
+use Rattle.nesting.specs.Case4.{case4, case4Text}
 
 -- a case: what the definitions come to, and what the paper says
 pub record Case : Type 0 where
@@ -91,7 +95,7 @@ lentSized w intervals positions = record { rooms = w; intervals = room intervals
 
 -- more than the cases need
 unfoldable pub ample : Lent
-ample = lentSized (roomsSized 25 31 1100) 9 26
+ample = lentSized (roomsSized 25 31 1100) 9 31
 
 -- what lies in the rooms of strips, entries and bucket numbers
 unfoldable pub roomsBits : Rooms → List (List ℕ)
@@ -116,7 +120,7 @@ planBits r =
 
 -- a plan of a job, and the beginning of the position room
 unfoldable pub jobBits : Job → List (List ℕ)
-jobBits j = let r = nestJob j ample in planBits r ++ (bits (take 21 (r .lent .positions)) ∷ [])
+jobBits j = let r = nestJob j ample in planBits r ++ (bits (take 25 (r .lent .positions)) ∷ [])
 
 -- a plan, and every room after it
 unfoldable pub plannedBits : Planned → List (List ℕ)
@@ -130,7 +134,7 @@ drawsOf (ended r) = 0
 -- the standing copies, those without a place, copies taken, placed strips, right and area, remembered columns and look counts
 unfoldable pub stateBits : State → List (List ℕ)
 stateBits s =
-    flatMap (λ c. c .copy .place ∷ c .copy .kind ∷ c .orientation ∷ bits (c .x ∷ c .y ∷ [])) (standingOf s)
+    flatMap (λ c. c .copy .place ∷ c .copy .kind ∷ c .orientation ∷ bits (c .x ∷ c .y ∷ c .gap ∷ [])) (standingOf s)
     ∷ flatMap (λ c. c .place ∷ c .kind ∷ []) (withoutOf s)
     ∷ (s .taken ∷ s .«placed_strips» ∷ bits (s .layout .right ∷ s .layout .«unplaced_area» ∷ []))
     ∷ (take 2 (s .«next_column») ++ take 2 (s .«look_counts»))
@@ -146,21 +150,7 @@ columnBits resolution s =
     let r = ranges (setBounds (rectangle 10 6)) (setBounds s) in
     bits (map (columnAt (fromInt resolution) r) (upFrom (suc (lastColumn (fromInt resolution) r)) 0))
 
--- ---- case 4 as bytes
-
--- the job of case 4
-unfoldable pub case4 : List ℕ
-case4 =
-    16 ∷ 32 ∷ 0 ∷ 0 ∷ 0 ∷ 0 ∷ 0 ∷ 0 ∷ 0 ∷ 0 ∷ 0 ∷ 127 ∷ 224 ∷ 0 ∷ 0 ∷ 0 ∷ 0 ∷ 0 ∷ 0 ∷ 4 ∷ 4 ∷ 0 ∷ 0 ∷ 0 ∷
-    0 ∷ 0 ∷ 0 ∷ 0 ∷ 0 ∷ 0 ∷ 0 ∷ 0 ∷ 0 ∷ 0 ∷ 0 ∷ 0 ∷ 0 ∷ 64 ∷ 36 ∷ 0 ∷ 0 ∷ 0 ∷ 0 ∷ 0 ∷ 0 ∷ 0 ∷ 0 ∷ 0 ∷
-    0 ∷ 0 ∷ 0 ∷ 0 ∷ 0 ∷ 64 ∷ 36 ∷ 0 ∷ 0 ∷ 0 ∷ 0 ∷ 0 ∷ 0 ∷ 64 ∷ 24 ∷ 0 ∷ 0 ∷ 0 ∷ 0 ∷ 0 ∷ 0 ∷ 0 ∷ 0 ∷ 0 ∷
-    0 ∷ 0 ∷ 0 ∷ 0 ∷ 0 ∷ 64 ∷ 24 ∷ 0 ∷ 0 ∷ 0 ∷ 0 ∷ 0 ∷ 0 ∷ 0 ∷ 80 ∷ 0 ∷ 0 ∷ 0 ∷ 2 ∷ 1 ∷ 64 ∷ 0 ∷ 0 ∷ 0 ∷
-    0 ∷ 0 ∷ 0 ∷ 64 ∷ 128 ∷ 128 ∷ 0 ∷ 0 ∷ 0 ∷ 0 ∷ 0 ∷ 0 ∷ 0 ∷ 0 ∷ 0 ∷ 0 ∷ 0 ∷ 0 ∷ 0 ∷ 0 ∷ 0 ∷ 8 ∷ 2 ∷ 0 ∷
-    0 ∷ 0 ∷ 0 ∷ 0 ∷ 0 ∷ 0 ∷ 0 ∷ 0 ∷ 0 ∷ 0 ∷ 0 ∷ 0 ∷ 0 ∷ 8 ∷ 2 ∷ 0 ∷ 0 ∷ 0 ∷ 0 ∷ 0 ∷ 0 ∷ 8 ∷ 1 ∷ 0 ∷
-    0 ∷ 0 ∷ 0 ∷ 0 ∷ 0 ∷ 0 ∷ 0 ∷ 0 ∷ 0 ∷ 0 ∷ 0 ∷ 0 ∷ 0 ∷ 8 ∷ 1 ∷ 0 ∷ 0 ∷ 0 ∷ 0 ∷ 0 ∷ 0 ∷ 0 ∷ 64 ∷ 64 ∷
-    0 ∷ 0 ∷ 0 ∷ 0 ∷ 0 ∷ 0 ∷ 0 ∷ 0 ∷ 0 ∷ 0 ∷ 0 ∷ 0 ∷ 0 ∷ 0 ∷ 0 ∷ 4 ∷ 1 ∷ 0 ∷ 0 ∷ 0 ∷ 0 ∷ 0 ∷ 0 ∷ 0 ∷
-    0 ∷ 0 ∷ 0 ∷ 0 ∷ 0 ∷ 0 ∷ 0 ∷ 4 ∷ 1 ∷ 0 ∷ 0 ∷ 0 ∷ 0 ∷ 0 ∷ 0 ∷ 4 ∷ 0 ∷ 128 ∷ 0 ∷ 0 ∷ 0 ∷ 0 ∷ 0 ∷ 0 ∷
-    0 ∷ 0 ∷ 0 ∷ 0 ∷ 0 ∷ 0 ∷ 0 ∷ 4 ∷ 0 ∷ 128 ∷ 0 ∷ 0 ∷ 0 ∷ 0 ∷ 0 ∷ 0 ∷ []
+-- ---- calls of case 4
 
 -- after a start, n calls with an interval room of four
 unfoldable pub calledBits : ℕ → Start → List (List ℕ)
@@ -172,6 +162,36 @@ calledBits n r =
 -- "five copies": the one order of case 4
 unfoldable pub fiveCopies : List ℕ
 fiveCopies = 0 ∷ 0 ∷ 0 ∷ 0 ∷ 0 ∷ []
+
+-- a state with another gap at place n
+unfoldable pub gapped : State → ℕ → Float → State
+gapped s n g =
+    let l = s .layout in
+    record {
+      tables = s .tables;
+      order = s .order;
+      taken = s .taken;
+      «next_column» = s .«next_column»;
+      «look_counts» = s .«look_counts»;
+      «placed_strips» = s .«placed_strips»;
+      layout = record { orientation = l .orientation; x = l .x; y = l .y; gap = set (l .gap) n g; «unplaced_area» = l .«unplaced_area»; right = l .right };
+    }
+
+-- what the next call of case 4 answers where the gap at place n has these bits
+unfoldable pub gapNumber : State → Rooms → ℕ → ℕ → ℕ
+gapNumber s w n g = verdictNumber (nextCopyOf case4 (gapped s n (ofBits binary64 g)) w (room 4) .verdict)
+
+-- the first copy's gap minus zero, 1,000,000, the doubles next to the range, a NaN; the second's a NaN
+unfoldable pub gapNumbers : After → List (List ℕ)
+gapNumbers a =
+    map (gapNumber (a .state) (a .rooms) 0)
+    (0x8000000000000000 ∷ 0x412e848000000000 ∷ 0x8000000000000001 ∷ 0x412e848000000001 ∷ 0x7ff8000000000000 ∷ [])
+    ∷ (gapNumber (a .state) (a .rooms) 1 0x7ff8000000000000 ∷ [])
+    ∷ []
+
+-- after a start and one call
+unfoldable pub gapsJudged : Start → List (List ℕ)
+gapsJudged r = gapNumbers (afterCalls case4 (nextCopy (room 4) ∷ []) (r .state) (r .lent .rooms))
 
 -- ---- numbers of the paper, as the bits of doubles
 
@@ -207,9 +227,9 @@ d12 = 0x4028000000000000
 unfoldable pub nothing : ℕ → List ℕ
 nothing n = replicate n 0
 
--- kind 0's first four copies in case 4: kind, copy, orientation, x, y
+-- kind 0's first four copies in case 4: kind, copy, orientation, x, y, gap; "In case 4 the first plate's gap is 3 and the second's 0."
 unfoldable pub fourPlates : List ℕ
-fourPlates = bits (map fromInt (0 ∷ 0 ∷ 0 ∷ 0 ∷ 0 ∷ 0 ∷ 1 ∷ 0 ∷ 0 ∷ 3 ∷ 0 ∷ 2 ∷ 0 ∷ 4 ∷ 0 ∷ 0 ∷ 3 ∷ 0 ∷ 4 ∷ 3 ∷ []))
+fourPlates = bits (map fromInt (0 ∷ 0 ∷ 0 ∷ 0 ∷ 0 ∷ 3 ∷ 0 ∷ 1 ∷ 0 ∷ 0 ∷ 3 ∷ 0 ∷ 0 ∷ 2 ∷ 0 ∷ 4 ∷ 0 ∷ 3 ∷ 0 ∷ 3 ∷ 0 ∷ 4 ∷ 3 ∷ 0 ∷ []))
 
 -- the strips of the 4 × 3 rectangle, apart and inset; of the four plates that stand; their entries: 0 and 1 in buckets 0 to 203, all four
 -- in bucket 204, 2 and 3 in buckets 205 to 409
@@ -243,12 +263,12 @@ roomsLeft =
     ∷ (0 ∷ [])
     ∷ (fourFirsts ++ (0 ∷ []))
     ∷ nothing 5
-    ∷ nothing 26
+    ∷ nothing 31
     ∷ []
 
--- the four plates by place and kind, orientation, x and y
+-- the four plates by place and kind, orientation, x, y and gap
 unfoldable pub fourStanding : List ℕ
-fourStanding = 0 ∷ 0 ∷ 0 ∷ 0 ∷ 0 ∷ 1 ∷ 0 ∷ 0 ∷ 0 ∷ d3 ∷ 2 ∷ 0 ∷ 0 ∷ d4 ∷ 0 ∷ 3 ∷ 0 ∷ 0 ∷ d4 ∷ d3 ∷ []
+fourStanding = 0 ∷ 0 ∷ 0 ∷ 0 ∷ 0 ∷ d3 ∷ 1 ∷ 0 ∷ 0 ∷ 0 ∷ d3 ∷ 0 ∷ 2 ∷ 0 ∷ 0 ∷ d4 ∷ 0 ∷ d3 ∷ 3 ∷ 0 ∷ 0 ∷ d4 ∷ d3 ∷ 0 ∷ []
 
 -- case 4's reply: number and counts, by kind, look counts, right, area, offcut
 unfoldable pub case4Plan : List (List ℕ)
@@ -256,39 +276,11 @@ case4Plan = (0 ∷ 4 ∷ 1 ∷ 0 ∷ []) ∷ (4 ∷ 0 ∷ 1 ∷ 0 ∷ []) ∷ (1
 
 -- every room exact, but one position and a remainder to spare: zeros after the positions and in the work rooms
 unfoldable pub exact : Lent
-exact = lentSized (roomsSized 12 24 822) 4 31
+exact = lentSized (roomsSized 12 24 822) 4 37
 
 -- the rooms after case 4
 unfoldable pub case4Rooms : List (List ℕ)
-case4Rooms = nothing 12 ∷ nothing 7 ∷ nothing 24 ∷ nothing 1 ∷ nothing 822 ∷ nothing 1 ∷ nothing 4 ∷ nothing 4 ∷ (fourPlates ++ nothing 11) ∷ []
-
--- case 4 as printed in document 01
-unfoldable pub case4Text : List ℕ
-case4Text =
-    -- plan 4 1 0
-    112 ∷ 108 ∷ 97 ∷ 110 ∷ 32 ∷ 52 ∷ 32 ∷ 49 ∷ 32 ∷ 48 ∷ 10 ∷
-    -- put 0 0 0 0000000000000000 0000000000000000
-    112 ∷ 117 ∷ 116 ∷ 32 ∷ 48 ∷ 32 ∷ 48 ∷ 32 ∷ 48 ∷ 32 ∷ 48 ∷ 48 ∷ 48 ∷ 48 ∷ 48 ∷ 48 ∷ 48 ∷ 48 ∷ 48 ∷ 48 ∷ 48 ∷ 48 ∷ 48 ∷ 48 ∷ 48 ∷ 48 ∷ 32 ∷ 48 ∷ 48 ∷ 48
-    ∷ 48 ∷ 48 ∷ 48 ∷ 48 ∷ 48 ∷ 48 ∷ 48 ∷ 48 ∷ 48 ∷ 48 ∷ 48 ∷ 48 ∷ 48 ∷ 10 ∷
-    -- put 0 1 0 0000000000000000 4008000000000000
-    112 ∷ 117 ∷ 116 ∷ 32 ∷ 48 ∷ 32 ∷ 49 ∷ 32 ∷ 48 ∷ 32 ∷ 48 ∷ 48 ∷ 48 ∷ 48 ∷ 48 ∷ 48 ∷ 48 ∷ 48 ∷ 48 ∷ 48 ∷ 48 ∷ 48 ∷ 48 ∷ 48 ∷ 48 ∷ 48 ∷ 32 ∷ 52 ∷ 48 ∷ 48
-    ∷ 56 ∷ 48 ∷ 48 ∷ 48 ∷ 48 ∷ 48 ∷ 48 ∷ 48 ∷ 48 ∷ 48 ∷ 48 ∷ 48 ∷ 48 ∷ 10 ∷
-    -- put 0 2 0 4010000000000000 0000000000000000
-    112 ∷ 117 ∷ 116 ∷ 32 ∷ 48 ∷ 32 ∷ 50 ∷ 32 ∷ 48 ∷ 32 ∷ 52 ∷ 48 ∷ 49 ∷ 48 ∷ 48 ∷ 48 ∷ 48 ∷ 48 ∷ 48 ∷ 48 ∷ 48 ∷ 48 ∷ 48 ∷ 48 ∷ 48 ∷ 48 ∷ 32 ∷ 48 ∷ 48 ∷ 48
-    ∷ 48 ∷ 48 ∷ 48 ∷ 48 ∷ 48 ∷ 48 ∷ 48 ∷ 48 ∷ 48 ∷ 48 ∷ 48 ∷ 48 ∷ 48 ∷ 10 ∷
-    -- put 0 3 0 4010000000000000 4008000000000000
-    112 ∷ 117 ∷ 116 ∷ 32 ∷ 48 ∷ 32 ∷ 51 ∷ 32 ∷ 48 ∷ 32 ∷ 52 ∷ 48 ∷ 49 ∷ 48 ∷ 48 ∷ 48 ∷ 48 ∷ 48 ∷ 48 ∷ 48 ∷ 48 ∷ 48 ∷ 48 ∷ 48 ∷ 48 ∷ 48 ∷ 32 ∷ 52 ∷ 48 ∷ 48
-    ∷ 56 ∷ 48 ∷ 48 ∷ 48 ∷ 48 ∷ 48 ∷ 48 ∷ 48 ∷ 48 ∷ 48 ∷ 48 ∷ 48 ∷ 48 ∷ 10 ∷
-    -- left 0 1
-    108 ∷ 101 ∷ 102 ∷ 116 ∷ 32 ∷ 48 ∷ 32 ∷ 49 ∷ 10 ∷
-    -- look 0 0 11
-    108 ∷ 111 ∷ 111 ∷ 107 ∷ 32 ∷ 48 ∷ 32 ∷ 48 ∷ 32 ∷ 49 ∷ 49 ∷ 10 ∷
-    -- right 4020000000000000
-    114 ∷ 105 ∷ 103 ∷ 104 ∷ 116 ∷ 32 ∷ 52 ∷ 48 ∷ 50 ∷ 48 ∷ 48 ∷ 48 ∷ 48 ∷ 48 ∷ 48 ∷ 48 ∷ 48 ∷ 48 ∷ 48 ∷ 48 ∷ 48 ∷ 48 ∷ 10 ∷
-    -- area 4028000000000000
-    97 ∷ 114 ∷ 101 ∷ 97 ∷ 32 ∷ 52 ∷ 48 ∷ 50 ∷ 56 ∷ 48 ∷ 48 ∷ 48 ∷ 48 ∷ 48 ∷ 48 ∷ 48 ∷ 48 ∷ 48 ∷ 48 ∷ 48 ∷ 48 ∷ 10 ∷
-    -- offcut 4000000000000000
-    111 ∷ 102 ∷ 102 ∷ 99 ∷ 117 ∷ 116 ∷ 32 ∷ 52 ∷ 48 ∷ 48 ∷ 48 ∷ 48 ∷ 48 ∷ 48 ∷ 48 ∷ 48 ∷ 48 ∷ 48 ∷ 48 ∷ 48 ∷ 48 ∷ 48 ∷ 48 ∷ 10 ∷ []
+case4Rooms = nothing 12 ∷ nothing 7 ∷ nothing 24 ∷ nothing 1 ∷ nothing 822 ∷ nothing 1 ∷ nothing 4 ∷ nothing 4 ∷ (fourPlates ++ nothing 13) ∷ []
 
 -- ---- the cases
 
@@ -311,7 +303,7 @@ starred3 = record { got = bits (setStrips true (rectangle 10 6)) ∷ []; want = 
 unfoldable pub starred4 : Case
 starred4 =
     record {
-      got = calledBits 6 (startOf case4 fiveCopies (lentSized (roomsSized 19 31 823) 5 26));
+      got = calledBits 6 (startOf case4 fiveCopies (lentSized (roomsSized 19 31 823) 5 31));
       want =
           (0 ∷ []) ∷ (0 ∷ 0 ∷ 0 ∷ 0 ∷ 0 ∷ 23 ∷ []) ∷ fourStanding ∷ (4 ∷ 0 ∷ []) ∷ (5 ∷ 4 ∷ d8 ∷ d12 ∷ []) ∷ (0 ∷ 1 ∷ 11 ∷ 0 ∷ []) ∷ roomsLeft;
     }
@@ -340,7 +332,7 @@ starred5 =
 unfoldable pub starred5-calls : Case
 starred5-calls =
     record {
-      got = calledBits 4 (startOf case4 fiveCopies (lentSized (roomsSized 19 31 823) 5 26));
+      got = calledBits 4 (startOf case4 fiveCopies (lentSized (roomsSized 19 31 823) 5 31));
       want = (0 ∷ []) ∷ (0 ∷ 0 ∷ 0 ∷ 0 ∷ []) ∷ fourStanding ∷ [] ∷ (4 ∷ 4 ∷ d8 ∷ 0 ∷ []) ∷ (5 ∷ 1 ∷ 8 ∷ 0 ∷ []) ∷ roomsLeft;
     }
 
@@ -357,7 +349,7 @@ unfoldable pub starred8 : Case
 starred8 =
     record {
       got = jobBits (jobOf 1 2 60 0 (rectangle 10 6 ∷ []));
-      want = (0 ∷ 1 ∷ 1 ∷ 0 ∷ []) ∷ (1 ∷ 0 ∷ 1 ∷ 0 ∷ []) ∷ (2 ∷ 0 ∷ []) ∷ (d10 ∷ 0x404e000000000000 ∷ 0 ∷ []) ∷ nothing 21 ∷ [];
+      want = (0 ∷ 1 ∷ 1 ∷ 0 ∷ []) ∷ (1 ∷ 0 ∷ 1 ∷ 0 ∷ []) ∷ (2 ∷ 0 ∷ []) ∷ (d10 ∷ 0x404e000000000000 ∷ 0 ∷ []) ∷ nothing 25 ∷ [];
     }
 
 -- 9*. "11 × 1: no look, unplaced."
@@ -365,7 +357,7 @@ unfoldable pub starred9 : Case
 starred9 =
     record {
       got = jobBits (jobOf 1 1 11 0 (rectangle 11 1 ∷ []));
-      want = (0 ∷ 0 ∷ 1 ∷ 0 ∷ []) ∷ (0 ∷ 0 ∷ 1 ∷ 0 ∷ []) ∷ (0 ∷ 0 ∷ []) ∷ (0 ∷ 0x4026000000000000 ∷ d10 ∷ []) ∷ nothing 21 ∷ [];
+      want = (0 ∷ 0 ∷ 1 ∷ 0 ∷ []) ∷ (0 ∷ 0 ∷ 1 ∷ 0 ∷ []) ∷ (0 ∷ 0 ∷ []) ∷ (0 ∷ 0x4026000000000000 ∷ d10 ∷ []) ∷ nothing 25 ∷ [];
     }
 
 -- 10*. "4 × 3 or 3 × 4: the second, at (0,0)."
@@ -375,7 +367,7 @@ starred10 =
       got = jobBits (jobOf 1 1 12 0 (rectangle 4 3 ∷ rectangle 3 4 ∷ []));
       want =
           (0 ∷ 1 ∷ 0 ∷ 0 ∷ []) ∷ (1 ∷ 0 ∷ 0 ∷ 0 ∷ []) ∷ (1 ∷ 1 ∷ []) ∷ (d3 ∷ 0 ∷ 0x401c000000000000 ∷ [])
-          ∷ ((0 ∷ 0 ∷ 0x3ff0000000000000 ∷ []) ++ nothing 18) ∷ [];
+          ∷ ((0 ∷ 0 ∷ 0x3ff0000000000000 ∷ 0 ∷ 0 ∷ d2 ∷ []) ++ nothing 19) ∷ [];
     }
 
 -- 11*. "One kind, two copies, three rounds: six draws, no improvement."
@@ -386,13 +378,21 @@ starred11 =
       got = jobBits j ++ ((drawsOf (swapSearch j ample) ∷ []) ∷ []);
       want =
           (0 ∷ 2 ∷ 0 ∷ 0 ∷ []) ∷ (2 ∷ 0 ∷ 0 ∷ 0 ∷ []) ∷ (2 ∷ 0 ∷ []) ∷ (d4 ∷ 0 ∷ d6 ∷ [])
-          ∷ ((0 ∷ 0 ∷ 0 ∷ 0 ∷ 0 ∷ 0 ∷ 0x3ff0000000000000 ∷ 0 ∷ 0 ∷ d3 ∷ []) ++ nothing 11)
+          ∷ ((0 ∷ 0 ∷ 0 ∷ 0 ∷ 0 ∷ d3 ∷ 0 ∷ 0x3ff0000000000000 ∷ 0 ∷ 0 ∷ d3 ∷ 0 ∷ []) ++ nothing 13)
           ∷ ((6 * 0x9e3779b97f4a7c15 % 2 ^ 64) ∷ [])
           ∷ [];
+    }
+
+-- document 02, W7: "a state's gap not in 0..1,000,000 is 31"; that of a copy to come is not judged
+unfoldable pub starred-gap : Case
+starred-gap =
+    record {
+      got = gapsJudged (startOf case4 fiveCopies (lentSized (roomsSized 19 31 823) 5 31));
+      want = (0 ∷ 0 ∷ 31 ∷ 31 ∷ 31 ∷ []) ∷ (0 ∷ []) ∷ [];
     }
 
 -- the starred cases
 unfoldable pub starred : List Case
 starred =
     starred1 ∷ starred2 ∷ starred3 ∷ starred4 ∷ starred4-fill ∷ starred4-plan ∷ starred4-text ∷ starred5 ∷ starred5-calls ∷ starred6 ∷ starred7
-    ∷ starred8 ∷ starred9 ∷ starred10 ∷ starred11 ∷ []
+    ∷ starred8 ∷ starred9 ∷ starred10 ∷ starred11 ∷ starred-gap ∷ []

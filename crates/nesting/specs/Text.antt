@@ -90,16 +90,17 @@ planLine p = line planWord (decimal (p .placed) ∷ decimal (p .unplaced) ∷ de
 unfoldable pub positionAt : List Float → ℕ → Position
 positionAt room i =
     record {
-      kind = toUnsigned 64 (getD room (5 * i) nan);
-      copy = toUnsigned 64 (getD room (5 * i + 1) nan);
-      orientation = toUnsigned 64 (getD room (5 * i + 2) nan);
-      x = getD room (5 * i + 3) nan;
-      y = getD room (5 * i + 4) nan;
+      kind = toUnsigned 64 (getD room (6 * i) nan);
+      copy = toUnsigned 64 (getD room (6 * i + 1) nan);
+      orientation = toUnsigned 64 (getD room (6 * i + 2) nan);
+      x = getD room (6 * i + 3) nan;
+      y = getD room (6 * i + 4) nan;
+      gap = getD room (6 * i + 5) nan;
     }
 
--- "`put`: kind, copy, orientation, x, y."
+-- "`put`: kind, copy, orientation, x, y."; document 02, W7: "`put` lines gain a sixth field, the gap's double bits"
 unfoldable pub putLine : Position → List ℕ
-putLine p = line putWord (decimal (p .kind) ∷ decimal (p .copy) ∷ decimal (p .orientation) ∷ hex (p .x) ∷ hex (p .y) ∷ [])
+putLine p = line putWord (decimal (p .kind) ∷ decimal (p .copy) ∷ decimal (p .orientation) ∷ hex (p .x) ∷ hex (p .y) ∷ hex (p .gap) ∷ [])
 
 -- one line for each position
 unfoldable pub putLines : Plan → List Float → List ℕ

@@ -102,7 +102,7 @@ better-among n Winners.Nowhere v x y = y
 better-among n Winners.Overflow v x y = tt
 
 winner-among : (n o : ℕ) (k : Columns) (b : Rect) (f : Found) → o < n → Among n (winnerOf k b o f)
-winner-among n o k b (Founds.At c y) h = h
+winner-among n o k b (Founds.At c y g) h = h
 winner-among n o k b Founds.Nowhere h = tt
 winner-among n o k b Founds.Overflow h = tt
 

@@ -5,10 +5,10 @@ ghost use lib.ListN.{length, getD, set, take};
 ghost use Rattle.trapezoid.specs.Strip.{capacity};
 ghost use Rattle.index.specs.Buckets.{buckets};
 ghost use Rattle.index.specs.inner.Listing.{Laid, FirstBuckets};
-ghost use Rattle.rooms.specs.tracks.inner.Tracks.{nextColumns, lookCounts, orientations, xs, ys, trackNumbers, spotNumbers};
+ghost use Rattle.rooms.specs.tracks.inner.Tracks.{nextColumns, lookCounts, orientations, xs, ys, gaps, trackNumbers, spotNumbers};
 ghost use Rattle.choose.specs.inner.Choosing.{surroundingsIn};
 ghost use Rattle.store.specs.inner.Storing.{FirstsLaid};
-ghost use Rattle.place.specs.inner.Placing.{Under, done, placeOf, orientationNumber, outcomeX, yOf};
+ghost use Rattle.place.specs.inner.Placing.{Under, done, placeOf, orientationNumber, outcomeX, yOf, gapOf};
 ghost use Rattle.place.specs.inner.Standing.{Standing, Fixed};
 use crate::Copy;
 use crate::Outcome;
@@ -45,6 +45,16 @@ pub fn y_of(o: Outcome) -> f64
 {
     match o {
         Outcome::At(p) => p.y,
+        Outcome::Nowhere => 0.0,
+        Outcome::Refused(_) => 0.0,
+    }
+}
+
+pub fn gap_of(o: Outcome) -> f64
+    ensures { λ r. ⌜ r ≡ gapOf o ⌝ }
+{
+    match o {
+        Outcome::At(p) => p.gap,
         Outcome::Nowhere => 0.0,
         Outcome::Refused(_) => 0.0,
     }
@@ -91,7 +101,8 @@ pub fn place_next(
         × (xs (now (spots .exit)) ≡ set (xs (now (spots .entry))) at (outcomeX (r .outcome)))
         × (ys (now (spots .exit)) ≡ set (ys (now (spots .entry))) at (yOf (r .outcome)))
         × Laid (g .index) (now (placed .exit)) (r .totals .«placed_strips») (now (entries .exit)) (now (starts .exit))
-        × FirstsLaid (g .index) (now (placed .exit)) (r .totals .«placed_strips») (now (firsts .entry)) (now (firsts .exit)) ⌝ }
+        × FirstsLaid (g .index) (now (placed .exit)) (r .totals .«placed_strips») (now (firsts .entry)) (now (firsts .exit))
+        × (gaps (now (spots .exit)) ≡ set (gaps (now (spots .entry))) at (gapOf (r .outcome))) ⌝ }
 {
     let step = crate::place_copy(
         g,
@@ -115,9 +126,11 @@ pub fn place_next(
     let o = step.outcome;
     let place = 2048 + at;
     tracks[place] = number_of(o, copy.orientations);
-    let spot = 2 * at;
+    let spot = 3 * at;
     spots[spot] = x_of(o);
-    let end = spot + 1;
-    spots[end] = y_of(o);
+    let middle = spot + 1;
+    spots[middle] = y_of(o);
+    let end = spot + 2;
+    spots[end] = gap_of(o);
     step
 }

@@ -8,7 +8,7 @@ use index::Entry;
 
 pub mod given;
 
-// Where the text ends, or 0 for a buffer of less than 524,288 bytes.
+// Where the text ends, or 0 for a buffer of less than 589,824 bytes.
 #[no_mangle]
 pub extern "C" fn panel_nest(
     bytes: &[u8],

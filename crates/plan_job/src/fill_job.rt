@@ -42,7 +42,7 @@ fn fill_tables(
         × Zeroed l (now shapes) (now sheet) (now placed) (now «sheet_entries») (now «placed_entries») (now intervals) (now positions)
         (now «sheet_firsts») (now «placed_firsts»)
         × (rearranged j (now order) ≡ true))
-        × (2048 ≤ length (now places)) × (5 * length (now order) ≤ length (now positions)) ⌝ }
+        × (2048 ≤ length (now places)) × (6 * length (now order) ≤ length (now positions)) ⌝ }
     ensures { λ r. ⌜ ((j : Job) (l : Lent) → ReadInto j (now (bytes .entry)) at h (now (rows .entry)) (now (areas .entry)) (now (places .entry))
         → Zeroed l (now (shapes .entry)) (now (sheet .entry)) (now (placed .entry)) (now («sheet_entries» .entry))
         (now («placed_entries» .entry)) (now (intervals .entry)) (now (positions .entry)) (now («sheet_firsts» .entry)) (now («placed_firsts» .entry))
@@ -124,7 +124,7 @@ pub fn fill_job(
         → j .copies ≡ copies
         → reply r (now (positions .exit)) ≡ replyOf (fillJob j (now (order .entry)) l)) ⌝ }
 {
-    if positions.len() / 5 < copies {
+    if positions.len() / 6 < copies {
         return report::refused(Refusal::PositionRoom);
     }
     let kinds = h.kinds as usize;

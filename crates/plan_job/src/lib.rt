@@ -41,7 +41,7 @@ fn nest_tables(
     requires { ⌜ ((j : Job) × (l : Lent) × ReadInto j (now bytes) at h (now rows) (now areas) (now places)
         × Zeroed l (now shapes) (now sheet) (now placed) (now «sheet_entries») (now «placed_entries») (now intervals) (now positions)
         (now «sheet_firsts») (now «placed_firsts»)
-        × (5 * j .copies ≤ length (now positions)))
+        × (6 * j .copies ≤ length (now positions)))
         × (2048 ≤ length (now places)) ⌝ }
     ensures { λ r. ⌜ ((j : Job) (l : Lent) → ReadInto j (now (bytes .entry)) at h (now (rows .entry)) (now (areas .entry)) (now (places .entry))
         → Zeroed l (now (shapes .entry)) (now (sheet .entry)) (now (placed .entry)) (now («sheet_entries» .entry))
@@ -121,7 +121,7 @@ pub fn nest_job(
         → j .copies ≡ copies
         → reply r (now (positions .exit)) ≡ replyOf (nestJob j l)) ⌝ }
 {
-    if positions.len() / 5 < copies {
+    if positions.len() / 6 < copies {
         return report::refused(Refusal::PositionRoom);
     }
     nest_tables(

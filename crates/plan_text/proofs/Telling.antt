@@ -63,7 +63,8 @@ unfolding textReplyOf
 told-short bytes out l h = rw (lt-ltb (length out) bufferLength h, textReplyOf)
 
 -- the text, then zeros
-pub told-text : (bytes out after last : List ℕ) (l : Lent) (q : Planned) (n : ℕ) → bufferLength ≤ length out → q ≡ nestOf bytes l → n ≤ 524288 → length after ≡ length out → take n after ≡ printedFor (readJob bytes) q → last ≡ take n after ++ zeros 0 (drop n after)
+pub told-text : (bytes out after last : List ℕ) (l : Lent) (q : Planned) (n : ℕ) → bufferLength ≤ length out → q ≡ nestOf bytes l → n ≤ bufferLength
+    → length after ≡ length out → take n after ≡ printedFor (readJob bytes) q → last ≡ take n after ++ zeros 0 (drop n after)
     → record { end = n; out = last; lent = q .lent } ≡ textReplyOf bytes out l
 unfolding textReplyOf printed laid
 told-text bytes out after last l q n w e h d t f =

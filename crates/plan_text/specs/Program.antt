@@ -34,9 +34,9 @@ firstRoom = replicate 1365 0
 unfoldable pub intervalRoom : List Float
 intervalRoom = replicate (2 * 4096) posZero
 
--- "and 4,096 positions": five doubles to a position
+-- "and 4,096 positions": six doubles to a position
 unfoldable pub positionRoom : List Float
-positionRoom = replicate (5 * 4096) posZero
+positionRoom = replicate (6 * 4096) posZero
 
 -- all that the program lends
 unfoldable pub programRooms : Lent

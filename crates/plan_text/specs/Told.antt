@@ -16,7 +16,7 @@ pub record TextReply : Type 0 where
 
 -- every plan's text is at most so long
 abbrev pub bufferLength : ℕ
-bufferLength = 524288
+bufferLength = 589824
 
 -- the text, zeros after it, and the rooms as the whole plan leaves them; a buffer that is shorter gets no text, and nothing is planned
 unfoldable pub textReplyOf : List ℕ → List ℕ → Lent → TextReply

@@ -21,7 +21,7 @@ pub fn zero_from(out: &mut [u8], n: usize)
     }
 }
 
-// The plan of the job that the bytes are, or its refusal, as text in a buffer of at least 524,288
+// The plan of the job that the bytes are, or its refusal, as text in a buffer of at least 589,824
 // bytes: where the text ends. A shorter buffer: 0, and nothing is written anywhere.
 pub fn plan_text(
     bytes: &[u8],
@@ -45,7 +45,7 @@ pub fn plan_text(
         (now («sheet_entries» .entry)) (now («placed_entries» .entry)) (now («sheet_firsts» .entry)) (now («placed_firsts» .entry))
         (now (intervals .entry)) (now (positions .entry))) ⌝ }
 {
-    if out.len() < 524288 {
+    if out.len() < 589824 {
         return 0;
     }
     let r = nest::nest(

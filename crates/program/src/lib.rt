@@ -23,8 +23,8 @@ const FIRST_SLOTS: usize = 1365;
 // 4,096 intervals, two numbers to an interval.
 const INTERVAL_SLOTS: usize = 8192;
 
-// 4,096 positions, five numbers to a position.
-const POSITION_SLOTS: usize = 20480;
+// 4,096 positions, six numbers to a position.
+const POSITION_SLOTS: usize = 24576;
 
 fn strip_room() -> [f64; STRIP_SLOTS]
     ensures { λ r. ⌜ r ≡ stripRoom ⌝ }
@@ -58,7 +58,7 @@ fn position_room() -> [f64; POSITION_SLOTS]
 
 // The text of 11, zeros after it.
 fn overlong_text(out: &mut [u8]) -> usize
-    requires { ⌜ 524288 ≤ length (now out) ⌝ }
+    requires { ⌜ 589824 ≤ length (now out) ⌝ }
     ensures { λ r. ⌜ record { end = r; out = now (out .exit) } ≡ textIn (line noWord (decimal overlongNumber ∷ [])) (now (out .entry)) ⌝ }
 {
     let n = lines::count_line(out, 0, b"no", 11);
@@ -66,12 +66,12 @@ fn overlong_text(out: &mut [u8]) -> usize
     n
 }
 
-// The program's text for these bytes, in a buffer of at least 524,288 bytes: where it ends, with zeros
+// The program's text for these bytes, in a buffer of at least 589,824 bytes: where it ends, with zeros
 // after it. A shorter buffer: 0, and nothing is written.
 pub fn program_text(bytes: &[u8], out: &mut [u8]) -> usize
     ensures { λ r. ⌜ record { end = r; out = now (out .exit) } ≡ programAnswer (now (bytes .entry)) (now (out .entry)) ⌝ }
 {
-    if out.len() < 524288 {
+    if out.len() < 589824 {
         return 0;
     }
     if 65536 < bytes.len() {

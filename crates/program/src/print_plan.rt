@@ -7,7 +7,7 @@ ghost use Rattle.plan_text.specs.Told.{bufferLength};
 ghost use Rattle.plan_text.specs.Program.{longestJob};
 
 // Every plan's text fits the buffer.
-const TEXT_BYTES: usize = 524288;
+const TEXT_BYTES: usize = 589824;
 
 // One byte more than a job may have, for 11.
 const INPUT_BYTES: usize = 65537;

@@ -192,7 +192,15 @@ fn with_y(l: Layout, n: usize, y: f64) -> Layout {
     out
 }
 
-// The layout with its number a (11 to 15) changed.
+fn with_gap(l: Layout, n: usize, gap: f64) -> Layout {
+    let mut out = l;
+    if n < 4096 {
+        out.gap[n] = gap;
+    }
+    out
+}
+
+// The layout with its number a (11 to 16) changed.
 fn with_layout(l: Layout, a: usize, n: usize, m: u64) -> Layout {
     if a == 11 {
         return with_orientation(l, n, m as usize);
@@ -203,8 +211,11 @@ fn with_layout(l: Layout, a: usize, n: usize, m: u64) -> Layout {
     if a == 13 {
         return with_y(l, n, double(m));
     }
-    let mut out = l;
     if a == 14 {
+        return with_gap(l, n, double(m));
+    }
+    let mut out = l;
+    if a == 15 {
         out.unplaced_area = double(m);
         return out;
     }
@@ -256,7 +267,7 @@ fn with_number(s: State, a: usize, n: usize, k: usize) -> State {
     out
 }
 
-// The state with one number changed: 0 to 15, in the order of its fields.
+// The state with one number changed: 0 to 16, in the order of its fields.
 pub fn edit(c: Command, s: State) -> State {
     let mut out = s;
     if c.a < 6 {
@@ -296,6 +307,7 @@ fn zero_layout() -> Layout {
         orientation: [0; 4096],
         x: [0.0; 4096],
         y: [0.0; 4096],
+        gap: [0.0; 4096],
         unplaced_area: 0.0,
         right: 0.0,
     }

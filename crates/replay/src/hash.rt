@@ -76,14 +76,16 @@ fn layout(start: u64, l: Layout) -> u64 {
     h = doubles(h, &x);
     let y = l.y;
     h = doubles(h, &y);
+    let gap = l.gap;
+    h = doubles(h, &gap);
     h = mix_double(h, l.unplaced_area);
     mix_double(h, l.right)
 }
 
-// All of a state's 26,635 numbers, in the order of its fields.
+// All of a state's 30,731 numbers, in the order of its fields.
 pub fn state(s: State) -> u64 {
     let t = s.tables;
-    let mut h = tables(26635, t);
+    let mut h = tables(30731, t);
     let order = s.order;
     h = numbers(h, &order);
     h = mix_number(h, s.taken);

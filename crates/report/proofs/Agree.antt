@@ -37,11 +37,12 @@ written-at l room n i d h k = laid-at (take n l) room i d (let e = length-take-l
 -- ---- two states that agree on the first m places
 
 module _ (s s′ : State) (m : ℕ) (fo : (i : ℕ) → i < m → getD (s .order) i 0 ≡ getD (s′ .order) i 0) (fn : (i : ℕ) → i < m → getD (s .layout .orientation) i 0 ≡ getD (s′ .layout .orientation) i 0)
-    (fx : (i : ℕ) → i < m → getD (s .layout .x) i nan ≡ getD (s′ .layout .x) i nan) (fy : (i : ℕ) → i < m → getD (s .layout .y) i nan ≡ getD (s′ .layout .y) i nan) where
+    (fx : (i : ℕ) → i < m → getD (s .layout .x) i nan ≡ getD (s′ .layout .x) i nan) (fy : (i : ℕ) → i < m → getD (s .layout .y) i nan ≡ getD (s′ .layout .y) i nan)
+    (fg : (i : ℕ) → i < m → getD (s .layout .gap) i nan ≡ getD (s′ .layout .gap) i nan) where
   stands-same : (i o : ℕ) → i < m → standsAt s i o ≡ standsAt s′ i o
   unfolding standsAt copyAt
   stands-same i zero h = refl
-  stands-same i (suc o) h = rw (fo i h, fx i h, fy i h)
+  stands-same i (suc o) h = rw (fo i h, fx i h, fy i h, fg i h)
 
   misses-same : (i o : ℕ) → i < m → missesAt s i o ≡ missesAt s′ i o
   unfolding missesAt copyAt
@@ -60,9 +61,10 @@ module _ (s s′ : State) (m : ℕ) (fo : (i : ℕ) → i < m → getD (s .order
 
 -- ---- the state that a filling leaves, with order and layout as they are lent
 
-module _ (p : Planner) (order next looks : List ℕ) (t : Totals) (orientation : List ℕ) (x y : List Float) (io : length order ≤ length orientation) (ix : length order ≤ length x) (iy : length order ≤ length y) where
+module _ (p : Planner) (order next looks : List ℕ) (t : Totals) (orientation : List ℕ) (x y gap : List Float) (io : length order ≤ length orientation)
+    (ix : length order ≤ length x) (iy : length order ≤ length y) (ig : length order ≤ length gap) where
   abbrev s : State
-  s = stateBy p order (length order) next looks t orientation x y
+  s = stateBy p order (length order) next looks t orientation x y gap
 
   abbrev pub Lent′ : State
   Lent′ =
@@ -73,7 +75,7 @@ module _ (p : Planner) (order next looks : List ℕ) (t : Totals) (orientation :
         «next_column» = next;
         «look_counts» = looks;
         «placed_strips» = t .«placed_strips»;
-        layout = record { orientation = orientation; x = x; y = y; «unplaced_area» = t .«unplaced_area»; right = t .right };
+        layout = record { orientation = orientation; x = x; y = y; gap = gap; «unplaced_area» = t .«unplaced_area»; right = t .right };
       }
 
   pub standing-is : standingOf s ≡ standingOf Lent′
@@ -84,6 +86,7 @@ module _ (p : Planner) (order next looks : List ℕ) (t : Totals) (orientation :
       (λ i h. written-at orientation (replicate 4096 0) (length order) i 0 h io)
       (λ i h. written-at x (replicate 4096 posZero) (length order) i nan h ix)
       (λ i h. written-at y (replicate 4096 posZero) (length order) i nan h iy)
+      (λ i h. written-at gap (replicate 4096 posZero) (length order) i nan h ig)
       (length order) (omega arith)
 
   without-is : withoutOf s ≡ withoutOf Lent′
@@ -94,6 +97,7 @@ module _ (p : Planner) (order next looks : List ℕ) (t : Totals) (orientation :
       (λ i h. written-at orientation (replicate 4096 0) (length order) i 0 h io)
       (λ i h. written-at x (replicate 4096 posZero) (length order) i nan h ix)
       (λ i h. written-at y (replicate 4096 posZero) (length order) i nan h iy)
+      (λ i h. written-at gap (replicate 4096 posZero) (length order) i nan h ig)
       (length order) (omega arith)
 
   offcut-same : (q : Planner) → offcutOf q s ≡ offcutOf q Lent′
@@ -104,8 +108,8 @@ module _ (p : Planner) (order next looks : List ℕ) (t : Totals) (orientation :
   unfolding planOf lookCountsOf tracksOf
   plan-is j n = rw (standing-is, without-is, offcut-same (plannerOf j))
 
-  pub told : PlanTold Lent′ order orientation x y looks (length order)
-  told = record { order-is = refl; orientation-is = refl; x-is = refl; y-is = refl; looks-are = refl; taken-is = refl }
+  pub told : PlanTold Lent′ order orientation x y gap looks (length order)
+  told = record { order-is = refl; orientation-is = refl; x-is = refl; y-is = refl; gap-is = refl; looks-are = refl; taken-is = refl }
 
   pub totalled : (j : Job) (offcut : Float) → offcutOf (plannerOf j) s ≡ offcut → Totalled j Lent′ (t .right) (t .«unplaced_area») offcut
   totalled j offcut e = record { right-is = refl; area-is = refl; offcut-is = sym (offcut-same (plannerOf j)) ∙ e }

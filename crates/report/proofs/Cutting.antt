@@ -59,10 +59,24 @@ order-few j g h order r =
     omega arith
 
 -- what the report requires
-pub report-ready : (j : Job) (g : Given) → Prepared j g → (order : List ℕ) → length order ≤ 4096 → (kinds : ℕ) → length (j .kinds) ≡ kinds → (v : Verdict) → (v ≡ Accepted → rearranged j order ≡ true) → (o x y looks room : ℕ) → o ≡ 4096 → x ≡ 4096 → y ≡ 4096 → looks ≡ 1024 → 5 * length order ≤ room
-    → (kinds ≤ 64) × (256 ≤ length (g .rows)) × (length order ≤ o) × (length order ≤ x) × (length order ≤ y) × (1024 ≤ looks) × (4096 ≤ length (g .parts)) × (v ≡ Accepted → (i : ℕ) → i < length order → getD order i 0 < kinds) × (length order ≤ 4096) × (5 * length order ≤ room)
-report-ready j g h order few kinds n v r o x y looks room lo lx ly ll lr =
-    (subst (λ (m : ℕ). m ≤ 64) n (h .tabled .few), h .tabled .rows-long, long few lo, long few lx, long few ly, least ll, all-parts, λ e i l. subst (λ (m : ℕ). getD order i 0 < m) n (kind-below j g h order (r e) i l), few, lr)
+pub report-ready : (j : Job) (g : Given) → Prepared j g → (order : List ℕ) → length order ≤ 4096 → (kinds : ℕ) → length (j .kinds) ≡ kinds → (v : Verdict)
+    → (v ≡ Accepted → rearranged j order ≡ true) → (o x y gap looks room : ℕ) → o ≡ 4096 → x ≡ 4096 → y ≡ 4096 → gap ≡ 4096 → looks ≡ 1024
+    → 6 * length order ≤ room
+    → (kinds ≤ 64) × (256 ≤ length (g .rows)) × (length order ≤ o) × (length order ≤ x) × (length order ≤ y) × (1024 ≤ looks) × (4096 ≤ length (g .parts))
+    × (v ≡ Accepted → (i : ℕ) → i < length order → getD order i 0 < kinds) × (length order ≤ 4096) × (6 * length order ≤ room) × (length order ≤ gap)
+report-ready j g h order few kinds n v r o x y gap looks room lo lx ly lg ll lr = (
+  subst (λ (m : ℕ). m ≤ 64) n (h .tabled .few),
+  h .tabled .rows-long,
+  long few lo,
+  long few lx,
+  long few ly,
+  least ll,
+  all-parts,
+  λ e i l. subst (λ (m : ℕ). getD order i 0 < m) n (kind-below j g h order (r e) i l),
+  few,
+  lr,
+  long few lg,
+)
   where
     all-parts : 4096 ≤ length (g .parts)
     all-parts = let a = ap length (h .parts) in let b = parts-long (plannerOf j) in omega (arith, a, b)

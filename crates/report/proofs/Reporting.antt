@@ -32,29 +32,29 @@ refused-plain l k room e = rw e
 pub refused-reply : (l : Lent) (k : Refusal) (room : List Float) → room ≡ zeros posZero (l .positions) → (r : NestResult) → r ≡ refusedBy k → reply r room ≡ replyOf (notPlanned k l)
 refused-reply l k room e r d = ap (λ (q : NestResult). reply q room) d ∙ refused-plain l k room e
 
-pub stopped-reply : (j : Job) (l : Lent) (v : Verdict) (k : Refusal) → v ≡ Refused k → (p : Planner) (order next looks : List ℕ) (t : Totals) (orientation : List ℕ) (x y : List Float) (n : ℕ) (room : List Float) → room ≡ zeros posZero (l .positions) → (r : NestResult) → r ≡ refusedBy k
-    → reply r room ≡ replyOf (reported v j l p order next looks t orientation x y n)
-stopped-reply j l v k d p order next looks t orientation x y n room e r f = refused-reply l k room e r f ∙ ap (λ (u : Verdict). replyOf (reported u j l p order next looks t orientation x y n)) (sym d)
+pub stopped-reply : (j : Job) (l : Lent) (v : Verdict) (k : Refusal) → v ≡ Refused k → (p : Planner) (order next looks : List ℕ) (t : Totals) (orientation : List ℕ) (x y gap : List Float) (n : ℕ) (room : List Float) → room ≡ zeros posZero (l .positions) → (r : NestResult) → r ≡ refusedBy k
+    → reply r room ≡ replyOf (reported v j l p order next looks t orientation x y gap n)
+stopped-reply j l v k d p order next looks t orientation x y gap n room e r f = refused-reply l k room e r f ∙ ap (λ (u : Verdict). replyOf (reported u j l p order next looks t orientation x y gap n)) (sym d)
 
 -- accepted: what plan_of answers
-pub told-reply : (j : Job) (areas : List Float) (p : Planner) (next : List ℕ) (l : Lent) (rows : List ℕ) (kinds : ℕ) (v : Verdict) → v ≡ Accepted → (order looks : List ℕ) (t : Totals) (orientation : List ℕ) (x y : List Float) (offcut : Float) (n : ℕ) (room₀ room : List Float) (plan : Plan)
-    → length order ≤ length orientation → length order ≤ length x → length order ≤ length y → Tabled j rows areas → length (j .kinds) ≡ kinds → offcutOf (plannerOf j) (stateBy p order (length order) next looks t orientation x y) ≡ offcut → room₀ ≡ zeros posZero (l .positions)
-    → ((j : Job) (areas : List Float) (s : State) → Tabled j rows areas → length (j .kinds) ≡ kinds → PlanTold s order orientation x y looks (length order) → Totalled j s (t .right) (t .«unplaced_area») offcut
+pub told-reply : (j : Job) (areas : List Float) (p : Planner) (next : List ℕ) (l : Lent) (rows : List ℕ) (kinds : ℕ) (v : Verdict) → v ≡ Accepted → (order looks : List ℕ) (t : Totals) (orientation : List ℕ) (x y gap : List Float) (offcut : Float) (n : ℕ) (room₀ room : List Float) (plan : Plan)
+    → length order ≤ length orientation → length order ≤ length x → length order ≤ length y → length order ≤ length gap → Tabled j rows areas → length (j .kinds) ≡ kinds → offcutOf (plannerOf j) (stateBy p order (length order) next looks t orientation x y gap) ≡ offcut → room₀ ≡ zeros posZero (l .positions)
+    → ((j : Job) (areas : List Float) (s : State) → Tabled j rows areas → length (j .kinds) ≡ kinds → PlanTold s order orientation x y gap looks (length order) → Totalled j s (t .right) (t .«unplaced_area») offcut
     → (plan ≡ planOf j s n) × (room ≡ laid (flatPositions (positions j (standingOf s))) room₀))
-    → reply (record { verdict = Accepted; plan = plan }) room ≡ replyOf (reported v j l p order next looks t orientation x y n)
+    → reply (record { verdict = Accepted; plan = plan }) room ≡ replyOf (reported v j l p order next looks t orientation x y gap n)
 unfolding plannedWith onlyPositions
-told-reply j areas p next l rows kinds v d order looks t orientation x y offcut n room₀ room plan io ix iy T m e f E =
-    let s = Lent′ p order next looks t orientation x y io ix iy in
-    let a = E j areas s T m (told p order next looks t orientation x y io ix iy) (totalled p order next looks t orientation x y io ix iy j offcut e) in
-    let q : plan ≡ planOf j (stateBy p order (length order) next looks t orientation x y) n = a .0 ∙ sym (plan-is p order next looks t orientation x y io ix iy j n) in
-    let w : room ≡ laid (flatPositions (positions j (standingOf (stateBy p order (length order) next looks t orientation x y)))) (zeros posZero (l .positions)) =
-    a .1 ∙ ap₂ (λ (c : List Standing) (z : List Float). laid (flatPositions (positions j c)) z) (sym (standing-is p order next looks t orientation x y io ix iy)) f in
+told-reply j areas p next l rows kinds v d order looks t orientation x y gap offcut n room₀ room plan io ix iy ig T m e f E =
+    let s = Lent′ p order next looks t orientation x y gap io ix iy ig in
+    let a = E j areas s T m (told p order next looks t orientation x y gap io ix iy ig) (totalled p order next looks t orientation x y gap io ix iy ig j offcut e) in
+    let q : plan ≡ planOf j (stateBy p order (length order) next looks t orientation x y gap) n = a .0 ∙ sym (plan-is p order next looks t orientation x y gap io ix iy ig j n) in
+    let w : room ≡ laid (flatPositions (positions j (standingOf (stateBy p order (length order) next looks t orientation x y gap)))) (zeros posZero (l .positions)) =
+    a .1 ∙ ap₂ (λ (c : List Standing) (z : List Float). laid (flatPositions (positions j c)) z) (sym (standing-is p order next looks t orientation x y gap io ix iy ig)) f in
     ap₂ (λ (z : Plan) (u : List Float). record { verdict = Accepted; plan = z; positions = u }) q w
-    ∙ ap (λ (u : Verdict). replyOf (reported u j l p order next looks t orientation x y n)) (sym d)
+    ∙ ap (λ (u : Verdict). replyOf (reported u j l p order next looks t orientation x y gap n)) (sym d)
 
 -- with no improvements it is the plan of the filling
-pub reported-filling : (v : Verdict) (j : Job) (l : Lent) (p : Planner) (order next looks : List ℕ) (t : Totals) (orientation : List ℕ) (x y : List Float)
-    → reported v j l p order next looks t orientation x y 0 ≡ plannedBy j l (fillingBy v p order next looks t orientation x y)
+pub reported-filling : (v : Verdict) (j : Job) (l : Lent) (p : Planner) (order next looks : List ℕ) (t : Totals) (orientation : List ℕ) (x y gap : List Float)
+    → reported v j l p order next looks t orientation x y gap 0 ≡ plannedBy j l (fillingBy v p order next looks t orientation x y gap)
 unfolding plannedBy
-reported-filling Accepted j l p order next looks t orientation x y = refl
-reported-filling (Refused k) j l p order next looks t orientation x y = refl
+reported-filling Accepted j l p order next looks t orientation x y gap = refl
+reported-filling (Refused k) j l p order next looks t orientation x y gap = refl

@@ -95,6 +95,7 @@ pub fn report(
     orientation: &[usize],
     x: &[f64],
     y: &[f64],
+    gap: &[f64],
     look_counts: &[usize],
     parts: &[usize],
     shapes: &[f64],
@@ -105,12 +106,13 @@ pub fn report(
     requires { ⌜ (kinds ≤ 64) × (256 ≤ length (now rows)) × (length (now order) ≤ length (now orientation)) × (length (now order) ≤ length (now x))
         × (length (now order) ≤ length (now y)) × (1024 ≤ length (now «look_counts»)) × (4096 ≤ length (now parts))
         × (verdict ≡ Accepted → (i : ℕ) → i < length (now order) → getD (now order) i 0 < kinds)
-        × (length (now order) ≤ 4096) × (5 * length (now order) ≤ length (now positions)) ⌝ }
+        × (length (now order) ≤ 4096) × (6 * length (now order) ≤ length (now positions))
+        × (length (now order) ≤ length (now gap)) ⌝ }
     ensures { λ r. ⌜ ((j : Job) (areas : List Float) (p : Planner) (next : List ℕ) (l : Lent)
         → Tabled j (now (rows .entry)) areas → length (j .kinds) ≡ kinds → p .bounds .right ≡ «sheet_right»
         → Parted (plannerOf j) (now (parts .entry)) (now (shapes .entry)) → now (positions .entry) ≡ zeros posZero (l .positions)
         → reply r (now (positions .exit)) ≡ replyOf (reported verdict j l p (now (order .entry)) next (now («look_counts» .entry)) t
-        (now (orientation .entry)) (now (x .entry)) (now (y .entry)) improvements)) ⌝ }
+        (now (orientation .entry)) (now (x .entry)) (now (y .entry)) (now (gap .entry)) improvements)) ⌝ }
 {
     match verdict {
         Verdict::Accepted => {
@@ -123,6 +125,7 @@ pub fn report(
                 orientation,
                 x,
                 y,
+                gap,
                 look_counts,
                 t.right,
                 t.unplaced_area,

@@ -1,5 +1,5 @@
 // The two tables that a filling lies in. Tracks: two numbers to a slot (next column, look count),
-// then a number to a place of the order (0 for none, else 1 + orientation). Spots: x and y to a
+// then a number to a place of the order (0 for none, else 1 + orientation). Spots: x, y and gap to a
 // place.
 ghost use mathlib.Core.Path.{_≡_};
 ghost use Prim.Native.Nat.{ℕ, _+_, _*_, _≤_, _<_};

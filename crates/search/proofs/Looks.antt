@@ -20,7 +20,7 @@ use Rattle.search.specs.inner.Searching.{Looked, looked, afterLook, afte
 -- the columns after one with this answer are looked at only if it is full
 abbrev pub onward : Answer → List ℕ → List ℕ
 onward NoRoom cs = []
-onward (Seen (Free y)) cs = []
+onward (Seen (Free y g)) cs = []
 onward (Seen Full) cs = cs
 
 unfoldable pub looksMade : (ℕ → Answer) → ℕ → ℕ → List ℕ
@@ -36,7 +36,7 @@ anyLacksRoom f [] = false
 anyLacksRoom f (c ∷ cs) = lacksRoom (f c) || anyLacksRoom f cs
 
 abbrev pub isOverflow : Found → Bool
-isOverflow (At c y) = false
+isOverflow (At c y g) = false
 isOverflow Nowhere = false
 isOverflow Overflow = true
 
@@ -53,7 +53,7 @@ module _ (f : ℕ → Answer) (slot : ℕ) where
       go : (v : Answer) → searchFrom f slot n (c + 1) (counted slot counts) .counts ≡ set (counted slot counts) slot (getD (counted slot counts) slot 0 + length (looksMade f n (c + 1)))
           → afterAnswer v c (counted slot counts) (searchFrom f slot n (c + 1) (counted slot counts)) .counts ≡ set counts slot (getD counts slot 0 + length (c ∷ onward v (looksMade f n (c + 1))))
       go NoRoom e = unfold afterAnswer in one
-      go (Seen (Free y)) e = unfold afterAnswer in (unfold afterLook in one)
+      go (Seen (Free y g)) e = unfold afterAnswer in (unfold afterLook in one)
       go (Seen Full) e = unfold afterAnswer in (unfold afterLook in (e ∙ (set-set counts slot (getD counts slot 0 + 1) _ ∙ ap (set counts slot) (more (getD (counted slot counts) slot 0) (getD counts slot 0) (length (looksMade f n (c + 1))) (getD-set-same counts slot (getD counts slot 0 + 1) 0 h)))))
         where
           more : (a b m : ℕ) → a ≡ b + 1 → a + m ≡ b + suc m
@@ -68,5 +68,5 @@ module _ (f : ℕ → Answer) (slot : ℕ) where
       go : (v : Answer) → f c ≡ v → isOverflow (searchFrom f slot n (c + 1) (counted slot counts) .found) ≡ anyLacksRoom f (looksMade f n (c + 1))
           → isOverflow (afterAnswer v c (counted slot counts) (searchFrom f slot n (c + 1) (counted slot counts)) .found) ≡ (lacksRoom (f c) || anyLacksRoom f (onward v (looksMade f n (c + 1))))
       go NoRoom q e = unfold afterAnswer in (rw q)
-      go (Seen (Free y)) q e = unfold afterAnswer in (unfold afterLook in (rw q))
+      go (Seen (Free y g)) q e = unfold afterAnswer in (unfold afterLook in (rw q))
       go (Seen Full) q e = unfold afterAnswer in (unfold afterLook in (rw q e))

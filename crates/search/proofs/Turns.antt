@@ -27,9 +27,9 @@ module _ (f : ℕ → Answer) (slot c : ℕ) (counts : List ℕ) where
   unfolding searchFrom afterAnswer
   search-overflow n m e l = rw (e, l)
 
-  pub search-free : (n m : ℕ) (y : Float) → n ≡ suc m → f c ≡ Seen (Free y) → searchFrom f slot n c counts ≡ looked (At c y) (counted slot counts)
+  pub search-free : (n m : ℕ) (y g : Float) → n ≡ suc m → f c ≡ Seen (Free y g) → searchFrom f slot n c counts ≡ looked (At c y g) (counted slot counts)
   unfolding searchFrom afterAnswer afterLook
-  search-free n m y e l = rw (e, l)
+  search-free n m y g e l = rw (e, l)
 
   pub search-full : (n m : ℕ) → n ≡ suc m → f c ≡ Seen Full → searchFrom f slot n c counts ≡ searchFrom f slot m (c + 1) (counted slot counts)
   unfolding searchFrom afterAnswer afterLook
@@ -75,9 +75,10 @@ module _ (k : Columns) (inset apart sheet placed room₀ : List Float) (slot las
       pub at-overflow : v ≡ NoRoom → looked Overflow counts' ≡ searchFrom look-of slot (last + 1 - from) from counts₀
       at-overflow q = ap (looked Overflow) l ∙ (sym (search-overflow look-of slot c counts (last + 1 - c) (last - c) left (same-look NoRoom q)) ∙ g .same)
 
-      pub at-free : (y : Float) (u : Look) → v ≡ Seen u → u ≡ Free y → looked (At c y) counts' ≡ searchFrom look-of slot (last + 1 - from) from counts₀
-      at-free y u q r = ap (looked (At c y)) l ∙ (sym (search-free look-of slot c counts (last + 1 - c) (last - c) y left
-          (same-look (Seen (Free y)) (q ∙ ap Seen r))) ∙ g .same)
+      pub at-free : (y gap : Float) (u : Look) → v ≡ Seen u → u ≡ Free y gap
+          → looked (At c y gap) counts' ≡ searchFrom look-of slot (last + 1 - from) from counts₀
+      at-free y gap u q r = ap (looked (At c y gap)) l ∙ (sym (search-free look-of slot c counts (last + 1 - c) (last - c) y gap left
+          (same-look (Seen (Free y gap)) (q ∙ ap Seen r))) ∙ g .same)
 
       pub at-full : slot < 1024 → length room' ≡ length room → length tracks' ≡ length tracks → (u : Look) → v ≡ Seen u → u ≡ Full → Goes room' tracks' (c + 1)
       at-full s w t u q r =

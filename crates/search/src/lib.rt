@@ -18,9 +18,10 @@ use index::Index;
 use look::Answer;
 use look::height::Look;
 
-// The column that a search yields, with its free height; or that a look's intervals exceed the room.
+// The column that a search yields, with its free height and the clear height above it; or that a
+// look's intervals exceed the room.
 pub enum Found {
-    At(usize, f64),
+    At(usize, f64, f64),
     Nowhere,
     Overflow,
 }
@@ -133,8 +134,8 @@ fn column_search(
                 break Found::Overflow;
             }
             Answer::Seen(look) => match look {
-                Look::Free(y) => {
-                    break Found::At(c, y);
+                Look::Free(y, gap) => {
+                    break Found::At(c, y, gap);
                 }
                 Look::Full => {
                     c += 1;
@@ -151,7 +152,7 @@ fn next_of(found: Found, last: usize) -> usize
     ensures { λ r. ⌜ r ≡ nextOf found ⌝ }
 {
     match found {
-        Found::At(c, _) => c + 1,
+        Found::At(c, _, _) => c + 1,
         Found::Nowhere => 0,
         Found::Overflow => 0,
     }

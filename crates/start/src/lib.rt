@@ -122,7 +122,7 @@ pub fn start(
         (now («sheet_entries» .entry)) (now («placed_entries» .entry)) (now («sheet_firsts» .entry)) (now («placed_firsts» .entry))
         (now (intervals .entry)) (now (positions .entry))) ⌝ }
 {
-    let held = positions.len() / 5;
+    let held = positions.len() / 6;
     rooms::zero(shapes);
     rooms::zero(sheet);
     rooms::zero(placed);

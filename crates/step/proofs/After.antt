@@ -11,7 +11,7 @@ use Rattle.filling.specs.declared.Verdict.{Verdict}
 use Rattle.filling.specs.declared.Verdict.the-variants.{Accepted, Refused}
 use Rattle.rooms.specs.tracks.inner.Tracks.{field, nextColumns, lookCounts, slotNumbers}
 use Rattle.place.specs.declared.Step.{Step}
-use Rattle.place.specs.inner.Placing.{verdictOf, orientationNumber, outcomeX, yOf}
+use Rattle.place.specs.inner.Placing.{verdictOf, orientationNumber, outcomeX, yOf, gapOf}
 use Rattle.step.specs.declared.Stepped.{Stepped}
 use Rattle.step.specs.inner.Going.{takenOf, answerOf}
 
@@ -31,8 +31,8 @@ readable r l t h e g = (omega arith, omega arith, omega arith, (λ i m. omega ar
 
 module _ (s : State) (r : Step) (tracks : List ℕ) where
   -- ---- the state
-  abbrev pub stateBy : List ℕ → List ℕ → ℕ → Float → Float → State
-  stateBy next counts n x y =
+  abbrev pub stateBy : List ℕ → List ℕ → ℕ → Float → Float → Float → State
+  stateBy next counts n x y gap =
       record {
         tables = s .tables;
         order = s .order;
@@ -44,19 +44,23 @@ module _ (s : State) (r : Step) (tracks : List ℕ) where
           orientation = set (s .layout .orientation) (s .taken) n;
           x = set (s .layout .x) (s .taken) x;
           y = set (s .layout .y) (s .taken) y;
+          gap = set (s .layout .gap) (s .taken) gap;
           «unplaced_area» = r .totals .«unplaced_area»;
           right = r .totals .right;
         };
       }
 
-  pub state-is : (next counts : List ℕ) (n : ℕ) (x y : Float) (a b : ℕ) → a ≡ 1024 → b ≡ 1024 → next ≡ field 0 2 0 a tracks → counts ≡ field 0 2 1 b tracks
-      → n ≡ orientationNumber (r .outcome) → x ≡ outcomeX (r .outcome) → y ≡ yOf (r .outcome) → stateBy next counts n x y ≡ takenOf (s .taken + 1) s r tracks
-  state-is next counts n x y a b u v e f g h k =
-      ap (λ (l : List ℕ). stateBy l counts n x y) (e ∙ ap (λ (m : ℕ). field 0 2 0 m tracks) u)
-      ∙ (ap (λ (l : List ℕ). stateBy (nextColumns tracks) l n x y) (f ∙ ap (λ (m : ℕ). field 0 2 1 m tracks) v)
-      ∙ (ap (λ (m : ℕ). stateBy (nextColumns tracks) (lookCounts tracks) m x y) g
-      ∙ (ap (λ (z : Float). stateBy (nextColumns tracks) (lookCounts tracks) (orientationNumber (r .outcome)) z y) h
-      ∙ ap (λ (z : Float). stateBy (nextColumns tracks) (lookCounts tracks) (orientationNumber (r .outcome)) (outcomeX (r .outcome)) z) k)))
+  pub state-is : (next counts : List ℕ) (n : ℕ) (x y gap : Float) (a b : ℕ) → a ≡ 1024 → b ≡ 1024
+      → next ≡ field 0 2 0 a tracks → counts ≡ field 0 2 1 b tracks → n ≡ orientationNumber (r .outcome) → x ≡ outcomeX (r .outcome) → y ≡ yOf (r .outcome)
+      → gap ≡ gapOf (r .outcome) → stateBy next counts n x y gap ≡ takenOf (s .taken + 1) s r tracks
+  state-is next counts n x y gap a b u v e f g h k m =
+      let o = r .outcome in
+      ap (λ (l : List ℕ). stateBy l counts n x y gap) (e ∙ ap (λ (i : ℕ). field 0 2 0 i tracks) u)
+      ∙ (ap (λ (l : List ℕ). stateBy (nextColumns tracks) l n x y gap) (f ∙ ap (λ (i : ℕ). field 0 2 1 i tracks) v)
+      ∙ (ap (λ (i : ℕ). stateBy (nextColumns tracks) (lookCounts tracks) i x y gap) g
+      ∙ (ap (λ (z : Float). stateBy (nextColumns tracks) (lookCounts tracks) (orientationNumber o) z y gap) h
+      ∙ (ap (λ (z : Float). stateBy (nextColumns tracks) (lookCounts tracks) (orientationNumber o) (outcomeX o) z gap) k
+      ∙ ap (λ (z : Float). stateBy (nextColumns tracks) (lookCounts tracks) (orientationNumber o) (outcomeX o) (yOf o) z) m))))
 
   -- ---- the answer
   by-verdict : (v w : Verdict) → v ≡ verdictOf (r .outcome) → v ≡ w → answerOf s r tracks w ≡ answerOf s r tracks (verdictOf (r .outcome))

@@ -70,9 +70,11 @@ fn taken(state: State, n: usize, step: Step, tracks: &[usize]) -> State
     let mut orientation = layout.orientation;
     let mut x = layout.x;
     let mut y = layout.y;
+    let mut gap = layout.gap;
     orientation[at] = place::next::number_of(o, n);
     x[at] = place::next::x_of(o);
     y[at] = place::next::y_of(o);
+    gap[at] = place::next::gap_of(o);
     let after = at + 1;
     let t = step.totals;
     State {
@@ -86,6 +88,7 @@ fn taken(state: State, n: usize, step: Step, tracks: &[usize]) -> State
             orientation: orientation,
             x: x,
             y: y,
+            gap: gap,
             unplaced_area: t.unplaced_area,
             right: t.right,
         },

@@ -70,6 +70,8 @@ fn agree(
     let next_column = state.next_column;
     let look_counts = state.look_counts;
     let layout = state.layout;
+    let orientation = layout.orientation;
+    let gap = layout.gap;
     let b = tables.sheet_bounds;
     consistent::consistent(
         state.taken,
@@ -97,6 +99,8 @@ fn agree(
         starts,
         sheet_firsts,
         firsts,
+        &orientation,
+        &gap,
     )
 }
 

@@ -77,8 +77,8 @@ fn round(
         let other = 1 - b.kept;
         let track = 6144 * other;
         let track_end = track + 6144;
-        let spot = 8192 * other;
-        let spot_end = spot + 8192;
+        let spot = 12288 * other;
+        let spot_end = spot + 12288;
         let f = fill_order::fill_order(
             g,
             order,

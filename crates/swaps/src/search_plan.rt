@@ -38,10 +38,10 @@ pub fn two_tracks() -> [usize; 12288]
 }
 
 // Two halves for spots.
-pub fn two_spots() -> [f64; 16384]
-    ensures { λ r. ⌜ length r ≡ 16384 ⌝ }
+pub fn two_spots() -> [f64; 24576]
+    ensures { λ r. ⌜ length r ≡ 24576 ⌝ }
 {
-    [0.0; 16384]
+    [0.0; 24576]
 }
 
 fn slot_numbers() -> [usize; 1024]
@@ -141,7 +141,7 @@ fn report_kept(
 ) -> NestResult
     requires { ⌜ (kinds ≤ 64) × (256 ≤ length (now rows)) × (4096 ≤ length (now parts))
         × (r .verdict ≡ Accepted → (i : ℕ) → i < length (now order) → getD (now order) i 0 < kinds)
-        × (length (now order) ≤ 4096) × (5 * length (now order) ≤ length (now positions))
+        × (length (now order) ≤ 4096) × (6 * length (now order) ≤ length (now positions))
         × (r .best .kept ≤ 1) × (2 * trackNumbers ≤ length (now tracks)) × (2 * spotNumbers ≤ length (now spots)) ⌝ }
     ensures { λ q. ⌜ ((j : Job) (areas : List Float) (l : Lent) → Tabled j (now (rows .entry)) areas → length (j .kinds) ≡ kinds
         → plannerOf j .bounds .right ≡ «sheet_right» → Parted (plannerOf j) (now (parts .entry)) (now (shapes .entry))
@@ -154,16 +154,18 @@ fn report_kept(
     let totals = best.totals;
     let track = 6144 * best.kept;
     let track_end = track + 6144;
-    let spot = 8192 * best.kept;
-    let spot_end = spot + 8192;
+    let spot = 12288 * best.kept;
+    let spot_end = spot + 12288;
     let mut look_counts = slot_numbers();
     let mut orientation = copy_numbers();
     let mut x = copy_doubles();
     let mut y = copy_doubles();
+    let mut gap = copy_doubles();
     rooms::tracks::read_numbers(&tracks[track..track_end], 2, 1, &mut look_counts);
     rooms::tracks::read_numbers(&tracks[track..track_end], 1, 2048, &mut orientation);
-    rooms::tracks::read_doubles(&spots[spot..spot_end], 2, 0, &mut x);
-    rooms::tracks::read_doubles(&spots[spot..spot_end], 2, 1, &mut y);
+    rooms::tracks::read_doubles(&spots[spot..spot_end], 3, 0, &mut x);
+    rooms::tracks::read_doubles(&spots[spot..spot_end], 3, 1, &mut y);
+    rooms::tracks::read_doubles(&spots[spot..spot_end], 3, 2, &mut gap);
     report::report(
         verdict,
         totals,
@@ -173,6 +175,7 @@ fn report_kept(
         &orientation,
         &x,
         &y,
+        &gap,
         &look_counts,
         parts,
         shapes,
@@ -205,7 +208,7 @@ pub fn search_plan(
     requires { ⌜ ((j : Job) × Prepared j (givenBy tables (now rows) (now areas) (now shapes) (now sheet) (now «sheet_entries») (now «sheet_starts»))
         × (rearranged j (now order) ≡ true) × (length (j .kinds) ≡ kinds))
         × (6 * tables .«sheet_strips» ≤ length (now sheet)) × (6 * tables .«apart_strips» ≤ length (now shapes))
-        × (5 * length (now order) ≤ length (now positions)) × (n < 4096)
+        × (6 * length (now order) ≤ length (now positions)) × (n < 4096)
         × SheetFirsts (givenBy tables (now rows) (now areas) (now shapes) (now sheet) (now «sheet_entries») (now «sheet_starts»)) (now «sheet_firsts») ⌝ }
     ensures { λ r. ⌜ ((j : Job) (l : Lent) → Prepared j (givenBy tables (now (rows .entry)) (now (areas .entry)) (now (shapes .entry)) (now (sheet .entry))
         (now («sheet_entries» .entry)) (now («sheet_starts» .entry)))

@@ -22,7 +22,7 @@ use Rattle.nesting.specs.Text.{decimal, hex, line, putWord, leftWord, fillWord,
 use Rattle.lines.specs.inner.Writing.{Wrote}
 use Rattle.lines.proofs.Appending.{wrote-none, wrote-both, wrote-same}
 use Rattle.lines.proofs.Digits.{decimal-length, hex-length}
-use Rattle.lines.proofs.Lines.{line-one, line-two, line-three, line-five}
+use Rattle.lines.proofs.Lines.{line-one, line-two, line-three, line-six}
 use Rattle.text.specs.inner.Tables.{fillAt, putsTo, leftsTo, fillsTo, lookAt, looksOf, looksTo}
 
 -- ---- one line more
@@ -38,7 +38,7 @@ lines-next f i u v =
 
 -- ---- lengths
 
-pub put-most : (room : List Float) (i : ℕ) → length (putLine (positionAt room i)) ≤ 101
+pub put-most : (room : List Float) (i : ℕ) → length (putLine (positionAt room i)) ≤ 118
 unfolding putLine
 put-most room i =
     let q = positionAt room i in
@@ -47,13 +47,23 @@ put-most room i =
     let c = decimal (q .orientation) in
     let d = hex (q .x) in
     let e = hex (q .y) in
-    rw (sym (line-five putWord a b c d e))
-    (let l4 = length-append e (10 ∷ []) in
-    let l3 = length-append d ((32 ∷ e) ++ (10 ∷ [])) in
-    let l2 = length-append c ((32 ∷ d) ++ ((32 ∷ e) ++ (10 ∷ []))) in
-    let l1 = length-append b ((32 ∷ c) ++ ((32 ∷ d) ++ ((32 ∷ e) ++ (10 ∷ [])))) in
-    let l0 = length-append a ((32 ∷ b) ++ ((32 ∷ c) ++ ((32 ∷ d) ++ ((32 ∷ e) ++ (10 ∷ []))))) in
-    omega (arith, decimal-length (q .kind), decimal-length (q .copy), decimal-length (q .orientation), hex-length (q .x), hex-length (q .y)))
+    let f = hex (q .gap) in
+    rw (sym (line-six putWord a b c d e f))
+    (let l5 = length-append f (10 ∷ []) in
+    let l4 = length-append e ((32 ∷ f) ++ (10 ∷ [])) in
+    let l3 = length-append d ((32 ∷ e) ++ ((32 ∷ f) ++ (10 ∷ []))) in
+    let l2 = length-append c ((32 ∷ d) ++ ((32 ∷ e) ++ ((32 ∷ f) ++ (10 ∷ [])))) in
+    let l1 = length-append b ((32 ∷ c) ++ ((32 ∷ d) ++ ((32 ∷ e) ++ ((32 ∷ f) ++ (10 ∷ []))))) in
+    let l0 = length-append a ((32 ∷ b) ++ ((32 ∷ c) ++ ((32 ∷ d) ++ ((32 ∷ e) ++ ((32 ∷ f) ++ (10 ∷ [])))))) in
+    omega (
+      arith,
+      decimal-length (q .kind),
+      decimal-length (q .copy),
+      decimal-length (q .orientation),
+      hex-length (q .x),
+      hex-length (q .y),
+      hex-length (q .gap),
+    ))
 
 pair-most : (w : List ℕ) (a b : ℕ) → length (line w (decimal a ∷ decimal b ∷ [])) ≤ length w + 43
 pair-most w a b =

@@ -1,6 +1,6 @@
 // The text of a reply (document 01, "The printed plan") as bytes in a lent buffer. Every function
 // answers where it ended. Only crates of ours call them: the tables must be an accepted job's, and
-// the buffer must be long enough; 524,288 bytes are for every plan.
+// the buffer must be long enough; 589,824 bytes are for every plan.
 pub mod printed;
 
 ghost use Prim.Native.Nat.{ℕ, _+_, _*_, _≤_, _<_};
@@ -21,10 +21,10 @@ use filling::Verdict;
 
 // The line of position i of a room.
 fn put_line(out: &mut [u8], at: usize, room: &[f64], i: usize) -> usize
-    requires { ⌜ (at + 101 ≤ length (now out)) × (5 * i + 5 ≤ length (now room)) ⌝ }
+    requires { ⌜ (at + 118 ≤ length (now out)) × (6 * i + 6 ≤ length (now room)) ⌝ }
     ensures { λ r. ⌜ Wrote (now (out .entry)) at (putLine (positionAt (now (room .entry)) i)) (now (out .exit)) r ⌝ }
 {
-    let p = 5 * i;
+    let p = 6 * i;
     let kind = numbers::floor(room[p]) as usize;
     let copy = numbers::floor(room[p + 1]) as usize;
     let orientation = numbers::floor(room[p + 2]) as usize;
@@ -37,13 +37,14 @@ fn put_line(out: &mut [u8], at: usize, room: &[f64], i: usize) -> usize
         orientation,
         room[p + 3],
         room[p + 4],
+        room[p + 5],
     )
 }
 
 // The lines of the first n positions.
 fn put_lines(out: &mut [u8], at: usize, room: &[f64], n: usize) -> usize
-    requires { ⌜ (at + 101 * n ≤ length (now out)) × (5 * n ≤ length (now room)) ⌝ }
-    ensures { λ r. ⌜ Wrote (now (out .entry)) at (putsTo (now (room .entry)) n) (now (out .exit)) r × (r ≤ at + 101 * n) ⌝ }
+    requires { ⌜ (at + 118 * n ≤ length (now out)) × (6 * n ≤ length (now room)) ⌝ }
+    ensures { λ r. ⌜ Wrote (now (out .entry)) at (putsTo (now (room .entry)) n) (now (out .exit)) r × (r ≤ at + 118 * n) ⌝ }
 {
     let mut end = at;
     let mut i = 0;
@@ -181,10 +182,10 @@ pub fn plan_text(
     unplaced_area: f64,
     offcut: f64,
 ) -> usize
-    requires { ⌜ (524288 ≤ length (now out)) × (kinds ≤ 64) × (4 * kinds ≤ length (now rows)) × ((k : ℕ) → k < kinds → getD (now rows) (4 * k + 3) 0 ≤ 16)
-        × (placed ≤ 4096) × (5 * placed ≤ length (now room)) × (kinds ≤ length (now «placed_of»)) × (kinds ≤ length (now «unplaced_of»))
+    requires { ⌜ (589824 ≤ length (now out)) × (kinds ≤ 64) × (4 * kinds ≤ length (now rows)) × ((k : ℕ) → k < kinds → getD (now rows) (4 * k + 3) 0 ≤ 16)
+        × (placed ≤ 4096) × (6 * placed ≤ length (now room)) × (kinds ≤ length (now «placed_of»)) × (kinds ≤ length (now «unplaced_of»))
         × (16 * kinds ≤ length (now «look_counts»)) ⌝ }
-    ensures { λ r. ⌜ (r ≤ 524288) × ((j : Job) (areas : List Float) → Tabled j (now (rows .entry)) areas → length (j .kinds) ≡ kinds
+    ensures { λ r. ⌜ (r ≤ 589824) × ((j : Job) (areas : List Float) → Tabled j (now (rows .entry)) areas → length (j .kinds) ≡ kinds
         → take r (now (out .exit)) ≡ planText j (record {
           placed = placed;
           unplaced = unplaced;
@@ -231,10 +232,10 @@ pub fn reply_text(
     unplaced_area: f64,
     offcut: f64,
 ) -> usize
-    requires { ⌜ (524288 ≤ length (now out)) × (kinds ≤ 64) × (4 * kinds ≤ length (now rows)) × ((k : ℕ) → k < kinds → getD (now rows) (4 * k + 3) 0 ≤ 16)
-        × (placed ≤ 4096) × (5 * placed ≤ length (now room)) × (kinds ≤ length (now «placed_of»)) × (kinds ≤ length (now «unplaced_of»))
+    requires { ⌜ (589824 ≤ length (now out)) × (kinds ≤ 64) × (4 * kinds ≤ length (now rows)) × ((k : ℕ) → k < kinds → getD (now rows) (4 * k + 3) 0 ≤ 16)
+        × (placed ≤ 4096) × (6 * placed ≤ length (now room)) × (kinds ≤ length (now «placed_of»)) × (kinds ≤ length (now «unplaced_of»))
         × (16 * kinds ≤ length (now «look_counts»)) ⌝ }
-    ensures { λ r. ⌜ (r ≤ 524288) × ((j : Job) (areas : List Float) (l : Lent) → (verdict ≡ Accepted → Tabled j (now (rows .entry)) areas
+    ensures { λ r. ⌜ (r ≤ 589824) × ((j : Job) (areas : List Float) (l : Lent) → (verdict ≡ Accepted → Tabled j (now (rows .entry)) areas
         × (length (j .kinds) ≡ kinds)) → l .positions ≡ now (room .entry)
         → take r (now (out .exit)) ≡ replyText j
         (record {

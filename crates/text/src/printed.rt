@@ -10,7 +10,7 @@ use filling::Refusal;
 use filling::Verdict;
 use job::JobRead;
 
-// The text of a reply, from the beginning of a buffer of 524,288 bytes: where it ends. Only crates
+// The text of a reply, from the beginning of a buffer of 589,824 bytes: where it ends. Only crates
 // of ours call it.
 pub fn print_reply(
     bytes: &[u8],
@@ -19,8 +19,8 @@ pub fn print_reply(
     positions: &[f64],
     out: &mut [u8],
 ) -> usize
-    requires { ⌜ (plan .placed ≤ 4096) × (5 * plan .placed ≤ length (now positions)) × (524288 ≤ length (now out)) ⌝ }
-    ensures { λ r. ⌜ (r ≤ 524288) × ((l : Lent) → l .positions ≡ now (positions .entry) → take r (now (out .exit)) ≡ printedFor (readJob (now (bytes .entry)))
+    requires { ⌜ (plan .placed ≤ 4096) × (6 * plan .placed ≤ length (now positions)) × (589824 ≤ length (now out)) ⌝ }
+    ensures { λ r. ⌜ (r ≤ 589824) × ((l : Lent) → l .positions ≡ now (positions .entry) → take r (now (out .exit)) ≡ printedFor (readJob (now (bytes .entry)))
         (record { verdict = verdict; plan = plan; lent = l })) ⌝ }
 {
     let placed_of = plan.placed_of;

@@ -37,10 +37,10 @@ fn interval_room() -> [f64; 8192]
     [1.0; 8192]
 }
 
-fn position_room() -> [f64; 20480]
-    ensures { λ r. ⌜ 20480 ≡ length r ⌝ }
+fn position_room() -> [f64; 24576]
+    ensures { λ r. ⌜ 24576 ≡ length r ⌝ }
 {
-    [1.0; 20480]
+    [1.0; 24576]
 }
 
 // The smaller of two.
@@ -101,7 +101,7 @@ fn print_filling(
     let mut sheet_firsts = first_room();
     let mut placed_firsts = first_room();
     let mut intervals = interval_room();
-    let mut positions = [1.0; 40];
+    let mut positions = [1.0; 48];
     let n = at_most(copies, 8);
     let m = at_most(entries, 132000);
     let number = plan_exports::given::panel_fill(

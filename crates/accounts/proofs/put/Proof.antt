@@ -12,7 +12,8 @@ use Rattle.accounts.proofs.put.Tie as tie
 returns : tie.Need-returns
 returns c = let a = c .before .before .before .before .args in (
   put-none (a .copies .now) (a .k) (a .number) (c .if1 .taken),
-  put-none-room (a .room .now) (getD (a .starts .now) (a .k) 0 + getD (a .copies .now) (a .k) 0) (a .k) (getD (a .copies .now) (a .k) 0) (a .number) (a .x) (a .y) (c .if1 .taken),
+  put-none-room (a .room .now) (getD (a .starts .now) (a .k) 0 + getD (a .copies .now) (a .k) 0) (a .k) (getD (a .copies .now) (a .k) 0) (a .number) (a .x)
+      (a .y) (a .gap) (c .if1 .taken),
 )
 
 mul-c : tie.Need-mul-c
@@ -34,7 +35,9 @@ sub-store-position : tie.Need-sub-store-position
 sub-store-position c = search needs
 
 store-position-requires : tie.Need-store-position-requires
-store-position-requires c κs = let a = c .before .before .before .before .before .before .before .args in let e = stands-some (a .number) (c .before .before .before .if1 .left) in let p = c .before .before .before .before .before .before .before .pre .2 in omega arith
+store-position-requires c κs =
+    let c7 = c .before .before .before .before .before .before .before in
+    let a = c7 .args in let e = stands-some (a .number) (c .before .before .before .if1 .left) in let p = c7 .pre .2 in omega arith
 
 add-copies : tie.Need-add-copies
 add-copies c = search needs
@@ -52,10 +55,13 @@ same-length-2 : tie.Need-same-length-2
 same-length-2 c = search needs
 
 returns-2 : tie.Need-returns-2
-returns-2 c = let a = c .before .before .before .before .before .before .before .before .before .before .args in let h = c .before .before .before .before .before .before .if1 .left in (
-  put-some (a .copies .now) (a .k) (a .number) h,
-  c .before .before .store-position .ensures ∙ put-some-room (a .room .now) (getD (a .starts .now) (a .k) 0 + getD (a .copies .now) (a .k) 0) (a .k) (getD (a .copies .now) (a .k) 0) (a .number) (a .x) (a .y) h,
-)
+returns-2 c =
+    let c10 = c .before .before .before .before .before .before .before .before .before .before in
+    let a = c10 .args in let h = c .before .before .before .before .before .before .if1 .left in (
+      put-some (a .copies .now) (a .k) (a .number) h,
+      c .before .before .store-position .ensures ∙ put-some-room (a .room .now) (getD (a .starts .now) (a .k) 0 + getD (a .copies .now) (a .k) 0) (a .k)
+          (getD (a .copies .now) (a .k) 0) (a .number) (a .x) (a .y) (a .gap) h,
+    )
 
 pub put-spec : {M : Type 1} → statement M
 put-spec =

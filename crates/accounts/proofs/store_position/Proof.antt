@@ -24,4 +24,4 @@ store-position-spec =
     tie.close (tie.spec (λ c. search needs) nearest-u64-to-f64-requires (λ c. search needs) (λ c. search needs) nearest-u64-to-f64-requires-2
     (λ c. search needs) (λ c. search needs) (λ c. simp length-set (omega arith)) nearest-u64-to-f64-requires-3 (λ c. search needs) (λ c. search needs)
     (λ c. simp length-set (omega arith)) (λ c. search needs) (λ c. search needs) (λ c. simp length-set (omega arith)) (λ c. search needs) (λ c. search needs)
-    (λ c. simp length-set (omega arith)) (λ c. search needs) returns)
+    (λ c. simp length-set (omega arith)) (λ c. search needs) (λ c. search needs) (λ c. simp length-set (omega arith)) (λ c. search needs) returns)

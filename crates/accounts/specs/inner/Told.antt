@@ -9,11 +9,12 @@ use Rattle.filling.specs.Shapes.{plannerOf}
 use Rattle.filling.specs.Accounts.{offcutOf}
 
 -- the order, the copies' places, the look counts, and how many copies are taken
-pub record PlanTold (s : State) (order orientation : List ℕ) (x y : List Float) (looks : List ℕ) (taken : ℕ) : Type 0 where
+pub record PlanTold (s : State) (order orientation : List ℕ) (x y gap : List Float) (looks : List ℕ) (taken : ℕ) : Type 0 where
   pub order-is : s .order ≡ order
   pub orientation-is : s .layout .orientation ≡ orientation
   pub x-is : s .layout .x ≡ x
   pub y-is : s .layout .y ≡ y
+  pub gap-is : s .layout .gap ≡ gap
   pub looks-are : s .«look_counts» ≡ looks
   pub taken-is : s .taken ≡ taken
 

@@ -1,6 +1,7 @@
 -- What the exported functions answer. Definitions only. Assumes nothing.
 use Prim.Native.Nat.{ℕ, _+_}
 use lib.Ieee.{Float, binary64, ofBits, neg}
+use Rattle.numbers.specs.Numbers.{posZero}
 use Rattle.strips.specs.declared.Stored.{Stored}
 use Rattle.strips.specs.declared.Stored.the-variants.{Count, NoRoom}
 use Rattle.job.specs.declared.Verdict.{Verdict}
@@ -23,10 +24,20 @@ told NoRoom cap = cap + 1
 
 -- a free height; 1e300 where it is full
 unfoldable pub heightTold : Look → Float
-heightTold (Free h) = h
+heightTold (Free h g) = h
 heightTold Full = ofBits binary64 0x7E37_E43C_8800_759C
 
 -- the same of a look; −1e300 where the room does not hold its intervals
 unfoldable pub lookTold : Answer → Float
 lookTold NoRoom = neg (ofBits binary64 0x7E37_E43C_8800_759C)
 lookTold (Seen l) = heightTold l
+
+-- the clear height above a free height; 0 where it is full
+unfoldable pub gapTold : Look → Float
+gapTold (Free h g) = g
+gapTold Full = posZero
+
+-- the same of a look; 0 where the room does not hold its intervals
+unfoldable pub gapSeen : Answer → Float
+gapSeen NoRoom = posZero
+gapSeen (Seen l) = gapTold l

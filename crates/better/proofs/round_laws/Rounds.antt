@@ -53,35 +53,35 @@ module _ (j : Job) (l : Lent) (q : Kept) where
     round-ends h = drawn ∙ ap (roundWith r2 a b) (sym et ∙ h)
 
 -- the state of the draws that stands in what was kept before decides nothing
-other-random : (random : ℕ) (b b' : Best) (p : Planner) (order old bc bl bo : List ℕ) (bx by : List Float) (f : Filling) → b .totals ≡ b' .totals →
-    b .improvements ≡ b' .improvements → judged random order (keptBy b p old bc bl bo bx by) f ≡ judged random order (keptBy b' p old bc bl bo bx by) f
+other-random : (random : ℕ) (b b' : Best) (p : Planner) (order old bc bl bo : List ℕ) (bx by bg : List Float) (f : Filling) → b .totals ≡ b' .totals →
+    b .improvements ≡ b' .improvements → judged random order (keptBy b p old bc bl bo bx by bg) f ≡ judged random order (keptBy b' p old bc bl bo bx by bg) f
 unfolding judged
-other-random random b b' p order old bc bl bo bx by (stopped k) e i = refl
-other-random random b b' p order old bc bl bo bx by (filled s) e i = rw (e, i)
+other-random random b b' p order old bc bl bo bx by bg (stopped k) e i = refl
+other-random random b b' p order old bc bl bo bx by bg (filled s) e i = rw (e, i)
 
 -- ---- a swap that is tried
 module _ (j : Job) (l : Lent) (b : Best) (i k : ℕ) (order now : List ℕ) (e : now ≡ swapped i k order) (back : swapped i k now ≡ order) (bc bl bo : List ℕ)
-    (bx by : List Float) where
-  pub tried : (f : Filling) (s : Swaps) → f ≡ fillOrder j l now → s ≡ judged (b .random) now (keptBy b (plannerOf j) (swapped i k now) bc bl bo bx by) f
-      → s ≡ judged (b .random) (swapped i k order) (keptBy b (plannerOf j) order bc bl bo bx by) (fillOrder j l (swapped i k order))
+    (bx by bg : List Float) where
+  pub tried : (f : Filling) (s : Swaps) → f ≡ fillOrder j l now → s ≡ judged (b .random) now (keptBy b (plannerOf j) (swapped i k now) bc bl bo bx by bg) f
+      → s ≡ judged (b .random) (swapped i k order) (keptBy b (plannerOf j) order bc bl bo bx by bg) (fillOrder j l (swapped i k order))
   tried f s g h =
       h
-      ∙ (ap (judged (b .random) now (keptBy b (plannerOf j) (swapped i k now) bc bl bo bx by)) g
-      ∙ (ap (λ (o : List ℕ). judged (b .random) now (keptBy b (plannerOf j) o bc bl bo bx by) (fillOrder j l now)) back
-      ∙ ap (λ (o : List ℕ). judged (b .random) o (keptBy b (plannerOf j) order bc bl bo bx by) (fillOrder j l o)) e))
+      ∙ (ap (judged (b .random) now (keptBy b (plannerOf j) (swapped i k now) bc bl bo bx by bg)) g
+      ∙ (ap (λ (o : List ℕ). judged (b .random) now (keptBy b (plannerOf j) o bc bl bo bx by bg) (fillOrder j l now)) back
+      ∙ ap (λ (o : List ℕ). judged (b .random) o (keptBy b (plannerOf j) order bc bl bo bx by bg) (fillOrder j l o)) e))
 
-module _ (j : Job) (l : Lent) (b : Best) (order bc bl bo : List ℕ) (bx by : List Float) (r1 r2 i k : ℕ) (t : Bool) (e1 : r1 ≡ nextState (b .random))
+module _ (j : Job) (l : Lent) (b : Best) (order bc bl bo : List ℕ) (bx by bg : List Float) (r1 r2 i k : ℕ) (t : Bool) (e1 : r1 ≡ nextState (b .random))
     (ei : i ≡ mixed (nextState (b .random)) % length order) (e2 : r2 ≡ nextState r1) (ek : k ≡ mixed (nextState r1) % length order)
     (et : t ≡ swappable (j .kinds) (getD order i 0) (getD order k 0)) where
   abbrev after : Best
   after = record { random = r2; totals = b .totals; improvements = b .improvements; kept = b .kept }
 
-  pub round-tried : t ≡ true → (s : Swaps) → s ≡ judged r2 (swapped i k order) (keptBy after (plannerOf j) order bc bl bo bx by)
-      (fillOrder j l (swapped i k order)) → s ≡ oneRound j l (keptBy b (plannerOf j) order bc bl bo bx by)
+  pub round-tried : t ≡ true → (s : Swaps) → s ≡ judged r2 (swapped i k order) (keptBy after (plannerOf j) order bc bl bo bx by bg)
+      (fillOrder j l (swapped i k order)) → s ≡ oneRound j l (keptBy b (plannerOf j) order bc bl bo bx by bg)
   round-tried h s f =
       f
-      ∙ (other-random r2 after b (plannerOf j) (swapped i k order) order bc bl bo bx by (fillOrder j l (swapped i k order)) refl refl
-      ∙ sym (round-swaps j l (keptBy b (plannerOf j) order bc bl bo bx by) r1 r2 i k t e1 ei e2 ek et h))
+      ∙ (other-random r2 after b (plannerOf j) (swapped i k order) order bc bl bo bx by bg (fillOrder j l (swapped i k order)) refl refl
+      ∙ sym (round-swaps j l (keptBy b (plannerOf j) order bc bl bo bx by bg) r1 r2 i k t e1 ei e2 ek et h))
 
-  pub round-over : t ≡ false → kept (keptBy after (plannerOf j) order bc bl bo bx by) ≡ oneRound j l (keptBy b (plannerOf j) order bc bl bo bx by)
-  round-over h = sym (round-ends j l (keptBy b (plannerOf j) order bc bl bo bx by) r1 r2 i k t e1 ei e2 ek et h)
+  pub round-over : t ≡ false → kept (keptBy after (plannerOf j) order bc bl bo bx by bg) ≡ oneRound j l (keptBy b (plannerOf j) order bc bl bo bx by bg)
+  round-over h = sym (round-ends j l (keptBy b (plannerOf j) order bc bl bo bx by bg) r1 r2 i k t e1 ei e2 ek et h)

@@ -14,7 +14,7 @@ use Rattle.filling.specs.Shapes.{Planner, plannerOf}
 use Rattle.filling.specs.Rooms.{Lent}
 use Rattle.filling.specs.Order.{rearranged}
 use Rattle.filling.specs.Fill.{Filling, filled, stopped, fillOrder}
-use Rattle.rooms.specs.tracks.inner.Tracks.{nextColumns, lookCounts, orientations, xs, ys, trackNumbers, spotNumbers}
+use Rattle.rooms.specs.tracks.inner.Tracks.{nextColumns, lookCounts, orientations, xs, ys, gaps, trackNumbers, spotNumbers}
 use Rattle.accounts.specs.tables.inner.Tabled.{Tabled}
 use Rattle.place.specs.declared.Totals.{Totals}
 use Rattle.nesting.specs.Rounds.{Kept, Swaps, kept, swapped, judged, oneRound}
@@ -93,7 +93,7 @@ module _ (j : Job) (l : Lent) (areas : List Float) (first : Bool) (b : Best) (ro
 
   -- what was kept, as it lies in the tables
   abbrev Was : List ℕ → List ℕ → List Float → Kept
-  Was o u z = keptBy (afterDraw b d) P o (nextColumns u) (lookCounts u) (orientations u) (xs z) (ys z)
+  Was o u z = keptBy (afterDraw b d) P o (nextColumns u) (lookCounts u) (orientations u) (xs z) (ys z) (gaps z)
 
   abbrev Turn : Bool → Swaps
   Turn t = turnOf j l t (keptIn b P order tracks spots)
@@ -103,8 +103,8 @@ module _ (j : Job) (l : Lent) (areas : List Float) (first : Bool) (b : Best) (ro
       let f = w .rests t .0 in
       ap (λ (o : List ℕ). kept (Was o (keptTracks b tracks) (keptSpots b spots))) (w .rests t .1)
       ∙ (round-over j l b order (nextColumns (keptTracks b tracks)) (lookCounts (keptTracks b tracks)) (orientations (keptTracks b tracks))
-      (xs (keptSpots b spots)) (ys (keptSpots b spots)) (nextState (b .random)) (d .random) (d .i) (d .k) (d .fills) refl (w .draws f .1) (w .draws f .0)
-      (w .draws f .2) (w .may f j areas tabled below) t
+      (xs (keptSpots b spots)) (ys (keptSpots b spots)) (gaps (keptSpots b spots)) (nextState (b .random)) (d .random) (d .i) (d .k) (d .fills) refl
+      (w .draws f .1) (w .draws f .0) (w .draws f .2) (w .may f j areas tabled below) t
       ∙ (sym (later-turn j l (keptIn b P order tracks spots)) ∙ sym (ap Turn f)))
 
   module _ (t : d .fills ≡ true) (s : Swaps) where
@@ -125,10 +125,10 @@ module _ (j : Job) (l : Lent) (areas : List Float) (first : Bool) (b : Best) (ro
     later-filled f ef e es =
         let u = keptTracks b tracks in
         let z = keptSpots b spots in
-        round-tried j l b order (nextColumns u) (lookCounts u) (orientations u) (xs z) (ys z) (nextState (b .random)) (d .random) (d .i) (d .k) (d .fills) refl
-        (w .draws e .1) (w .draws e .0) (w .draws e .2) (w .may e j areas tabled below) t s
+        round-tried j l b order (nextColumns u) (lookCounts u) (orientations u) (xs z) (ys z) (gaps z) (nextState (b .random)) (d .random) (d .i) (d .k)
+        (d .fills) refl (w .draws e .1) (w .draws e .0) (w .draws e .2) (w .may e j areas tabled below) t s
         (tried j l (afterDraw b d) (d .i) (d .k) order after (w .swaps e t) (back (d .i) (d .k) order after (w .swaps e t) (w .draws e .3) (w .draws e .4))
-        (nextColumns u) (lookCounts u) (orientations u) (xs z) (ys z) f s ef
+        (nextColumns u) (lookCounts u) (orientations u) (xs z) (ys z) (gaps z) f s ef
         (es ∙ (ap (λ (y : Bool). judgedAs y (d .random) after (Back u z) f) e ∙ later-judged (d .random) after (Back u z) f)))
         ∙ (sym (later-turn j l (keptIn b P order tracks spots)) ∙ sym (ap Turn e))
 

@@ -46,7 +46,7 @@ apartPart p room = partOf room (p .«apart_start») (p .«apart_count»)
 
 -- what orientation o found
 abbrev pub winnerOf : Columns → Rect → ℕ → Found → Winner
-winnerOf k b o (Founds.At c y) = At (record { orientation = o; x = columnX k c; y = y; right = columnX k c ⊕ b .right; top = y ⊕ b .top })
+winnerOf k b o (Founds.At c y g) = At (record { orientation = o; x = columnX k c; y = y; gap = g; right = columnX k c ⊕ b .right; top = y ⊕ b .top })
 winnerOf k b o Founds.Nowhere = Nowhere
 winnerOf k b o Founds.Overflow = Overflow
 

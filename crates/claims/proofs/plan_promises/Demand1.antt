@@ -16,7 +16,9 @@ use Rattle.filling.specs.declared.Verdict.{Verdict}
 use Rattle.filling.specs.declared.Verdict.the-variants.{Accepted, Refused}
 use Rattle.filling.specs.Refusals.{numberOf, verdictNumber, refuseIf}
 use Rattle.filling.specs.Shapes.{plannerOf}
-use Rattle.filling.specs.Rooms.{Lent, positionCapacity}
+use Rattle.filling.specs.Rooms.{Rooms, Lent, positionCapacity}
+use Rattle.filling.specs.Consistent.{gapsFit}
+use Rattle.filling.specs.Plain.{Plain}
 use Rattle.filling.specs.Start.{prepareVerdict, startVerdict, noStart, startGiven, startOf}
 use Rattle.filling.specs.Fill.{Filling, filled, stopped, fillOrder, notPlanned, plannedWith, plannedBy, fillJob, fillGiven, fillOf}
 use Rattle.filling.specs.RefusalLines.{Line, firstMet, positionLine, prepareLines, startLines}
@@ -28,6 +30,7 @@ use Rattle.filling.proofs.Refused.{start-met, start-verdict}
 use Rattle.nesting.specs.Rounds.{Kept, Swaps, kept, ended, swapSearch}
 use Rattle.nesting.specs.Nest.{nestVerdict, nested, nestJob, nestGiven, nestOf}
 use Rattle.filling.proofs.promises.Numbers.{LentNumbers}
+use Rattle.filling.proofs.promises.Stays.{Held}
 use Rattle.filling.proofs.promises.Left.{PlanNumbers, OffcutBounds, not-planned, offcut-bounds, planned-numbers}
 use Rattle.filling.specs.promises.Ample.{Ample, AmpleIntervals, AmpleStart}
 use Rattle.filling.proofs.promises.Suffice.{start-fits, fill-ends}
@@ -193,16 +196,23 @@ module _ (bytes : List ℕ) (j : Job) (e : readJob bytes ≡ accepted j) (l : Le
   found-numbers pos prep (kept q) (keeps h) = planned-numbers bytes j e (q .order) (q .state) (h .rooms) (h .plain) (h .held) l (q .improvements)
   found-numbers pos prep (ended r) s = not-planned r l
 
-  -- the offcut of the filling that is kept
-  found-offcut : (pos : ltb (positionCapacity (l .positions)) (j .copies) ≡ false) (prep : prepareVerdict (plannerOf j) (l .rooms) ≡ Accepted)
-      → (q : Kept) → Sound bytes j e l pos prep RoomRefusal (kept q) → OffcutBounds j (q .state)
-  found-offcut pos prep q (keeps h) = offcut-bounds bytes j e (q .order) (q .state) (h .rooms) (h .plain) (h .held)
+  -- ---- the filling that is kept
 
-  pub nest-offcut : nestVerdict j l ≡ Accepted → (q : Kept) → swapSearch j l ≡ kept q → OffcutBounds j (q .state)
-  nest-offcut d q f =
+  found-held : (pos : ltb (positionCapacity (l .positions)) (j .copies) ≡ false) (prep : prepareVerdict (plannerOf j) (l .rooms) ≡ Accepted)
+      → (q : Kept) → Sound bytes j e l pos prep RoomRefusal (kept q) → (w : Rooms) × (p : Plain) × Held bytes j e (q .order) (q .state) w p
+  found-held pos prep q (keeps h) = (h .rooms, h .plain, h .held)
+
+  nest-held : nestVerdict j l ≡ Accepted → (q : Kept) → swapSearch j l ≡ kept q → (w : Rooms) × (p : Plain) × Held bytes j e (q .order) (q .state) w p
+  nest-held d q f =
       let t = tested j l d in
       let s = search-sound bytes j e l (t .0) (t .1) RoomRefusal (stopped-is bytes j e l (t .0) (t .1)) in
-      found-offcut (t .0) (t .1) q (subst (λ (w : Swaps). Sound bytes j e l (t .0) (t .1) RoomRefusal w) f s)
+      found-held (t .0) (t .1) q (subst (λ (w : Swaps). Sound bytes j e l (t .0) (t .1) RoomRefusal w) f s)
+
+  pub nest-offcut : nestVerdict j l ≡ Accepted → (q : Kept) → swapSearch j l ≡ kept q → OffcutBounds j (q .state)
+  nest-offcut d q f = let h = nest-held d q f in offcut-bounds bytes j e (q .order) (q .state) (h .0) (h .1) (h .2)
+
+  pub nest-gaps : nestVerdict j l ≡ Accepted → (q : Kept) → swapSearch j l ≡ kept q → gapsFit (q .state) ≡ true
+  nest-gaps d q f = nest-held d q f .2 .own .fine .gaps
 
   job-numbers : (v : Verdict) → nestVerdict j l ≡ v → PlanNumbers (nestJob j l .plan) × LentNumbers (nestJob j l .lent)
   job-numbers (Refused r) d = rw (nest-stops j l r d) (not-planned r l)

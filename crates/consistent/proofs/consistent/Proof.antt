@@ -1,10 +1,11 @@
 -- `consistent::consistent` meets its contract. Assumes nothing.
 use native.Mathlib.Nat.{le-trans}
 use mathlib.Core.Path.{sym, _∙_}
+use borrow.Author.Tests.{not-false}
 use Rattle.filling.specs.Rooms.{roomsOf}
 use Rattle.consistent.specs.inner.Tests.{stateOf}
 use Rattle.consistent.proofs.SameTests.{consistent-is}
-use Rattle.consistent.proofs.strip_tests.Bounding.{never}
+use Rattle.consistent.proofs.strip_tests.Bounding.{never, passed, failed}
 use Rattle.consistent.proofs.Cases.{both-yes, both-no}
 use borrow.Author.Needs.{needs}
 use Rattle.consistent.proofs.consistent.Statement.{statement}
@@ -13,26 +14,63 @@ use Rattle.consistent.proofs.consistent.Tie as tie
 state-fits-requires : tie.Need-state-fits-requires
 state-fits-requires c κs = search needs
 
+returns : tie.Need-returns
+returns c =
+    let c16 = c .before .before .before .before .before .before .before .before .before .before .before .before .before .before .before .before in
+    let c19 = c16 .before .before .before in
+    let a = c19 .args in (
+      λ j areas x y t k n. sym (sym (consistent-is j (stateOf (a .taken) (a .placed-strips) (a .right) (a .unplaced-area) (a .resolution) (a .bounds)
+          (a .sheet-strips) (a .apart-strips) (a .inset-bounds .now) (a .parts .now) (a .order .now) (a .next-column .now) (a .look-counts .now)
+          (a .orientation .now) x y (a .gap .now))
+          (roomsOf (a .shapes .now) (a .sheet .now) (a .placed .now) (a .sheet-entries .now) (a .placed-entries .now) (a .sheet-firsts .now)
+          (a .placed-firsts .now)) (a .rows .now) areas (a .kinds) (a .copies) t k n)
+          ∙ both-no _ _ (failed (c .before .state-fits .ensures .0 j areas t k n) (c .if1 .taken))),
+      never,
+    )
+
+gaps-fit-requires : tie.Need-gaps-fit-requires
+gaps-fit-requires c κs =
+    let c16 = c .before .before .before .before .before .before .before .before .before .before .before .before .before .before .before .before in
+    let c19 = c16 .before .before .before in
+    let p = c19 .pre in
+    let few = le-trans ((c .before .state-fits .ensures .1 (not-false _ (c .if1 .left))) .0) (p .3) in
+    (le-trans few (p .11), le-trans few (p .12))
+
+returns-2 : tie.Need-returns-2
+returns-2 c =
+    let c16 = c .before .before .before .before .before .before .before .before .before .before .before .before .before .before .before .before in
+    let c21 = c16 .before .before .before .before .before in
+    let a = c21 .args in (
+      λ j areas x y t k n. sym (sym (consistent-is j (stateOf (a .taken) (a .placed-strips) (a .right) (a .unplaced-area) (a .resolution) (a .bounds)
+          (a .sheet-strips) (a .apart-strips) (a .inset-bounds .now) (a .parts .now) (a .order .now) (a .next-column .now) (a .look-counts .now)
+          (a .orientation .now) x y (a .gap .now))
+          (roomsOf (a .shapes .now) (a .sheet .now) (a .placed .now) (a .sheet-entries .now) (a .placed-entries .now) (a .sheet-firsts .now)
+          (a .placed-firsts .now)) (a .rows .now) areas (a .kinds) (a .copies) t k n)
+          ∙ (sym (both-yes _ _ (passed (c .before .before .before .state-fits .ensures .0 j areas t k n) (c .before .before .if1 .left))) ∙ both-no _ _
+          (failed (c .before .gaps-fit .ensures) (c .if2 .taken)))),
+      never,
+    )
+
 rooms-fit-requires : tie.Need-rooms-fit-requires
 rooms-fit-requires c κs =
-    let c2 = c .before .before in
-    let c3 = c2 .before in
-    let c19 = c3 .before .before .before .before .before .before .before .before .before .before .before .before .before .before .before .before in (
+    let c16 = c .before .before .before .before .before .before .before .before .before .before .before .before .before .before .before .before in
+    let c23 = c16 .before .before .before .before .before .before .before in
+    let p = c23 .pre in
+    let s = c .before .before .before .before .before .state-fits .ensures .1 (not-false _ (c .before .before .before .before .if1 .left)) in (
       record {
-        bounded = (c3 .state-fits .ensures .1 (c2 .if1 .taken)) .1;
-        resolving = (c3 .state-fits .ensures .1 (c2 .if1 .taken)) .2;
-        few = le-trans
-            ((c3 .state-fits .ensures .1 (c2 .if1 .taken)) .0) (c19 .pre .3);
-        bounds-long = c19 .pre .5;
-        parts-long = c19 .pre .6;
-        next-long = c19 .pre .7;
-        looks-long = c19 .pre .8;
+        bounded = s .1;
+        resolving = s .2;
+        few = le-trans (s .0) (p .3);
+        bounds-long = p .5;
+        parts-long = p .6;
+        next-long = p .7;
+        looks-long = p .8;
       },
-      c19 .pre .0,
-      c19 .pre .1,
-      c19 .pre .2,
-      c19 .pre .9,
-      c19 .pre .10,
+      p .0,
+      p .1,
+      p .2,
+      p .9,
+      p .10,
     )
 
 same-length : tie.Need-same-length
@@ -41,38 +79,27 @@ same-length c = search needs
 same-length-2 : tie.Need-same-length-2
 same-length-2 c = search needs
 
-returns : tie.Need-returns
-returns c =
+returns-3 : tie.Need-returns-3
+returns-3 c =
     let c4 = c .before .before .before .before in
     let c7 = c4 .before .before .before in
     let c8 = c7 .before in
-    let c24 = c8 .before .before .before .before .before .before .before .before .before .before .before .before .before .before .before .before in (
-      λ j areas orientation x y t k n. c4 .rooms-fit .ensures .0 ∙ (both-yes _ _ (sym (c8 .state-fits .ensures .0 j areas t k n) ∙ c7 .if1 .taken) ∙
-          consistent-is j (stateOf (c24 .args .taken) (c24 .args .placed-strips) (c24 .args .right) (c24 .args .unplaced-area) (c24 .args .resolution)
-          (c24 .args .bounds) (c24 .args .sheet-strips) (c24 .args .apart-strips) (c24 .args .inset-bounds .now) (c24 .args .parts .now) (c24 .args .order .now)
-          (c24 .args .next-column .now) (c24 .args .look-counts .now) orientation x y)
-          (roomsOf (c24 .args .shapes .now) (c24 .args .sheet .now) (c24 .args .placed .now) (c24 .args .sheet-entries .now) (c24 .args .placed-entries .now)
-          (c24 .args .sheet-firsts .now) (c24 .args .placed-firsts .now))
-          (c24 .args .rows .now) areas (c24 .args .kinds) (c24 .args .copies) t k n),
+    let c9 = c8 .before in
+    let c10 = c9 .before in
+    let c26 = c10 .before .before .before .before .before .before .before .before .before .before .before .before .before .before .before .before in
+    let c28 = c26 .before .before in
+    let a = c28 .args in (
+      λ j areas x y t k n. c4 .rooms-fit .ensures .0 ∙ (both-yes _ _ (passed (c8 .gaps-fit .ensures) (c7 .if2 .left)) ∙
+          (both-yes _ _ (passed (c10 .state-fits .ensures .0 j areas t k n) (c9 .if1 .left)) ∙
+          consistent-is j (stateOf (a .taken) (a .placed-strips) (a .right) (a .unplaced-area) (a .resolution) (a .bounds)
+          (a .sheet-strips) (a .apart-strips) (a .inset-bounds .now) (a .parts .now) (a .order .now) (a .next-column .now) (a .look-counts .now)
+          (a .orientation .now) x y (a .gap .now))
+          (roomsOf (a .shapes .now) (a .sheet .now) (a .placed .now) (a .sheet-entries .now) (a .placed-entries .now) (a .sheet-firsts .now)
+          (a .placed-firsts .now)) (a .rows .now) areas (a .kinds) (a .copies) t k n)),
       c4 .rooms-fit .ensures .1,
-    )
-
-returns-2 : tie.Need-returns-2
-returns-2 c =
-    let c16 = c .before .before .before .before .before .before .before .before .before .before .before .before .before .before .before .before in
-    let c17 = c16 .before in (
-      λ j areas orientation x y t k n. sym (sym (consistent-is j (stateOf (c17 .args .taken) (c17 .args .placed-strips) (c17 .args .right)
-          (c17 .args .unplaced-area) (c17 .args .resolution) (c17 .args .bounds) (c17 .args .sheet-strips) (c17 .args .apart-strips)
-          (c17 .args .inset-bounds .now) (c17 .args .parts .now) (c17 .args .order .now) (c17 .args .next-column .now) (c17 .args .look-counts .now) orientation
-          x
-          y) (roomsOf (c17 .args .shapes .now) (c17 .args .sheet .now) (c17 .args .placed .now) (c17 .args .sheet-entries .now) (c17 .args .placed-entries .now)
-          (c17 .args .sheet-firsts .now) (c17 .args .placed-firsts .now))
-          (c17 .args .rows .now) areas (c17 .args .kinds) (c17 .args .copies) t k n) ∙ both-no _ _
-          (sym (c .before .state-fits .ensures .0 j areas t k n) ∙ c .if1 .left)),
-      never,
     )
 
 pub consistent-spec : {M : Type 1} → statement M
 consistent-spec =
     tie.close
-    (tie.spec state-fits-requires rooms-fit-requires same-length same-length-2 returns returns-2)
+    (tie.spec state-fits-requires returns gaps-fit-requires returns-2 rooms-fit-requires same-length same-length-2 returns-3)

@@ -13,9 +13,10 @@ use Rattle.filling.specs.declared.State.{State}
 use Rattle.filling.specs.Consistent.{stripsFit, boundsFit, resolutionFits, layoutFits, numbersLie, entriesFor, firstsFor}
 use Rattle.consistent.specs.slot_tests.inner.Slots.{Slots, slots, slotsTest}
 
--- orientation, x and y of the copies taken are not judged
-abbrev pub stateOf : ℕ → ℕ → Float → Float → Float → Rect → ℕ → ℕ → List Float → List ℕ → List ℕ → List ℕ → List ℕ → List ℕ → List Float → List Float → State
-stateOf taken placed-strips right area resolution bounds sheet-strips apart-strips inset-bounds parts order next looks orientation x y =
+-- x and y of the copies taken are not judged
+abbrev pub stateOf : ℕ → ℕ → Float → Float → Float → Rect → ℕ → ℕ → List Float → List ℕ → List ℕ → List ℕ → List ℕ → List ℕ → List Float → List Float
+    → List Float → State
+stateOf taken placed-strips right area resolution bounds sheet-strips apart-strips inset-bounds parts order next looks orientation x y gap =
     record {
       tables = record {
         resolution = resolution;
@@ -30,7 +31,7 @@ stateOf taken placed-strips right area resolution bounds sheet-strips apart-stri
       «next_column» = next;
       «look_counts» = looks;
       «placed_strips» = placed-strips;
-      layout = record { orientation = orientation; x = x; y = y; «unplaced_area» = area; right = right };
+      layout = record { orientation = orientation; x = x; y = y; gap = gap; «unplaced_area» = area; right = right };
     }
 
 -- the slots, with the two parts of the shapes room
@@ -38,7 +39,7 @@ abbrev pub slotsOf : Rect → Float → ℕ → List Float → List ℕ → List
 slotsOf bounds resolution taken inset-bounds parts shapes apart-strips next looks =
     slots bounds resolution taken inset-bounds parts (take (6 * apart-strips) shapes) (drop (6 * apart-strips) shapes) next looks
 
--- ---- the tests, in three groups
+-- ---- the tests, in three groups; the gaps are apart
 
 unfoldable pub stateTest : ℕ → ℕ → Float → Rect → Float → Float → Bool → Bool
 stateTest taken copies resolution bounds right area ordered =

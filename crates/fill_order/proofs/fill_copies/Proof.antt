@@ -121,7 +121,7 @@ loop-again c =
     (l .placed) (l .entries) (l .starts) (l .gains) (l .room) (l .tracks) (l .spots) (l .firsts) (l .verdict) (l .t) (l .i) (l .inv) (c29 .loop-test .taken)
     (s .result) (q .result .area) (q .result .slot) (q .result .orientations) _ _ _ _ _ _ _ _
     (ap (λ z. z .area) (q .ensures)) (ap (λ z. z .slot) (q .ensures)) (ap (λ z. z .orientations) (q .ensures))
-    (s .ensures .0) (s .ensures .1) (s .ensures .2) (s .ensures .3) (s .ensures .4) (s .ensures .5)
+    (s .ensures .0) (s .ensures .1) (s .ensures .2) (s .ensures .3) (s .ensures .6) (s .ensures .4) (s .ensures .5)
     (k .0) (k .1 .0) (k .1 .1 .0) (k .1 .1 .1 .0) (k .1 .1 .1 .1 .0) (k .1 .1 .1 .1 .1 .0) (k .1 .1 .1 .1 .1 .1 .0) (k .1 .1 .1 .1 .1 .1 .1 .1 .0)
     (c17 .slice-known9 .given) (c1 .verdict-of .result) (c .next-after .result) (c1 .verdict-of .ensures) (c .next-after .ensures)
 

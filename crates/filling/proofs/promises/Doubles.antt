@@ -39,10 +39,11 @@ room-all w h = all-append Number (w .shapes) (w .sheet ++ w .placed) (h .shapes)
 pub state-doubles : (s : State) → StateNumbers s → every isNumber (stateDoubles s) ≡ true
 unfolding stateDoubles
 state-doubles s h =
-    let places = all-append Number (s .layout .x) (s .layout .y) (h .xs) (h .ys) in
-    let insets = all-append Number (s .tables .«inset_bounds») (s .layout .x ++ s .layout .y) (h .inset-bounds) places in
+    let heights = all-append Number (s .layout .y) (s .layout .gap) (h .ys) (h .gaps) in
+    let places = all-append Number (s .layout .x) (s .layout .y ++ s .layout .gap) (h .xs) heights in
+    let insets = all-append Number (s .tables .«inset_bounds») (s .layout .x ++ (s .layout .y ++ s .layout .gap)) (h .inset-bounds) places in
     let bounds =
-    all-append Number (rectDoubles (s .tables .«sheet_bounds»)) (s .tables .«inset_bounds» ++ (s .layout .x ++ s .layout .y))
+    all-append Number (rectDoubles (s .tables .«sheet_bounds»)) (s .tables .«inset_bounds» ++ (s .layout .x ++ (s .layout .y ++ s .layout .gap)))
     (rect-all (s .tables .«sheet_bounds») (h .sheet-bounds)) insets
     in
     numbers-are (stateDoubles s) (h .resolution, (h .right, (h .unplaced-area, bounds)))

@@ -80,6 +80,7 @@ step-intervals bytes s w iv = subst Numbers (sym (next-copy-leaves bytes s w iv 
 record StandNumbers (c : Standing) : Type 0 where
   x : Number (c .x)
   y : Number (c .y)
+  gap : Number (c .gap)
   orientation : c .orientation ≤ 16
 
 number-at : (l : List Float) (i : ℕ) (d : Float) → Numbers l → i < length l → Number (getD l i d)
@@ -87,11 +88,20 @@ number-at [] i d h b = absurd (omega arith)
 number-at (a ∷ l) zero d h b = h .0
 number-at (a ∷ l) (suc i) d h b = number-at l i d (h .1) (omega arith)
 
-module _ (s : State) (h : StateNumbers s) (lx : length (s .layout .x) ≡ 4096) (ly : length (s .layout .y) ≡ 4096) (us : (i : ℕ) → getD (s .layout .orientation) i 0 ≤ 16) where
+module _ (s : State) (h : StateNumbers s) (lx : length (s .layout .x) ≡ 4096) (ly : length (s .layout .y) ≡ 4096) (lg : length (s .layout .gap) ≡ 4096)
+    (us : (i : ℕ) → getD (s .layout .orientation) i 0 ≤ 16) where
   stands-numbers : (n o : ℕ) → n < 4096 → o ≤ 16 → All StandNumbers (standsAt s n o)
   unfolding standsAt
   stands-numbers n zero b u = tt
-  stands-numbers n (suc o) b u = (record { x = number-at (s .layout .x) n nan (h .xs) (omega arith); y = number-at (s .layout .y) n nan (h .ys) (omega arith); orientation = omega arith }, tt)
+  stands-numbers n (suc o) b u = (
+    record {
+      x = number-at (s .layout .x) n nan (h .xs) (omega arith);
+      y = number-at (s .layout .y) n nan (h .ys) (omega arith);
+      gap = number-at (s .layout .gap) n nan (h .gaps) (omega arith);
+      orientation = omega arith;
+    },
+    tt,
+  )
 
   standing-numbers : (n : ℕ) → n ≤ 4096 → All StandNumbers (standingTo s n)
   unfolding standingTo
@@ -108,6 +118,7 @@ record PositionNumbers (p : Position) : Type 0 where
   orientation : p .orientation ≤ 5000
   x : Number (p .x)
   y : Number (p .y)
+  gap : Number (p .gap)
 
 of-kind : (k n : ℕ) (cs : List Standing) → k ≤ 64 → n + length cs ≤ 5000 → All StandNumbers cs → All PositionNumbers (positionsOfKind k n cs)
 unfolding positionsOfKind
@@ -115,8 +126,10 @@ of-kind k n [] b l h = tt
 of-kind k n (c ∷ cs) b l h = go (eqb (c .copy .kind) k) (of-kind k (suc n) cs b (omega arith) (h .1)) (of-kind k n cs b (omega arith) (h .1))
   where
     go : (t : Bool) → All PositionNumbers (positionsOfKind k (suc n) cs) → All PositionNumbers (positionsOfKind k n cs)
-        → All PositionNumbers (elim t [ true ↦ record { kind = k; copy = n; orientation = c .orientation; x = c .x; y = c .y } ∷ positionsOfKind k (suc n) cs | false ↦ positionsOfKind k n cs ])
-    go true a d = let f = h .0 in (record { kind = omega arith; copy = omega arith; orientation = le-trans (f .orientation) (lit≤ tt); x = f .x; y = f .y }, a)
+        → All PositionNumbers (elim t [ true ↦ record { kind = k; copy = n; orientation = c .orientation; x = c .x; y = c .y; gap = c .gap } ∷ positionsOfKind k (suc n) cs | false ↦ positionsOfKind k n cs ])
+    go true a d =
+        let f = h .0 in
+        (record { kind = omega arith; copy = omega arith; orientation = le-trans (f .orientation) (lit≤ tt); x = f .x; y = f .y; gap = f .gap }, a)
     go false a d = d
 
 kinds-positions : (cs : List Standing) → length cs ≤ 5000 → All StandNumbers cs → (n c : ℕ) → c + n ≤ 64 → All PositionNumbers (flatMap (λ k. positionsOfKind k 0 cs) (upFrom n c))
@@ -133,7 +146,7 @@ unfolding flatPositions
 flat-numbers [] h = tt
 flat-numbers (p ∷ ps) h =
     let f = h .0 in
-    (whole-number (p .kind) (f .kind), (whole-number (p .copy) (f .copy), (whole-number (p .orientation) (f .orientation), (f .x, (f .y, flat-numbers ps (h .1))))))
+    (whole-number (p .kind) (f .kind), (whole-number (p .copy) (f .copy), (whole-number (p .orientation) (f .orientation), (f .x, (f .y, (f .gap, flat-numbers ps (h .1)))))))
 
 -- ---- a filling
 
@@ -198,7 +211,7 @@ module _ (bytes : List ℕ) (j : Job) (e : readJob bytes ≡ accepted j) (order 
       let z = sized bytes j e in
       let t : s .taken ≤ 4096 = (let a = h .own .few in let b = z .few in omega arith) in
       let c : length (standingOf s) ≤ 5000 = unfold standingOf in (let a = stands-few s (s .taken) in omega arith) in
-      let d : All StandNumbers (standingOf s) = unfold standingOf in standing-numbers s N (h .own .kept .linked .xs) (h .own .kept .linked .ys) (h .sound .orientations) (s .taken) t in (
+      let d : All StandNumbers (standingOf s) = unfold standingOf in standing-numbers s N (h .own .kept .linked .xs) (h .own .kept .linked .ys) (h .own .kept .linked .gaps) (h .sound .orientations) (s .taken) t in (
         record { right = N .right; unplaced-area = N .unplaced-area; offcut = offcut-bounds .number; offcut-not-below = offcut-bounds .not-below },
         only-positions l (flatPositions (positions j (standingOf s))) (flat-numbers (positions j (standingOf s)) (positions-numbers j (standingOf s) (z .kinds) c d)),
       )

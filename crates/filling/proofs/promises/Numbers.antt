@@ -37,6 +37,7 @@ pub record StateNumbers (s : State) : Type 0 where
   pub inset-bounds : Numbers (s .tables .«inset_bounds»)
   pub xs : Numbers (s .layout .x)
   pub ys : Numbers (s .layout .y)
+  pub gaps : Numbers (s .layout .gap)
   pub right : Number (s .layout .right)
   pub unplaced-area : Number (s .layout .«unplaced_area»)
 
@@ -112,6 +113,7 @@ zero-state =
       inset-bounds = all-replicate 4096;
       xs = all-replicate 4096;
       ys = all-replicate 4096;
+      gaps = all-replicate 4096;
       right = zero-is;
       unplaced-area = zero-is;
     }

@@ -75,6 +75,7 @@ module _ (j : Job) (g : GoodJob j) where
         inset-bounds = bounds-all;
         xs = all-replicate 4096;
         ys = all-replicate 4096;
+        gaps = all-replicate 4096;
         right = framed j g .left .num;
         unplaced-area = zero-is;
       }
@@ -115,7 +116,7 @@ choices-under p m o (s ∷ ss) (f ∷ fs) h = all-append (λ (c : Choice). c .or
   where
     one : (f : Found) → All (λ (c : Choice). c .orientation < m) (choiceOf p o s f)
     one nowhere = unfold choiceOf in tt
-    one (at c y) = unfold choiceOf in (omega arith, tt)
+    one (at c y g) = unfold choiceOf in (omega arith, tt)
 
 set-upto : (l : List ℕ) (i a m : ℕ) → ((n : ℕ) → getD l n 0 ≤ m) → a ≤ m → (n : ℕ) → getD (set l i a) n 0 ≤ m
 set-upto [] i a m h b n = h n
@@ -142,6 +143,7 @@ module _ (j : Job) (g : GoodJob j) (z : Sized j) (order : List ℕ) (s : State) 
 record Chosen (p : Planner) (k : ℕ) (c : Choice) : Type 0 where
   x : Small 610000 (c .x)
   y : Small 200000 (c .y)
+  gap : Small 400000 (c .gap)
   right : Small 710000 (c .right)
   strips : Numbers (newStrips p k c)
   orientation : c .orientation < 16
@@ -156,8 +158,8 @@ module _ (j : Job) (g : GoodJob j) (k : ℕ) where
   chosen : (c : Choice) → Good (plannerOf j) k c → c .orientation < 16 → Chosen (plannerOf j) k c
   unfolding newStrips
   chosen c G o =
-      let r = place j g k (c .orientation) (c .x) (c .y) (G .place) in
-      record { x = r .0; y = r .1; right = right-small c G (r .0); strips = shape j g k (c .orientation) .moved-numbers (c .x) (c .y) (r .0) (r .1); orientation = o }
+      let r = place j g k (c .orientation) (c .x) (c .y) (c .gap) (G .place) in
+      record { x = r .0; y = r .1; gap = r .2; right = right-small c G (r .0); strips = shape j g k (c .orientation) .moved-numbers (c .x) (c .y) (r .0) (r .1); orientation = o }
 
   best-chosen : (c : Choice) (cs : List Choice) → Goods (plannerOf j) k (c ∷ cs) → All (λ (d : Choice). d .orientation < 16) (c ∷ cs) → Chosen (plannerOf j) k (best c cs)
   best-chosen c cs (and-good G Gs) u = chosen (best c cs) (best-good (plannerOf j) k Gs c G) (best-all (λ (d : Choice). d .orientation < 16) c cs (u .0) (u .1))
@@ -178,6 +180,7 @@ module _ (p : Planner) (k : ℕ) (ts : List Track) (s : State) (w : Rooms) (st :
               inset-bounds = N .inset-bounds;
               xs = all-set (s .layout .x) (s .taken) posZero (N .xs) zero-is;
               ys = all-set (s .layout .y) (s .taken) posZero (N .ys) zero-is;
+              gaps = all-set (s .layout .gap) (s .taken) posZero (N .gaps) zero-is;
               right = N .right;
               unplaced-area = a;
             };
@@ -201,6 +204,7 @@ module _ (p : Planner) (k : ℕ) (ts : List Track) (s : State) (w : Rooms) (st :
               inset-bounds = N .inset-bounds;
               xs = all-set (s .layout .x) (s .taken) (d .x) (N .xs) (C .x .num);
               ys = all-set (s .layout .y) (s .taken) (d .y) (N .ys) (C .y .num);
+              gaps = all-set (s .layout .gap) (s .taken) (d .gap) (N .gaps) (C .gap .num);
               right = r .num;
               unplaced-area = N .unplaced-area;
             };

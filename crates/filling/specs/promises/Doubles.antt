@@ -24,7 +24,7 @@ rectDoubles b = b .left ∷ b .bottom ∷ b .right ∷ b .top ∷ []
 unfoldable pub stateDoubles : State → List Float
 stateDoubles s =
     s .tables .resolution ∷ s .layout .right ∷ s .layout .«unplaced_area»
-    ∷ (rectDoubles (s .tables .«sheet_bounds») ++ (s .tables .«inset_bounds» ++ (s .layout .x ++ s .layout .y)))
+    ∷ (rectDoubles (s .tables .«sheet_bounds») ++ (s .tables .«inset_bounds» ++ (s .layout .x ++ (s .layout .y ++ s .layout .gap))))
 
 -- of the strip rooms; entries are whole numbers
 unfoldable pub roomDoubles : Rooms → List Float

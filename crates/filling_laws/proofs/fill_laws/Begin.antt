@@ -76,7 +76,7 @@ module _ (j : Job) (few : capacity (plannerOf j .sheet) ≤ stripNumbers) (order
       record {
         rooms = record { shapes = apartStrips P ++ insetStrips P; sheet = P .sheet; placed = []; sheet-entries = entriesFor (P .bounds) (P .sheet); placed-entries = []; sheet-firsts = replicate (capacity (P .sheet)) 0; placed-firsts = [] };
         intervals = [];
-        positions = replicate (5 * j .copies) posZero;
+        positions = replicate (6 * j .copies) posZero;
       }
 
   prepared : prepareVerdict P (enough .rooms) ≡ Accepted
@@ -85,7 +85,7 @@ module _ (j : Job) (few : capacity (plannerOf j .sheet) ≤ stripNumbers) (order
 
   started : startVerdict j order enough ≡ Accepted
   unfolding startVerdict enough
-  started = refuse-none _ _ _ (le-ltb (positionCapacity (replicate (5 * j .copies) posZero)) (j .copies) (let e = length-replicate (5 * j .copies) posZero in omega arith)) (refuse-none _ _ _ (ap not r) prepared)
+  started = refuse-none _ _ _ (le-ltb (positionCapacity (replicate (6 * j .copies) posZero)) (j .copies) (let e = length-replicate (6 * j .copies) posZero in omega arith)) (refuse-none _ _ _ (ap not r) prepared)
 
 -- ---- what holds of a job before its first copy, whatever the placed rooms hold
 
@@ -111,7 +111,7 @@ module _ (bytes : List ℕ) (j : Job) (read : readJob bytes ≡ accepted j) (few
   stand = refl
 
   linked : Linked j before w
-  linked = let l = first-linked j z order lent in record { plan = plan; stand = stand; numbers = l .numbers; xs = l .xs; ys = l .ys; next-columns = l .next-columns; look-counts = l .look-counts }
+  linked = let l = first-linked j z order lent in record { plan = plan; stand = stand; numbers = l .numbers; xs = l .xs; ys = l .ys; gaps = l .gaps; next-columns = l .next-columns; look-counts = l .look-counts }
 
   counts : stripCountsFit (before .tables) (before .«placed_strips») w ≡ true
   unfolding stripCountsFit firstState

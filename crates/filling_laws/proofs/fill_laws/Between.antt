@@ -38,7 +38,7 @@ use Rattle.place.specs.declared.Totals.{Totals}
 use Rattle.place.specs.declared.Outcome.{Outcome}
 use Rattle.place.specs.declared.Outcome.the-variants.{Refused}
 use Rattle.place.specs.declared.Step.{Step}
-use Rattle.place.specs.inner.Placing.{Placed, done, placeOf, orientationNumber, outcomeX, yOf}
+use Rattle.place.specs.inner.Placing.{Placed, done, placeOf, orientationNumber, outcomeX, yOf, gapOf}
 use Rattle.filling_laws.proofs.SameCopy.{stepFrom, stepBy, takenWith, codeOf}
 use Rattle.filling_laws.proofs.SameCore.{same-core}
 use Rattle.filling_laws.specs.fill_laws.inner.Prepared.{Given, given, Prepared, stateBy, roomsBy}
@@ -48,22 +48,22 @@ use Rattle.filling_laws.proofs.ReadyOrder.{kind-in, slots-within}
 use Rattle.filling_laws.proofs.fill_laws.Begin.{own-first, fill-first}
 
 -- what holds after i copies
-pub record Held (j : Job) (lent : Rooms) (order : List ℕ) (wide i : ℕ) (t : Totals) (placed : List Float) (entries firsts looks next orientation : List ℕ) (x y : List Float) : Type 0 where
+pub record Held (j : Job) (lent : Rooms) (order : List ℕ) (wide i : ℕ) (t : Totals) (placed : List Float) (entries firsts looks next orientation : List ℕ) (x y gap : List Float) : Type 0 where
   pub plain : Plain
-  pub own : Own j order (stateBy (plannerOf j) order i next looks t orientation x y) (roomsBy (plannerOf j) lent placed entries firsts) plain
+  pub own : Own j order (stateBy (plannerOf j) order i next looks t orientation x y gap) (roomsBy (plannerOf j) lent placed entries firsts) plain
   pub same : (l : Lent) → length (l .rooms .placed) ≡ length placed → length (l .rooms .placed-entries) ≡ length entries → length (l .intervals) ≡ wide → length (l .rooms .placed-firsts) ≡ length firsts
-      → fillFrom j (l .intervals) (length order - i) (stateBy (plannerOf j) order i next looks t orientation x y) (roomsBy (plannerOf j) lent placed entries firsts) ≡ fillOrder j l order
+      → fillFrom j (l .intervals) (length order - i) (stateBy (plannerOf j) order i next looks t orientation x y gap) (roomsBy (plannerOf j) lent placed entries firsts) ≡ fillOrder j l order
 
 -- ---- before the first copy
 
-first-is : (p : Planner) (order : List ℕ) (orientation : List ℕ) (x y : List Float)
-    → stateBy p order 0 (replicate 1024 1) (replicate 1024 0) (record { «placed_strips» = 0; right = p .bounds .left; «unplaced_area» = posZero }) orientation x y ≡ firstState p order
+first-is : (p : Planner) (order : List ℕ) (orientation : List ℕ) (x y gap : List Float)
+    → stateBy p order 0 (replicate 1024 1) (replicate 1024 0) (record { «placed_strips» = 0; right = p .bounds .left; «unplaced_area» = posZero }) orientation x y gap ≡ firstState p order
 unfolding firstState emptyLayout laid
-first-is p order orientation x y = refl
+first-is p order orientation x y gap = refl
 
-pub held-first : (j : Job) (g : Given) (h : Prepared j g) (order : List ℕ) → rearranged j order ≡ true → (wide : ℕ) (t : Totals) (placed : List Float) (entries firsts looks next orientation : List ℕ) (x y : List Float)
-    → t ≡ record { «placed_strips» = 0; right = g .bounds .left; «unplaced_area» = posZero } → looks ≡ replicate 1024 0 → next ≡ replicate 1024 1 → Held j (h .lent) order wide 0 t placed entries firsts looks next orientation x y
-held-first j g h order r wide t placed entries firsts looks next orientation x y a b c =
+pub held-first : (j : Job) (g : Given) (h : Prepared j g) (order : List ℕ) → rearranged j order ≡ true → (wide : ℕ) (t : Totals) (placed : List Float) (entries firsts looks next orientation : List ℕ) (x y gap : List Float)
+    → t ≡ record { «placed_strips» = 0; right = g .bounds .left; «unplaced_area» = posZero } → looks ≡ replicate 1024 0 → next ≡ replicate 1024 1 → Held j (h .lent) order wide 0 t placed entries firsts looks next orientation x y gap
+held-first j g h order r wide t placed entries firsts looks next orientation x y gap a b c =
     record {
       plain = plainStart (plannerOf j) order;
       own = subst (λ (s : State). Own j order s (roomsBy (plannerOf j) (h .lent) placed entries firsts) (plainStart (plannerOf j) order)) (sym state) (own-first (h .bytes) j (h .read) (h .few) order r (h .lent) placed entries firsts);
@@ -76,12 +76,12 @@ held-first j g h order r wide t placed entries firsts looks next orientation x y
     totals : t ≡ record { «placed_strips» = 0; right = plannerOf j .bounds .left; «unplaced_area» = posZero }
     totals = a ∙ ap (λ (b : Rect). record { «placed_strips» = 0; right = b .left; «unplaced_area» = posZero }) (h .bounds)
 
-    state : stateBy (plannerOf j) order 0 next looks t orientation x y ≡ firstState (plannerOf j) order
+    state : stateBy (plannerOf j) order 0 next looks t orientation x y gap ≡ firstState (plannerOf j) order
     state =
-        ap (λ (n : List ℕ). stateBy (plannerOf j) order 0 n looks t orientation x y) c
-        ∙ (ap (λ (n : List ℕ). stateBy (plannerOf j) order 0 (replicate 1024 1) n t orientation x y) b
-        ∙ (ap (λ (n : Totals). stateBy (plannerOf j) order 0 (replicate 1024 1) (replicate 1024 0) n orientation x y) totals
-        ∙ first-is (plannerOf j) order orientation x y))
+        ap (λ (n : List ℕ). stateBy (plannerOf j) order 0 n looks t orientation x y gap) c
+        ∙ (ap (λ (n : List ℕ). stateBy (plannerOf j) order 0 (replicate 1024 1) n t orientation x y gap) b
+        ∙ (ap (λ (n : Totals). stateBy (plannerOf j) order 0 (replicate 1024 1) (replicate 1024 0) n orientation x y gap) totals
+        ∙ first-is (plannerOf j) order orientation x y gap))
 
 -- ---- what is written down of the next copy
 
@@ -97,8 +97,8 @@ written {A} l zs i v d a b =
     ∙ (ap (λ (q : List A). q ++ drop (suc i) zs) (take-suc-set l i v a)
     ∙ append-assoc (take i l) (v ∷ []) (drop (suc i) zs)))))
 
-abbrev stateIn : Tables → List ℕ → ℕ → List ℕ → List ℕ → Totals → List ℕ → List Float → List Float → State
-stateIn ts order taken next looks t orientation x y =
+abbrev stateIn : Tables → List ℕ → ℕ → List ℕ → List ℕ → Totals → List ℕ → List Float → List Float → List Float → State
+stateIn ts order taken next looks t orientation x y gap =
     record {
       tables = ts;
       order = order;
@@ -106,7 +106,7 @@ stateIn ts order taken next looks t orientation x y =
       «next_column» = next;
       «look_counts» = looks;
       «placed_strips» = t .«placed_strips»;
-      layout = record { orientation = orientation; x = x; y = y; «unplaced_area» = t .«unplaced_area»; right = t .right };
+      layout = record { orientation = orientation; x = x; y = y; gap = gap; «unplaced_area» = t .«unplaced_area»; right = t .right };
     }
 
 -- ---- the code's step is the definition's
@@ -144,9 +144,10 @@ module _ (j : Job) (g : Given) (h : Prepared j g) (order : List ℕ) (r : rearra
       subst (λ (n : ℕ). 16 * getD order i 0 + n ≤ 1024) (h .tabled .orientations (getD order i 0) k)
       (slots-within j (job-good (h .bytes) j (h .read) .good) (getD order i 0) (let e = kinds-many j in omega arith))
 
-  module _ (wide i : ℕ) (t : Totals) (placed : List Float) (entries firsts looks next orientation : List ℕ) (x y : List Float) (b : Held j (h .lent) order wide i t placed entries firsts looks next orientation x y) (below : i < length order) where
+  module _ (wide i : ℕ) (t : Totals) (placed : List Float) (entries firsts looks next orientation : List ℕ) (x y gap : List Float)
+      (b : Held j (h .lent) order wide i t placed entries firsts looks next orientation x y gap) (below : i < length order) where
     abbrev S : State
-    S = stateBy P order i next looks t orientation x y
+    S = stateBy P order i next looks t orientation x y gap
 
     abbrev W : Rooms
     W = roomsBy P (h .lent) placed entries firsts
@@ -213,10 +214,10 @@ module _ (j : Job) (g : Given) (h : Prepared j g) (order : List ℕ) (r : rearra
             sym (b .same l u v w z) ∙ (ap (λ (m : ℕ). fillFrom j iv m S W) count ∙ fill-stops j iv (length order - suc i) S W c e)
 
         -- a copy taken
-        module _ (orientation′ : List ℕ) (x′ y′ : List Float) (fo : orientation′ ≡ set orientation i (orientationNumber (q .outcome))) (fx : x′ ≡ set x i (outcomeX (q .outcome))) (fy : y′ ≡ set y i (yOf (q .outcome)))
-            (io : i < length orientation) (ix : i < length x) (iy : i < length y) (small : length order ≤ 4096) where
+        module _ (orientation′ : List ℕ) (x′ y′ gap′ : List Float) (fo : orientation′ ≡ set orientation i (orientationNumber (q .outcome))) (fx : x′ ≡ set x i (outcomeX (q .outcome))) (fy : y′ ≡ set y i (yOf (q .outcome)))
+            (fg : gap′ ≡ set gap i (gapOf (q .outcome))) (io : i < length orientation) (ix : i < length x) (iy : i < length y) (ig : i < length gap) (small : length order ≤ 4096) where
           abbrev S′ : State
-          S′ = stateBy P order (suc i) next′ looks′ (q .totals) orientation′ x′ y′
+          S′ = stateBy P order (suc i) next′ looks′ (q .totals) orientation′ x′ y′ gap′
 
           abbrev W′ : Rooms
           W′ = roomsBy P (h .lent) placed′ entries′ firsts′
@@ -230,17 +231,21 @@ module _ (j : Job) (g : Given) (h : Prepared j g) (order : List ℕ) (r : rearra
           numbers-now : set (laid (take i orientation) (replicate 4096 0)) i (orientationNumber (q .outcome)) ≡ laid (take (suc i) orientation′) (replicate 4096 0)
           numbers-now = written orientation (replicate 4096 0) i (orientationNumber (q .outcome)) 0 io in-numbers ∙ ap (λ (z : List ℕ). laid (take (suc i) z) (replicate 4096 0)) (sym fo)
 
-          xs-now : set (laid (take i x) (replicate 4096 posZero)) i (outcomeX (q .outcome)) ≡ laid (take (suc i) x′) (replicate 4096 posZero)
-          xs-now = written x (replicate 4096 posZero) i (outcomeX (q .outcome)) posZero ix in-floats ∙ ap (λ (z : List Float). laid (take (suc i) z) (replicate 4096 posZero)) (sym fx)
-
-          ys-now : set (laid (take i y) (replicate 4096 posZero)) i (yOf (q .outcome)) ≡ laid (take (suc i) y′) (replicate 4096 posZero)
-          ys-now = written y (replicate 4096 posZero) i (yOf (q .outcome)) posZero iy in-floats ∙ ap (λ (z : List Float). laid (take (suc i) z) (replicate 4096 posZero)) (sym fy)
+          -- doubles written down, one to a place
+          doubles-now : (l l′ : List Float) (v : Float) → l′ ≡ set l i v → i < length l
+              → set (laid (take i l) (replicate 4096 posZero)) i v ≡ laid (take (suc i) l′) (replicate 4096 posZero)
+          doubles-now l l′ v e b =
+              written l (replicate 4096 posZero) i v posZero b in-floats ∙ ap (λ (z : List Float). laid (take (suc i) z) (replicate 4096 posZero)) (sym e)
 
           state-now : (iv : List Float) → takenWith S W iv firsts′ D .state ≡ S′
           unfolding entered
           state-now iv =
-              ap (λ (z : List ℕ). stateIn (tablesOf P) (S .order) (suc i) next′ looks′ (q .totals) z (set (laid (take i x) (replicate 4096 posZero)) i (outcomeX (q .outcome))) (set (laid (take i y) (replicate 4096 posZero)) i (yOf (q .outcome)))) numbers-now
-              ∙ ap₂ (λ (z v : List Float). stateIn (tablesOf P) (S .order) (suc i) next′ looks′ (q .totals) (laid (take (suc i) orientation′) (replicate 4096 0)) z v) xs-now ys-now
+              ap (λ (z : List ℕ). stateIn (tablesOf P) (S .order) (suc i) next′ looks′ (q .totals) z (set (laid (take i x) (replicate 4096 posZero)) i (outcomeX (q .outcome)))
+              (set (laid (take i y) (replicate 4096 posZero)) i (yOf (q .outcome))) (set (laid (take i gap) (replicate 4096 posZero)) i (gapOf (q .outcome)))) numbers-now
+              ∙ (ap₂ (λ (z v : List Float). stateIn (tablesOf P) (S .order) (suc i) next′ looks′ (q .totals) (laid (take (suc i) orientation′) (replicate 4096 0)) z v
+              (set (laid (take i gap) (replicate 4096 posZero)) i (gapOf (q .outcome)))) (doubles-now x x′ _ fx ix) (doubles-now y y′ _ fy iy)
+              ∙ ap (λ (z : List Float). stateIn (tablesOf P) (S .order) (suc i) next′ looks′ (q .totals) (laid (take (suc i) orientation′) (replicate 4096 0))
+              (laid (take (suc i) x′) (replicate 4096 posZero)) (laid (take (suc i) y′) (replicate 4096 posZero)) z) (doubles-now gap gap′ _ fg ig))
 
           module _ (taken : (iv : List Float) → stepFrom S W iv firsts′ D ≡ takenWith S W iv firsts′ D) (lp : length placed′ ≡ length placed) (le : length entries′ ≡ length entries)
               (lf : length firsts′ ≡ length firsts) where
@@ -268,7 +273,7 @@ module _ (j : Job) (g : Given) (h : Prepared j g) (order : List ℕ) (r : rearra
                 subst₂ (λ (s : State) (w : Rooms). Own j order s w (plainTake P (b .plain) (b .plain .to-come))) (state-is iv e) (rooms-is iv e)
                 (own-took j (sized (h .bytes) j (h .read)) (jobs-within (h .bytes) j (h .read)) order S W (b .plain) (b .own) (coreStep j S W iv) (took-it iv e))
 
-            pub held-next : Held j (h .lent) order wide (suc i) (q .totals) placed′ entries′ firsts′ looks′ next′ orientation′ x′ y′
+            pub held-next : Held j (h .lent) order wide (suc i) (q .totals) placed′ entries′ firsts′ looks′ next′ orientation′ x′ y′ gap′
             held-next =
                 record {
                   plain = plainTake P (b .plain) (b .plain .to-come);

@@ -10,7 +10,7 @@ use lib.Ieee.{Float, nan}
 use Rattle.numbers.specs.Numbers.{posZero}
 use Rattle.index.specs.Buckets.{buckets}
 use Rattle.index.specs.inner.Listing.{Laid, FirstBuckets}
-use Rattle.rooms.specs.tracks.inner.Tracks.{nextColumns, lookCounts, orientations, xs, ys, trackNumbers, spotNumbers}
+use Rattle.rooms.specs.tracks.inner.Tracks.{nextColumns, lookCounts, orientations, xs, ys, gaps, trackNumbers, spotNumbers}
 use Rattle.rooms.proofs.tracks.Fields.{length-field}
 use Rattle.job.specs.Jobs.{Job}
 use Rattle.filling.specs.declared.State.{State}
@@ -29,7 +29,7 @@ use Rattle.place.specs.declared.Outcome.{Outcome}
 use Rattle.place.specs.declared.Outcome.the-variants.{At, Nowhere, Refused}
 use Rattle.place.specs.declared.Step.{Step}
 use Rattle.place.specs.inner.Standing.{Standing, Fixed}
-use Rattle.place.specs.inner.Placing.{Placed, verdictOf, done, orientationNumber, outcomeX, yOf}
+use Rattle.place.specs.inner.Placing.{Placed, verdictOf, done, orientationNumber, outcomeX, yOf, gapOf}
 use Rattle.filling_laws.proofs.SameCopy.{stepFrom, stepBy, takenWith}
 use Rattle.filling_laws.proofs.Firsts.{firsts-none}
 use Rattle.filling_laws.proofs.ReadyStrips.{AllFit}
@@ -51,22 +51,24 @@ Long l placed entries firsts wide =
     × (length (l .rooms .placed-firsts) ≡ length firsts)
 
 -- the filling goes on, or it has ended with a refusal
-abbrev pub Stage : Verdict → Job → Rooms → List ℕ → ℕ → ℕ → Totals → List Float → List ℕ → List ℕ → List ℕ → List ℕ → List ℕ → List Float → List Float → Type 0
-Stage Verdicts.Accepted j lent order wide i t placed entries firsts looks next orientation x y = Held j lent order wide i t placed entries firsts looks next orientation x y
-Stage (Verdicts.Refused c) j lent order wide i t placed entries firsts looks next orientation x y = (i ≡ length order) ×
+abbrev pub Stage : Verdict → Job → Rooms → List ℕ → ℕ → ℕ → Totals → List Float → List ℕ → List ℕ → List ℕ → List ℕ → List ℕ → List Float → List Float → List Float
+    → Type 0
+Stage Verdicts.Accepted j lent order wide i t placed entries firsts looks next orientation x y gap =
+    Held j lent order wide i t placed entries firsts looks next orientation x y gap
+Stage (Verdicts.Refused c) j lent order wide i t placed entries firsts looks next orientation x y gap = (i ≡ length order) ×
     ((l : Lent) → Long l placed entries firsts wide → fillOrder j l order ≡ stopped c)
 
 -- the same in a filling's two tables
 abbrev pub HeldIn : Job → Rooms → List ℕ → ℕ → ℕ → Totals → List Float → List ℕ → List ℕ → List ℕ → List Float → Type 0
 HeldIn j lent order wide i t placed entries firsts tracks spots =
-    Held j lent order wide i t placed entries firsts (lookCounts tracks) (nextColumns tracks) (orientations tracks) (xs spots) (ys spots)
+    Held j lent order wide i t placed entries firsts (lookCounts tracks) (nextColumns tracks) (orientations tracks) (xs spots) (ys spots) (gaps spots)
 
 abbrev pub StageIn : Verdict → Job → Rooms → List ℕ → ℕ → ℕ → Totals → List Float → List ℕ → List ℕ → List ℕ → List Float → Type 0
 StageIn v j lent order wide i t placed entries firsts tracks spots =
-    Stage v j lent order wide i t placed entries firsts (lookCounts tracks) (nextColumns tracks) (orientations tracks) (xs spots) (ys spots)
+    Stage v j lent order wide i t placed entries firsts (lookCounts tracks) (nextColumns tracks) (orientations tracks) (xs spots) (ys spots) (gaps spots)
 
 abbrev pub stateIn : Job → List ℕ → ℕ → List ℕ → Totals → List Float → State
-stateIn j order i tracks t spots = stateBy (plannerOf j) order i (nextColumns tracks) (lookCounts tracks) t (orientations tracks) (xs spots) (ys spots)
+stateIn j order i tracks t spots = stateBy (plannerOf j) order i (nextColumns tracks) (lookCounts tracks) t (orientations tracks) (xs spots) (ys spots) (gaps spots)
 
 abbrev pub doneIn : Step → List Float → List ℕ → List ℕ → List ℕ → Placed
 doneIn q placed entries starts tracks = done q placed entries starts (lookCounts tracks) (nextColumns tracks)
@@ -108,7 +110,7 @@ module _ (g : Given) (order : List ℕ) (placed₀ : List Float) (entries₀ sta
             (laid-none (g .index) placed₀ entries₀);
         kept = subst (λ (u : Totals). FirstBuckets (g .index) placed₀ (u .«placed_strips») firsts₀) (sym a) (firsts-none (g .index) placed₀ firsts₀);
         stage = λ j h r.
-            held-first j g h order r (length room₀) t placed₀ entries₀ firsts₀ (lookCounts tracks₀) (nextColumns tracks₀) (orientations tracks₀) (xs spots₀) (ys spots₀)
+            held-first j g h order r (length room₀) t placed₀ entries₀ firsts₀ (lookCounts tracks₀) (nextColumns tracks₀) (orientations tracks₀) (xs spots₀) (ys spots₀) (gaps spots₀)
             a b c;
         doubles = f;
         placed-long = refl;
@@ -158,9 +160,9 @@ module _ (g : Given) (order : List ℕ) (placed₀ : List Float) (entries₀ sta
           fixed H,
           few,
           subst₂ (λ (s m : ℕ). (o : ℕ) → o < m → getD (lookCounts tracks) (s + o) 0 + 4000000002 < 2 ^ 64) (sym es) (sym en)
-              (held-counts j g h order r (length room₀) i t placed entries firsts (lookCounts tracks) (nextColumns tracks) (orientations tracks) (xs spots) (ys spots)
+              (held-counts j g h order r (length room₀) i t placed entries firsts (lookCounts tracks) (nextColumns tracks) (orientations tracks) (xs spots) (ys spots) (gaps spots)
               H below D (G .doubles)),
-          held-standing j g h order r (length room₀) i t placed entries firsts (lookCounts tracks) (nextColumns tracks) (orientations tracks) (xs spots) (ys spots) H
+          held-standing j g h order r (length room₀) i t placed entries firsts (lookCounts tracks) (nextColumns tracks) (orientations tracks) (xs spots) (ys spots) (gaps spots) H
               below D (G .doubles) starts (G .laid),
           G .gains-long ∙ b,
           a,
@@ -180,7 +182,7 @@ module _ (g : Given) (order : List ℕ) (placed₀ : List Float) (entries₀ sta
             subst (λ (m : ℕ). (o : ℕ) → o < n → Fixed (g .index) (worldWith (m / 2)) (g .sheet-entries) (g .sheet-starts) (slot + o)) (sym (G .room-long))
             (subst₂ (λ (s m : ℕ). (o : ℕ) → o < m → Fixed (g .index) (worldWith (length room₀ / 2)) (g .sheet-entries) (g .sheet-starts) (s + o)) (sym es)
             (sym en)
-            (held-fixed j g h order r (length room₀) i t placed entries firsts (lookCounts tracks) (nextColumns tracks) (orientations tracks) (xs spots) (ys spots) H
+            (held-fixed j g h order r (length room₀) i t placed entries firsts (lookCounts tracks) (nextColumns tracks) (orientations tracks) (xs spots) (ys spots) (gaps spots) H
             below D (G .doubles)))
 
     -- after the last
@@ -216,7 +218,7 @@ module _ (g : Given) (order : List ℕ) (placed₀ : List Float) (entries₀ sta
         (ea : area ≡ getD (g .areas) (getD order i 0) nan) (es : slot ≡ 16 * getD order i 0) (en : n ≡ getD (g .rows) (4 * getD order i 0 + 3) 0)
         (d : doneIn q placed′ entries′ starts′ tracks′ ≡ codeIn g (length room / 2) area slot n t placed entries starts firsts tracks)
         (fo : orientations tracks′ ≡ set (orientations tracks) i (orientationNumber (q .outcome))) (fx : xs spots′ ≡ set (xs spots) i (outcomeX (q .outcome)))
-        (fy : ys spots′ ≡ set (ys spots) i (yOf (q .outcome)))
+        (fy : ys spots′ ≡ set (ys spots) i (yOf (q .outcome))) (fg : gaps spots′ ≡ set (gaps spots) i (gapOf (q .outcome)))
         (L : Laid (g .index) placed′ (q .totals .«placed_strips») entries′ starts′)
         (F : FirstsLaid (g .index) placed′ (q .totals .«placed_strips») firsts firsts′)
         (lp : length placed′ ≡ length placed) (le : length entries′ ≡ length entries) (ls : length starts′ ≡ length starts) (lg : length gains′ ≡ length gains)
@@ -252,10 +254,11 @@ module _ (g : Given) (order : List ℕ) (placed₀ : List Float) (entries₀ sta
               → HeldIn j (h .lent) order (length room₀) (i + 1) (q .totals) placed′ entries′ firsts′ tracks′ spots′
           on taken =
               subst (λ (m : ℕ). HeldIn j (h .lent) order (length room₀) m (q .totals) placed′ entries′ firsts′ tracks′ spots′) (sym (add-one i))
-              (held-next j g h order r (length room₀) i t placed entries firsts (lookCounts tracks) (nextColumns tracks) (orientations tracks) (xs spots) (ys spots) b
+              (held-next j g h order r (length room₀) i t placed entries firsts (lookCounts tracks) (nextColumns tracks) (orientations tracks) (xs spots) (ys spots) (gaps spots) b
               below starts (G .laid) (G .kept) q
-              placed′ entries′ starts′ (lookCounts tracks′) (nextColumns tracks′) firsts′ left-is F (orientations tracks′) (xs spots′) (ys spots′) fo fx fy
-              (within _ (length-field 0 1 2048 4096 tracks)) (within _ (length-field nan 2 0 4096 spots)) (within _ (length-field nan 2 1 4096 spots)) small
+              placed′ entries′ starts′ (lookCounts tracks′) (nextColumns tracks′) firsts′ left-is F (orientations tracks′) (xs spots′) (ys spots′) (gaps spots′) fo fx fy fg
+              (within _ (length-field 0 1 2048 4096 tracks)) (within _ (length-field nan 3 0 4096 spots)) (within _ (length-field nan 3 1 4096 spots))
+              (within _ (length-field nan 3 2 4096 spots)) small
               taken lp le lf)
 
           go : (o : Outcome) → q .outcome ≡ o → StageIn (verdictOf o) j (h .lent) order (length room₀) (nextAfter (verdictOf o) i (length order)) (q .totals)
@@ -267,7 +270,7 @@ module _ (g : Given) (order : List ℕ) (placed₀ : List Float) (entries₀ sta
           go (Refused c) e = (
             refl,
             λ l a. held-stops j g h order r (length room₀) i t placed entries firsts (lookCounts tracks) (nextColumns tracks) (orientations tracks) (xs spots)
-                (ys spots) b below starts (G .laid) (G .kept) q
+                (ys spots) (gaps spots) b below starts (G .laid) (G .kept) q
                 placed′ entries′ starts′ (lookCounts tracks′) (nextColumns tracks′) firsts′ left-is F c e l (a .0 ∙ lp) (a .1 ∙ le) (a .2) (a .3 ∙ lf),
           )
 

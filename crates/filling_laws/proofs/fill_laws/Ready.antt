@@ -107,9 +107,10 @@ module _ (j : Job) (g : Given) (h : Prepared j g) (order : List ℕ) (r : rearra
       let n = 6 * tablesOf P .«apart_strips» in
       subst AllFit (take-append-drop n room) (append-fit (take n room) (drop n room) (subst AllFit (h .apart) a) (subst AllFit (h .inset) b))
 
-  module _ (wide i : ℕ) (t : Totals) (placed : List Float) (entries firsts looks next orientation : List ℕ) (x y : List Float) (b : Held j (h .lent) order wide i t placed entries firsts looks next orientation x y) (below : i < length order) (D : Doubles g) (fit : AllFit placed) where
+  module _ (wide i : ℕ) (t : Totals) (placed : List Float) (entries firsts looks next orientation : List ℕ) (x y gap : List Float)
+      (b : Held j (h .lent) order wide i t placed entries firsts looks next orientation x y gap) (below : i < length order) (D : Doubles g) (fit : AllFit placed) where
     abbrev S : State
-    S = stateBy P order i next looks t orientation x y
+    S = stateBy P order i next looks t orientation x y gap
 
     abbrev W : Rooms
     W = roomsBy P (h .lent) placed entries firsts

@@ -17,7 +17,7 @@ use Rattle.numbers.proofs.Rounding.{key-finite, finite-of-key}
 use Rattle.numbers.proofs.Operations.{add-real}
 use Rattle.numbers.proofs.Ranges.{zero-num, zero-key}
 use Rattle.numbers.proofs.RoundDown.{le-real}
-use Rattle.numbers.proofs.Doubles.{k, o, u, Finite, finite, add-upto, add-mono}
+use Rattle.numbers.proofs.Doubles.{k, o, u, Finite, Upto, finite, add-upto, add-mono}
 use Rattle.trapezoid.specs.declared.Trapezoid.{Trapezoid}
 use Rattle.trapezoid.specs.Strip.{stripAt, flat, capacity, movedBy}
 use Rattle.index.specs.Buckets.{upFrom}
@@ -47,7 +47,7 @@ use Rattle.filling.proofs.Runs.{step-consistent, step-inconsistent}
 use Rattle.filling.proofs.Numbers31.{Yielded, Good, Goods, and-good, best-good, row-good}
 use Rattle.filling.proofs.WithinBounds.{area}
 use Rattle.filling.proofs.WithinBoundsNumbers.{sum-grows, most}
-use Rattle.filling.proofs.WithinBoundsPlaces.{counted-fits, height-between}
+use Rattle.filling.proofs.WithinBoundsPlaces.{counted-fits, height-between, clear-between}
 use Rattle.search.proofs.columns.Same.{low-same, high-same, x-same}
 use Rattle.search.proofs.columns.Sizes.{BoundedRect, y-low-bounded, y-high-bounded}
 use Rattle.filling_laws.proofs.SameCore.{row}
@@ -145,6 +145,7 @@ moved-all part x y S X Y = flat-finite part x y S X Y (capacity part) 0 (omega a
 record Written (p : Planner) (kind : ℕ) (c : Choice) : Type 0 where
   x : Finite (c .x)
   y : Finite (c .y)
+  gap : Finite (c .gap)
   right : Finite (c .right)
   strips : All Finite (newStrips p kind c)
 
@@ -172,9 +173,9 @@ module _ (j : Job) (s : State) (w : Rooms) (e : consistent j s w ≡ true) (D : 
     aparts = apart-in j s w e D kind known turn one
 
     -- a place that a search can yield
-    place-bounded : (x y : Float) → Yielded p S x y → Bounded 3000000 x × Bounded 2000000 y
+    place-bounded : (x y g : Float) → Yielded p S x y g → Bounded 3000000 x × Bounded 2000000 y × Finite g
     unfolding plannerAt rangesOf lookAt intervalsAt
-    place-bounded x y Y =
+    place-bounded x y g Y =
         let b = s .tables .«sheet_bounds» in
         let f = s .tables .resolution in
         let B = bounds-in j s w e D in
@@ -183,9 +184,14 @@ module _ (j : Job) (s : State) (w : Rooms) (e : consistent j s w ≡ true) (D : 
         let c = columnAt f r (Y .column-number) in
         let L = subst (Bounded 2000000) (low-same b (S .bounds) f) (y-low-bounded b (S .bounds) f B sides) in
         let H = subst (Bounded 2000000) (high-same b (S .bounds) f) (y-high-bounded b (S .bounds) f B sides) in
-        let h = height-between (r .y-low) (r .y-high) (L .fine) (H .fine) (countedIn c (r .y-low) (r .y-high) (S .inset) (S .apart) (p .sheet) (Y .standing)) (counted-fits c (r .y-low) (r .y-high) (S .inset) (S .apart) (p .sheet) (Y .standing)) y (Y .freed) in (
+        let is = countedIn c (r .y-low) (r .y-high) (S .inset) (S .apart) (p .sheet) (Y .standing) in
+        let F = counted-fits c (r .y-low) (r .y-high) (S .inset) (S .apart) (p .sheet) (Y .standing) in
+        let h = height-between (r .y-low) (r .y-high) (L .fine) (H .fine) is F y g (Y .freed) in
+        let Q : Upto 2000000 y = record { atLeast = low (k (r .y-low)) (k y) (L .bound .atLeast) (h .1); atMost = high (k (r .y-high)) (k y) (H .bound .atMost) (h .2) } in
+        let G = clear-between (r .y-high) y (H .fine) (finite (h .0)) (h .2) is F 2000000 (H .bound) Q (lit≤ tt) in (
           subst (Bounded 3000000) (sym (Y .x-is)) (subst (Bounded 3000000) (x-same b (S .bounds) f (Y .column-number)) (column-bounded b (S .bounds) f B sides R (Y .column-number))),
-          record { fine = finite (h .0); bound = record { atLeast = low (k (r .y-low)) (k y) (L .bound .atLeast) (h .1); atMost = high (k (r .y-high)) (k y) (H .bound .atMost) (h .2) } },
+          record { fine = finite (h .0); bound = Q },
+          subst Finite (sym (h .3)) (finite (G .0 .num)),
         )
       where
         low : (l y : ℕ) → o ≤ l + 2000000 * u → l ≤ y → o ≤ y + 2000000 * u
@@ -198,12 +204,13 @@ module _ (j : Job) (s : State) (w : Rooms) (e : consistent j s w ≡ true) (D : 
   unfolding newStrips
   written kind known c G one =
       let i = shape-is kind known (c .orientation) one in
-      let Y = subst (λ (t : Shape). Yielded p t (c .x) (c .y)) i (G .place) in
-      let r = place-bounded kind known (c .orientation) one (c .x) (c .y) Y in
+      let Y = subst (λ (t : Shape). Yielded p t (c .x) (c .y) (c .gap)) i (G .place) in
+      let r = place-bounded kind known (c .orientation) one (c .x) (c .y) (c .gap) Y in
       let S′ = shapeAt (s .tables) (w .shapes) (16 * kind + c .orientation) in
       record {
         x = r .0 .fine;
         y = r .1 .fine;
+        gap = r .2;
         right = subst Finite (sym (G .right-is ∙ ap (λ t. c .x ⊕ t .bounds .right) i)) (sum-bounded (r .0) (sides kind known (c .orientation) one .right) (lit≤ tt));
         strips = subst (λ (t : Shape). All Finite (movedStrips (t .apart) (c .x) (c .y))) (sym i) (moved-all (S′ .apart) (c .x) (c .y) (aparts kind known (c .orientation) one) (r .0) (r .1));
       }
@@ -222,6 +229,7 @@ pub record MadeBy (s : State) (w : Rooms) (r : Step) : Type 0 where
   pub tables : r .state .tables ≡ s .tables
   pub xs : Made (s .layout .x) (r .state .layout .x)
   pub ys : Made (s .layout .y) (r .state .layout .y)
+  pub gaps : Made (s .layout .gap) (r .state .layout .gap)
   pub right : (r .state .layout .right ≡ s .layout .right) ⊎ Finite (r .state .layout .right)
   pub unplaced-area : (r .state .layout .«unplaced_area» ≡ s .layout .«unplaced_area») ⊎ Finite (r .state .layout .«unplaced_area»)
   pub shapes : r .rooms .shapes ≡ w .shapes
@@ -234,6 +242,7 @@ nothing-made s w r a b =
       tables = ap (λ s. s .tables) a;
       xs = λ i. inl (ap (λ s. getD (s .layout .x) i posZero) a);
       ys = λ i. inl (ap (λ s. getD (s .layout .y) i posZero) a);
+      gaps = λ i. inl (ap (λ s. getD (s .layout .gap) i posZero) a);
       right = inl (ap (λ s. s .layout .right) a);
       unplaced-area = inl (ap (λ s. s .layout .«unplaced_area») a);
       shapes = ap (λ w. w .shapes) b;
@@ -311,6 +320,7 @@ module _ (bytes : List ℕ) (j : Job) (a : readJob bytes ≡ accepted j) (s : St
         tables = refl;
         xs = made-set (s .layout .x) (s .taken) posZero (finite (zero-num binary64));
         ys = made-set (s .layout .y) (s .taken) posZero (finite (zero-num binary64));
+        gaps = made-set (s .layout .gap) (s .taken) posZero (finite (zero-num binary64));
         right = inl refl;
         unplaced-area = inr (area-made kind);
         shapes = refl;
@@ -324,6 +334,7 @@ module _ (bytes : List ℕ) (j : Job) (a : readJob bytes ≡ accepted j) (s : St
         tables = refl;
         xs = made-set (s .layout .x) (s .taken) (d .x) (W .x);
         ys = made-set (s .layout .y) (s .taken) (d .y) (W .y);
+        gaps = made-set (s .layout .gap) (s .taken) (d .gap) (W .gap);
         right = larger-made (s .layout .right) (d .right) (W .right);
         unplaced-area = inl refl;
         shapes = refl;

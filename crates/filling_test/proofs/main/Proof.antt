@@ -10,7 +10,7 @@ Inv-loop lengths₀ bytes₀ order₀ shapes₀ sheet₀ placed₀ sheet-entries
     lengths bytes order shapes sheet placed sheet-entries placed-entries sheet-firsts placed-firsts intervals positions state left =
     (11 ≡ length lengths) × (66000 ≡ length bytes) × (4100 ≡ length order) × (8200 ≡ length shapes) × (8200 ≡ length sheet) × (8200 ≡ length placed) ×
     (16500 ≡ length sheet-entries) × (16500 ≡ length placed-entries) × (1400 ≡ length sheet-firsts) × (1400 ≡ length placed-firsts) ×
-    (8200 ≡ length intervals) × (20500 ≡ length positions)
+    (8200 ≡ length intervals) × (24600 ≡ length positions)
 
 abbrev μ-loop : tie.MeasureT-loop
 μ-loop lengths₀ bytes₀ order₀ shapes₀ sheet₀ placed₀ sheet-entries₀ placed-entries₀ sheet-firsts₀ placed-firsts₀ intervals₀ positions₀ state₀ left₀

@@ -16,7 +16,7 @@ use Rattle.index.specs.declared.Interval.{Interval}
 use Rattle.index.specs.Buckets.{upFrom}
 use Rattle.index.specs.inner.Listing.{intervalAt}
 use Rattle.look.specs.declared.height.Look.the-variants.{Free, Full}
-use Rattle.look.specs.height.Smallest.{inside, outside, heightOf}
+use Rattle.look.specs.height.Smallest.{inside, outside, clearAbove, heightOf}
 use Rattle.look.specs.height.inner.Raising.{lift, raised, fromLast, FiniteEnd, FiniteEnds}
 use Rattle.look.proofs.height.SmallestHeight.{Real, real-of, lt-is-true, lt-is-false, le-is-true, le-is-false, inside-key, key-inside, outside-of, of-outside, same-outside, free-height, full-height, real-end}
 
@@ -94,7 +94,7 @@ module _ (yl : Float) (is : List Interval) (F : FiniteEnds is) where
 
   -- ---- the end
   module _ (yh : Float) (L : Finite yl) (H : Finite yh) where
-    pub ends-free : (y : Float) → Reached yl is y → outside is y ≡ true → le y yh ≡ true → Free (plusZero y) ≡ heightOf yl yh is
+    pub ends-free : (y : Float) → Reached yl is y → outside is y ≡ true → le y yh ≡ true → Free (plusZero y) (clearAbove yh is (plusZero y)) ≡ heightOf yl yh is
     ends-free y R u l =
         let p = plus-number y (R .fine) in
         sym (free-height yl yh is L H F (plusZero y) (record {

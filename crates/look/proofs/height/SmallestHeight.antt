@@ -21,7 +21,7 @@ use Rattle.index.proofs.BucketOrder.{smaller-finite}
 use Rattle.index.proofs.Flat.{mem-map, map-mem}
 use Rattle.look.specs.declared.height.Look.{Look}
 use Rattle.look.specs.declared.height.Look.the-variants.{Free, Full}
-use Rattle.look.specs.height.Smallest.{inside, outside, candidates, least, lowest, heightOf}
+use Rattle.look.specs.height.Smallest.{inside, outside, candidates, least, clearAbove, freeAt, lowest, heightOf}
 use Rattle.look.specs.height.inner.Raising.{FiniteEnd, FiniteEnds}
 
 -- ---- tests by keys
@@ -189,7 +189,7 @@ smaller-is a b = go (lt b a)
     go true = inr refl
     go false = inl refl
 
-least-is : (a : Float) (bs : List Float) → List·Memᴰ (least a bs) (a ∷ bs)
+pub least-is : (a : Float) (bs : List Float) → List·Memᴰ (least a bs) (a ∷ bs)
 unfolding least
 least-is a [] = List·Memᴰ·head refl
 least-is a (b ∷ bs) = go (List·Memᴰ·cases-cons (least-is (smaller a b) bs))
@@ -202,7 +202,7 @@ least-is a (b ∷ bs) = go (List·Memᴰ·cases-cons (least-is (smaller a b) bs)
     go (inl e) = pick e (smaller-is a b)
     go (inr m) = List·Memᴰ·tail (List·Memᴰ·tail m)
 
-least-bottom : (a : Float) (bs : List Float) → ((d : Float) → List·Memᴰ d (a ∷ bs) → Finite d) → (d : Float) → List·Memᴰ d (a ∷ bs) → k (least a bs) ≤ k d
+pub least-bottom : (a : Float) (bs : List Float) → ((d : Float) → List·Memᴰ d (a ∷ bs) → Finite d) → (d : Float) → List·Memᴰ d (a ∷ bs) → k (least a bs) ≤ k d
 unfolding least
 least-bottom a [] f d m = go (List·Memᴰ·cases-cons m)
   where
@@ -239,21 +239,22 @@ pub record Smallest (y-low y-high : Float) (is : List Interval) (h : Float) : Ty
 abbrev pub NoneFree : Float → Float → List Interval → Type 0
 NoneFree y-low y-high is = (z : Float) → Real z → k y-low ≤ k z → k z ≤ k y-high → outside is z ≡ true → ⊥
 
-pub lowest-full : (cs : List Float) → lowest cs ≡ Full → (c : Float) → List·Memᴰ c cs → ⊥
-unfolding lowest
-lowest-full [] e c m = List·Memᴰ·not-nil m
-lowest-full (d ∷ cs) e c m = free≢full e
-  where
-    free≢full : {y : Float} → Free y ≡ Full → ⊥
-    free≢full e = let z : _≡_ {A = ℕ} 0 1 = cc in omega arith
+free≢full : {y g : Float} → Free y g ≡ Full → ⊥
+free≢full e = let z : _≡_ {A = ℕ} 0 1 = cc in omega arith
 
-lowest-free : (cs : List Float) (h : Float) → lowest cs ≡ Free h → ((d : Float) → List·Memᴰ d cs → Finite d) → (c : Float) × List·Memᴰ c cs × (h ≡ plusZero c) × ((d : Float) → List·Memᴰ d cs → k c ≤ k d)
-unfolding lowest
-lowest-free [] h e f = absurd (free≢full (sym e))
-  where
-    free≢full : {y : Float} → Free y ≡ Full → ⊥
-    free≢full e = let z : _≡_ {A = ℕ} 0 1 = cc in omega arith
-lowest-free (d ∷ cs) h e f = let z : plusZero (least d cs) ≡ h = cc in (least d cs, least-is d cs, sym z, least-bottom d cs f)
+pub lowest-full : (yh : Float) (is : List Interval) (cs : List Float) → lowest yh is cs ≡ Full → (c : Float) → List·Memᴰ c cs → ⊥
+unfolding lowest freeAt
+lowest-full yh is [] e c m = List·Memᴰ·not-nil m
+lowest-full yh is (d ∷ cs) e c m = free≢full e
+
+lowest-free : (yh : Float) (is : List Interval) (cs : List Float) (h g : Float) → lowest yh is cs ≡ Free h g → ((d : Float) → List·Memᴰ d cs → Finite d)
+    → (c : Float) × List·Memᴰ c cs × (h ≡ plusZero c) × ((d : Float) → List·Memᴰ d cs → k c ≤ k d) × (g ≡ clearAbove yh is h)
+unfolding lowest freeAt
+lowest-free yh is [] h g e f = absurd (free≢full (sym e))
+lowest-free yh is (d ∷ cs) h g e f =
+    let z : plusZero (least d cs) ≡ h = cc in
+    let y : clearAbove yh is (plusZero (least d cs)) ≡ g = cc in
+    (least d cs, least-is d cs, sym z, least-bottom d cs f, sym y ∙ ap (clearAbove yh is) z)
 
 -- ---- candidates, where no end is a NaN
 module _ (yl : Float) (is : List Interval) (L : Real yl) (E : (i : Interval) → List·Memᴰ i is → RealEnd i) where
@@ -318,11 +319,15 @@ module _ (yl yh : Float) (is : List Interval) (L : Finite yl) (H : Finite yh) (F
 
   pub height-full : heightOf yl yh is ≡ Full → NoneFree yl yh is
   unfolding heightOf
-  height-full e z Z h l o = let c = some-height z Z h l o in lowest-full heights e (c .0) (c .1)
+  height-full e z Z h l o = let c = some-height z Z h l o in lowest-full yh is heights e (c .0) (c .1)
 
-  pub height-free : (h : Float) → heightOf yl yh is ≡ Free h → Smallest yl yh is h
+  pub height-clear : (h g : Float) → heightOf yl yh is ≡ Free h g → g ≡ clearAbove yh is h
   unfolding heightOf
-  height-free h e = rw (w .2) (record {
+  height-clear h g e = lowest-free yh is heights h g e (λ d m. of-heights d m .0) .4
+
+  pub height-free : (h g : Float) → heightOf yl yh is ≡ Free h g → Smallest yl yh is h
+  unfolding heightOf
+  height-free h g e = rw (w .2) (record {
     number = p .0;
     from = omega (arith, p .1, n .1);
     upto = omega (arith, p .1, n .2);
@@ -330,8 +335,8 @@ module _ (yl yh : Float) (is : List Interval) (L : Finite yl) (H : Finite yh) (F
     first = λ z Z g o. first z Z g o (below-or-not (k yh) (k z));
   })
     where
-      w : (c : Float) × List·Memᴰ c heights × (h ≡ plusZero c) × ((d : Float) → List·Memᴰ d heights → k c ≤ k d)
-      w = lowest-free heights h e (λ d m. of-heights d m .0)
+      w : (c : Float) × List·Memᴰ c heights × (h ≡ plusZero c) × ((d : Float) → List·Memᴰ d heights → k c ≤ k d) × (g ≡ clearAbove yh is h)
+      w = lowest-free yh is heights h g e (λ d m. of-heights d m .0)
 
       n : Finite (w .0) × (k yl ≤ k (w .0)) × (k (w .0) ≤ k yh) × (outside is (w .0) ≡ true)
       n = of-heights (w .0) (w .1)
@@ -344,20 +349,21 @@ module _ (yl yh : Float) (is : List Interval) (L : Finite yl) (H : Finite yh) (F
       first z Z g o (inr l) = let c = some-height z Z g l o in let q = w .3 (c .0) (c .1) in let r = c .2 in omega (arith, p .1)
 
   -- ---- and only that
-  pub free-height : (h : Float) → Smallest yl yh is h → heightOf yl yh is ≡ Free h
+  pub free-height : (h : Float) → Smallest yl yh is h → heightOf yl yh is ≡ Free h (clearAbove yh is h)
   free-height h S = go (heightOf yl yh is) refl
     where
-      go : (l : Look) → heightOf yl yh is ≡ l → l ≡ Free h
+      go : (l : Look) → heightOf yl yh is ≡ l → l ≡ Free h (clearAbove yh is h)
       go Full e = absurd (height-full e h (real-of (finite (S .number))) (S .from) (S .upto) (S .out))
-      go (Free g) e =
-          let G = height-free g e in
+      go (Free g c) e =
+          let G = height-free g c e in
           let a = G .first h (real-of (finite (S .number))) (S .from) (S .out) in
           let b = S .first g (real-of (finite (G .number))) (G .from) (G .out) in
-          ap Free (same (G .number) (S .number) (omega arith))
+          let q : g ≡ h = same (G .number) (S .number) (omega arith) in
+          ap (Free g) (height-clear g c e) ∙ ap (λ (z : Float). Free z (clearAbove yh is z)) q
 
   pub full-height : NoneFree yl yh is → heightOf yl yh is ≡ Full
   full-height N = go (heightOf yl yh is) refl
     where
       go : (l : Look) → heightOf yl yh is ≡ l → l ≡ Full
       go Full e = refl
-      go (Free g) e = let G = height-free g e in absurd (N g (real-of (finite (G .number))) (G .from) (G .upto) (G .out))
+      go (Free g c) e = let G = height-free g c e in absurd (N g (real-of (finite (G .number))) (G .from) (G .upto) (G .out))

@@ -3,7 +3,7 @@
 use mathlib.Core.Bool.{Bool, true, false, not, _&&_}
 use mathlib.Core.List.{List, [], _∷_, map}
 use lib.Ieee.{Float, lt, le}
-use Rattle.numbers.specs.Numbers.{smaller, plusZero}
+use Rattle.numbers.specs.Numbers.{_⊖_, smaller, plusZero}
 use Rattle.index.specs.declared.Interval.{Interval}
 use Rattle.index.specs.Buckets.{keep}
 use Rattle.look.specs.declared.height.Look.{Look}
@@ -27,11 +27,23 @@ unfoldable pub least : Float → List Float → Float
 least a [] = a
 least a (b ∷ bs) = least (smaller a b) bs
 
+-- document 02, W7: "the next counted interval's bottom at or above it, or y_high if none is below that"
+unfoldable pub nextBottom : Float → List Interval → Float → Float
+nextBottom y-high is h = least y-high (keep (λ b. le h b) (map (λ i. i .from) is))
+
+-- "the clear height above it: .., minus the height"; a bottom that is minus zero is plus zero
+unfoldable pub clearAbove : Float → List Interval → Float → Float
+clearAbove y-high is h = plusZero (nextBottom y-high is h) ⊖ h
+
+-- "A free look now answers its height and the clear height above it"
+unfoldable pub freeAt : Float → List Interval → Float → Look
+freeAt y-high is h = Free h (clearAbove y-high is h)
+
 -- "A look answers free with its height, or full": the smallest of the heights that are left; what is answered is no minus zero
-unfoldable pub lowest : List Float → Look
-lowest [] = Full
-lowest (c ∷ cs) = Free (plusZero (least c cs))
+unfoldable pub lowest : Float → List Interval → List Float → Look
+lowest y-high is [] = Full
+lowest y-high is (c ∷ cs) = freeAt y-high is (plusZero (least c cs))
 
 -- "The height is the smallest from y_low on that lies in no forbidden interval, and it is free if at most y_high."
 unfoldable pub heightOf : Float → Float → List Interval → Look
-heightOf y-low y-high is = lowest (keep (λ c. le c y-high && outside is c) (candidates y-low is))
+heightOf y-low y-high is = lowest y-high is (keep (λ c. le c y-high && outside is c) (candidates y-low is))

@@ -1,13 +1,13 @@
 -- What is written down of a copy, in the tracks and the spots. Assumes nothing.
 use Prim.Native.Nat.{ℕ, _+_, _*_, _<_, _≤_}
 use native.Mathlib.Omega.{arith}
-use mathlib.Core.Path.{_≡_, ap, _∙_}
+use mathlib.Core.Path.{_≡_, sym, ap, subst, _∙_}
 use mathlib.Core.List.{List, _++_}
 use lib.ListN.{length, getD, set, take, drop, length-set, List·getD-append}
 use lib.Seq.{getD-append-add, getD-drop, length-front, length-take-le}
 use lib.Ieee.{Float, nan}
-use Rattle.rooms.specs.tracks.inner.Tracks.{field, nextColumns, lookCounts, orientations, xs, ys, trackNumbers, spotNumbers}
-use Rattle.rooms.proofs.tracks.Fields.{field-same, field-before, field-take, slot-first, slot-number, first-kept, number-kept, place-number}
+use Rattle.rooms.specs.tracks.inner.Tracks.{field, nextColumns, lookCounts, orientations, xs, ys, gaps, trackNumbers, spotNumbers}
+use Rattle.rooms.proofs.tracks.Fields.{field-same, field-before, field-take, field-set, field-kept, row-first, first-stored, place-number}
 
 -- ---- the slots' numbers in the front of the tracks, which was lent
 module _ (tracks front : List ℕ) (long : trackNumbers ≤ length tracks) (same : length front ≡ length (take 2048 tracks)) where
@@ -49,11 +49,34 @@ pub front-field : (tracks : List ℕ) (r : ℕ) → r < 2 → field 0 2 r 1024 (
 front-field tracks r h = field-take 0 2 r 1024 2048 tracks (λ i b. omega arith)
 
 -- ---- a spot
-module _ (spots : List Float) (long : spotNumbers ≤ length spots) (at : ℕ) (h : at < 4096) (a b : Float) where
-  pub x-written : xs (set (set spots (2 * at) a) (2 * at + 1) b) ≡ set (xs spots) at a
-  x-written = first-kept nan (set spots (2 * at) a) 4096 at b ∙ slot-first nan spots 4096 at a h (omega arith)
+module _ (spots : List Float) (long : spotNumbers ≤ length spots) (at : ℕ) (h : at < 4096) (a b g : Float) where
+  abbrev First : List Float
+  First = set spots (3 * at) a
 
-  pub y-written : ys (set (set spots (2 * at) a) (2 * at + 1) b) ≡ set (ys spots) at b
+  abbrev Second : List Float
+  Second = set First (3 * at + 1) b
+
+  first-long : spotNumbers ≤ length First
+  first-long = subst (λ (n : ℕ). spotNumbers ≤ n) (sym (length-set spots (3 * at) a)) long
+
+  second-long : spotNumbers ≤ length Second
+  second-long = subst (λ (n : ℕ). spotNumbers ≤ n) (sym (length-set First (3 * at + 1) b)) first-long
+
+  pub x-written : xs (set Second (3 * at + 2) g) ≡ set (xs spots) at a
+  x-written =
+      field-kept nan 3 2 0 4096 Second at g (omega arith) (omega arith) (λ e. absurd (omega arith))
+      ∙ (field-kept nan 3 1 0 4096 First at b (omega arith) (omega arith) (λ e. absurd (omega arith))
+      ∙ row-first nan 3 spots 4096 at a (omega arith) h (omega arith))
+
+  pub y-written : ys (set Second (3 * at + 2) g) ≡ set (ys spots) at b
   y-written =
-      slot-number nan (set spots (2 * at) a) 4096 at b h (let e = length-set spots (2 * at) a in omega arith)
-      ∙ ap (λ (l : List Float). set l at b) (number-kept nan spots 4096 at a)
+      field-kept nan 3 2 1 4096 Second at g (omega arith) (omega arith) (λ e. absurd (omega arith))
+      ∙ (field-set nan 3 1 4096 First at b h (omega arith) (let e = first-long in omega arith)
+      ∙ ap (λ (l : List Float). set l at b) (first-stored nan 3 1 4096 spots at a (omega arith) (λ e. absurd (omega arith))))
+
+  pub gap-written : gaps (set Second (3 * at + 2) g) ≡ set (gaps spots) at g
+  gap-written =
+      field-set nan 3 2 4096 Second at g h (omega arith) (let e = second-long in omega arith)
+      ∙ ap (λ (l : List Float). set l at g)
+      (field-kept nan 3 1 2 4096 First at b (omega arith) (omega arith) (λ e. absurd (omega arith))
+      ∙ first-stored nan 3 2 4096 spots at a (omega arith) (λ e. absurd (omega arith)))

@@ -100,7 +100,7 @@ placeWith ix w area slot t placed e s f c =
 unfoldable pub placeOf : Index → Surroundings → Float → ℕ → ℕ → Totals → List Float → List ℕ → List ℕ → List ℕ → List ℕ → List ℕ → Placed
 placeOf ix w area slot n t placed e s f counts next = placeWith ix w area slot t placed e s f (chooseFrom w slot n 0 (chosen Winners.Nowhere counts next))
 
--- ---- what is written down of a copy: 0 for none, or 1 + orientation with x and y
+-- ---- what is written down of a copy: 0 for none, or 1 + orientation with x, y and gap
 abbrev pub orientationNumber : Outcome → ℕ
 orientationNumber (At p) = p .orientation + 1
 orientationNumber Nowhere = 0
@@ -115,3 +115,8 @@ abbrev pub yOf : Outcome → Float
 yOf (At p) = p .y
 yOf Nowhere = posZero
 yOf (Refused r) = posZero
+
+abbrev pub gapOf : Outcome → Float
+gapOf (At p) = p .gap
+gapOf Nowhere = posZero
+gapOf (Refused r) = posZero

@@ -157,7 +157,13 @@ module _ (p : Planner) where
     reach-stands n (suc o) b e =
         ap₂ (λ (l : List Float) (r : Float). reachMoved l (getD (s .layout .x) n nan) r) (sym (lie (getD (s .order) n 0) o)) e
         ∙ sym (reach-more a (standingTo s n)
-        (record { copy = record { place = n; kind = getD (s .order) n 0 }; orientation = o; x = getD (s .layout .x) n nan; y = getD (s .layout .y) n nan }))
+        (record {
+          copy = record { place = n; kind = getD (s .order) n 0 };
+          orientation = o;
+          x = getD (s .layout .x) n nan;
+          y = getD (s .layout .y) n nan;
+          gap = getD (s .layout .gap) n nan;
+        }))
 
     reach-is : (n : ℕ) → Reach n ≡ reachOf a (standingStrips p (standingTo s n))
     unfolding reachTo standingTo

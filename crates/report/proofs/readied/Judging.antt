@@ -28,19 +28,19 @@ when-is Accepted l q = refl
 when-is (Refused k) l q = refl
 
 -- a position for each copy
-pub positions-many : (order : List ℕ) (copies room : ℕ) → length order ≡ copies → copies ≤ room / 5 → 5 * length order ≤ room
+pub positions-many : (order : List ℕ) (copies room : ℕ) → length order ≡ copies → copies ≤ room / 6 → 6 * length order ≤ room
 positions-many order copies room e h = omega arith
 
 module _ (j : Job) (l : Lent) (copies : ℕ) (n : j .copies ≡ copies) (room : List Float) (z : room ≡ zeros posZero (l .positions)) where
-  capacity-is : positionCapacity (l .positions) ≡ length room / 5
-  capacity-is = ap (λ (m : ℕ). m / 5) (sym (ap length z ∙ length-zeros posZero (l .positions)))
+  capacity-is : positionCapacity (l .positions) ≡ length room / 6
+  capacity-is = ap (λ (m : ℕ). m / 6) (sym (ap length z ∙ length-zeros posZero (l .positions)))
 
   -- 30 is not met
-  pub wide : (v : Verdict) → copies ≤ length room / 5 → refuseIf (ltb (positionCapacity (l .positions)) (j .copies)) Why.PositionRoom v ≡ v
+  pub wide : (v : Verdict) → copies ≤ length room / 6 → refuseIf (ltb (positionCapacity (l .positions)) (j .copies)) Why.PositionRoom v ≡ v
   wide v h = refuse-no _ Why.PositionRoom v (le-ltb (positionCapacity (l .positions)) (j .copies) (subst (λ (m : ℕ). m ≤ positionCapacity (l .positions)) (sym n) (subst (λ (m : ℕ). copies ≤ m) (sym capacity-is) h)))
 
   -- 30
-  pub narrow : (v : Verdict) → length room / 5 < copies → refuseIf (ltb (positionCapacity (l .positions)) (j .copies)) Why.PositionRoom v ≡ Refused Why.PositionRoom
+  pub narrow : (v : Verdict) → length room / 6 < copies → refuseIf (ltb (positionCapacity (l .positions)) (j .copies)) Why.PositionRoom v ≡ Refused Why.PositionRoom
   narrow v h = refuse-yes _ Why.PositionRoom v (lt-ltb (positionCapacity (l .positions)) (j .copies) (subst (λ (m : ℕ). positionCapacity (l .positions) < m) (sym n) (subst (λ (m : ℕ). m < copies) (sym capacity-is) h)))
 
   -- only the number

@@ -15,12 +15,15 @@ enum-told : tie.Need-enum-told
 enum-told c = search needs
 
 offcut-requires : tie.Need-offcut-requires
-offcut-requires c κs = let p = c .before .before .before .before .before .before .before .before .before .before .before .pre in (p .2, p .3, p .6)
+offcut-requires c κs =
+    let c12 = c .before .before .before .before .before .before .before .before .before .before .before .before in
+    let p = c12 .pre in (p .2, p .3, p .6)
 
 plan-of-requires : tie.Need-plan-of-requires
 plan-of-requires c κs =
-    let p = c .before .before .before .before .before .before .before .before .before .before .before .before .before .pre in
-    (p .0, p .1, self _, p .2, p .3, p .4, p .5, p .7 (c .before .before .enum-told .given .1), p .8, p .9)
+    let c14 = c .before .before .before .before .before .before .before .before .before .before .before .before .before .before in
+    let p = c14 .pre in
+    (p .0, p .1, self _, p .2, p .3, p .4, p .5, p .7 (c .before .before .enum-told .given .1), p .8, p .9, p .10)
 
 enum-known-verdict : tie.Need-enum-known-verdict
 enum-known-verdict c = search needs
@@ -29,28 +32,31 @@ refused-requires : tie.Need-refused-requires
 refused-requires c κs = tt
 
 same-length : tie.Need-same-length
-same-length c = c .before .before .plan-of .kept .1 .1 .1 .1 .1 .1 .1 .1 .1 .1 .1 .1 .0
+same-length c = c .before .before .plan-of .kept .1 .1 .1 .1 .1 .1 .1 .1 .1 .1 .1 .1 .1 .0
 
 returns : tie.Need-returns
 returns c =
-    let a = c .before .before .before .before .before .before .before .before .before .before .before .before .before .before .before .before .args in
-    let p = c .before .before .before .before .before .before .before .before .before .before .before .before .before .before .before .before .pre in
+    let c16 = c .before .before .before .before .before .before .before .before .before .before .before .before .before .before .before .before in
+    let c17 = c16 .before in
+    let a = c17 .args in
+    let p = c17 .pre in
     let q = c .before .before .plan-of in
     let o = c .before .before .before .before .offcut in
     λ j areas s next l T n e h f.
     told-reply j areas s next l (a .rows .now) (a .kinds) (a .verdict) (c .before .before .before .before .before .enum-told .given .1) (a .order .now)
-    (a .look-counts .now) (a .t) (a .orientation .now) (a .x .now) (a .y .now) (o .result) (a .improvements) (a .positions .now) _ (q .result)
-    (p .2) (p .3) (p .4) T n
-    (offcut-told s (a .order .now) next (a .look-counts .now) (a .t) (a .orientation .now) (a .x .now) (a .y .now) (p .2) (p .3) (p .4) (plannerOf j)
+    (a .look-counts .now) (a .t) (a .orientation .now) (a .x .now) (a .y .now) (a .gap .now) (o .result) (a .improvements) (a .positions .now) _ (q .result)
+    (p .2) (p .3) (p .4) (p .10) T n
+    (offcut-told s (a .order .now) next (a .look-counts .now) (a .t) (a .orientation .now) (a .x .now) (a .y .now) (a .gap .now) (p .2) (p .3) (p .4) (p .10) (plannerOf j)
     (a .parts .now) (a .shapes .now) (a .sheet-right) (o .result) h e (o .ensures))
     f (q .ensures)
 
 returns-2 : tie.Need-returns-2
 returns-2 c =
-    let a = c .before .before .before .before .before .before .before .before .before .before .before .before .before .args in
+    let c14 = c .before .before .before .before .before .before .before .before .before .before .before .before .before .before in
+    let a = c14 .args in
     λ j areas s next l T n e h f.
     stopped-reply j l (a .verdict) _ (c .before .before .verdict .given .1) s (a .order .now) next (a .look-counts .now) (a .t) (a .orientation .now)
-    (a .x .now) (a .y .now) (a .improvements) (a .positions .now) f (c .refused .result) (c .refused .ensures)
+    (a .x .now) (a .y .now) (a .gap .now) (a .improvements) (a .positions .now) f (c .refused .result) (c .refused .ensures)
 
 pub report-spec : {M : Type 1} → statement M
 report-spec = tie.close (tie.spec enum-told offcut-requires plan-of-requires enum-known-verdict refused-requires same-length returns returns-2)

@@ -37,6 +37,6 @@ plannedWhen Accepted l q = q
 plannedWhen (Refused k) l q = notPlanned k l
 
 -- the plan of a filling that ended so, after so many improvements
-abbrev pub reported : Verdict → Job → Lent → Planner → List ℕ → List ℕ → List ℕ → Totals → List ℕ → List Float → List Float → ℕ → Planned
-reported v j l p order next looks t orientation x y improvements =
-    plannedWhen v l (plannedWith j l (stateBy p order (length order) next looks t orientation x y) improvements)
+abbrev pub reported : Verdict → Job → Lent → Planner → List ℕ → List ℕ → List ℕ → Totals → List ℕ → List Float → List Float → List Float → ℕ → Planned
+reported v j l p order next looks t orientation x y gap improvements =
+    plannedWhen v l (plannedWith j l (stateBy p order (length order) next looks t orientation x y gap) improvements)

@@ -1,7 +1,7 @@
 -- Laws of `field`: its length, its numbers, and what a store into the table does to it. Assumes nothing.
-use Prim.Native.Nat.{ℕ, _+_, _*_, _<_}
+use Prim.Native.Nat.{ℕ, _+_, _*_, _%_, _<_}
 use native.Mathlib.Omega.{arith}
-use native.Mathlib.Nat.{add-right-cancel, eq-of-mul-eq-mul-left}
+use native.Mathlib.Nat.{add-right-cancel, eq-of-mul-eq-mul-left, mod-eq-of-lt, mul-add-mod-self-left}
 use mathlib.Core.Path.{_≡_, sym, ap, subst, _∙_}
 use mathlib.Core.Logic.{inl, inr}
 use mathlib.Core.List.{List}
@@ -17,6 +17,12 @@ use Rattle.rooms.specs.tracks.inner.Tracks.{field}
 -- two rows at one place are one row
 one-row : (k r i j : ℕ) → 0 < k → k * j + r ≡ k * i + r → j ≡ i
 one-row k r i j h e = eq-of-mul-eq-mul-left k h j i (add-right-cancel r e)
+
+-- two numbers of rows at one place are one number
+one-number : (k r s i j : ℕ) → r < k → s < k → k * j + s ≡ k * i + r → r ≡ s
+one-number k r s i j a b e =
+    sym (mod-eq-of-lt a)
+    ∙ (sym (mul-add-mod-self-left k i r) ∙ (ap (λ (n : ℕ). n % k) (sym e) ∙ (mul-add-mod-self-left k j s ∙ mod-eq-of-lt b)))
 
 module _ {A : Type 0} where
   -- ---- a field's length and numbers
@@ -71,22 +77,36 @@ module _ {A : Type 0} where
   pub field-after : (d : A) (k r n : ℕ) (t : List A) (p : ℕ) (v : A) → p < r → field d k r n (set t p v) ≡ field d k r n t
   field-after d k r n t p v h = field-other d k r n t p v (λ i b e. absurd (omega arith))
 
+  -- number r of a row is stored, number s of every row stays
+  pub field-kept : (d : A) (k r s n : ℕ) (t : List A) (i : ℕ) (v : A) → r < k → s < k → (r ≡ s → ⊥) → field d k s n (set t (k * i + r) v) ≡ field d k s n t
+  field-kept d k r s n t i v a b h = field-other d k s n t (k * i + r) v (λ j m e. h (one-number k r s i j a b e))
+
+  -- ---- the first number of a row
+
+  pub row-first : (d : A) (k : ℕ) (t : List A) (n i : ℕ) (v : A) → 0 < k → i < n → k * i < length t → field d k 0 n (set t (k * i) v) ≡ set (field d k 0 n t) i v
+  row-first d k t n i v p h q =
+      let z : k * i ≡ k * i + 0 = omega arith in
+      ap (λ (p : ℕ). field d k 0 n (set t p v)) z ∙ field-set d k 0 n t i v h p (omega arith)
+
+  pub first-stored : (d : A) (k s n : ℕ) (t : List A) (i : ℕ) (v : A) → s < k → (0 ≡ s → ⊥) → field d k s n (set t (k * i) v) ≡ field d k s n t
+  first-stored d k s n t i v b h =
+      let z : k * i ≡ k * i + 0 = omega arith in
+      ap (λ (p : ℕ). field d k s n (set t p v)) z ∙ field-kept d k 0 s n t i v (omega arith) b h
+
   -- ---- two numbers to a row
 
   pub slot-first : (d : A) (t : List A) (n i : ℕ) (v : A) → i < n → 2 * i < length t → field d 2 0 n (set t (2 * i) v) ≡ set (field d 2 0 n t) i v
-  slot-first d t n i v h q =
-      let z : 2 * i ≡ 2 * i + 0 = omega arith in
-      ap (λ (p : ℕ). field d 2 0 n (set t p v)) z ∙ field-set d 2 0 n t i v h (omega arith) (omega arith)
+  slot-first d t n i v h q = row-first d 2 t n i v (omega arith) h q
 
   pub slot-number : (d : A) (t : List A) (n i : ℕ) (v : A) → i < n → 2 * i + 1 < length t
       → field d 2 1 n (set t (2 * i + 1) v) ≡ set (field d 2 1 n t) i v
   slot-number d t n i v h q = field-set d 2 1 n t i v h (omega arith) q
 
   pub first-kept : (d : A) (t : List A) (n i : ℕ) (v : A) → field d 2 0 n (set t (2 * i + 1) v) ≡ field d 2 0 n t
-  first-kept d t n i v = field-other d 2 0 n t (2 * i + 1) v (λ j b e. absurd (omega arith))
+  first-kept d t n i v = field-kept d 2 1 0 n t i v (omega arith) (omega arith) (λ e. absurd (omega arith))
 
   pub number-kept : (d : A) (t : List A) (n i : ℕ) (v : A) → field d 2 1 n (set t (2 * i) v) ≡ field d 2 1 n t
-  number-kept d t n i v = field-other d 2 1 n t (2 * i) v (λ j b e. absurd (omega arith))
+  number-kept d t n i v = first-stored d 2 1 n t i v (omega arith) (λ e. absurd (omega arith))
 
   -- ---- one number to a row, from r on
 

@@ -140,7 +140,7 @@ returns-3 c =
     let l = c14 .loop in
     let s = c10 .column-step in (
       at-free (a .k) (a .inset .now) (a .apart .now) (a .sheet .now) (a .placed .now) (a .room .now) (a .slot) (a .last) (a .from) (a .tracks .now)
-          (l .room) (l .room) (l .tracks) _ (l .c) (s .result) (l .inv) (c13 .if1 .left) (s .ensures .0) (s .ensures .1) (s .ensures .2) _ _
+          (l .room) (l .room) (l .tracks) _ (l .c) (s .result) (l .inv) (c13 .if1 .left) (s .ensures .0) (s .ensures .1) (s .ensures .2) _ _ _
           (c .before .before .before .before .look .given .1) (c .before .look2 .given .1),
       s .ensures .2 ∙ l .inv .nexts,
       c13 .if1 .left,

@@ -29,7 +29,7 @@ looked f l = record { found = f; counts = l }
 
 -- the column c where its look is free, 22 where it has no room, else what the columns after it give
 unfoldable pub afterLook : Look → ℕ → List ℕ → Looked → Looked
-afterLook (Free y) c counts next = looked (At c y) counts
+afterLook (Free y g) c counts next = looked (At c y g) counts
 afterLook Full c counts next = next
 
 unfoldable pub afterAnswer : Answer → ℕ → List ℕ → Looked → Looked
@@ -46,12 +46,12 @@ searchFrom f slot zero c counts = looked Nowhere counts
 searchFrom f slot (suc n) c counts = afterAnswer (f c) c (counted slot counts) (searchFrom f slot n (c + 1) (counted slot counts))
 
 abbrev pub Within : ℕ → Found → Type 0
-Within last (At c y) = c ≤ last
+Within last (At c y g) = c ≤ last
 Within last Nowhere = Unit
 Within last Overflow = Unit
 
 abbrev pub nextOf : Found → ℕ
-nextOf (At c y) = c + 1
+nextOf (At c y g) = c + 1
 nextOf Nowhere = 0
 nextOf Overflow = 0
 

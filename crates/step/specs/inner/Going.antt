@@ -19,7 +19,7 @@ use Rattle.filling.specs.NextCopy.{Step}
 use Rattle.accounts.specs.tables.inner.Tabled.{Tabled}
 use Rattle.rooms.specs.tracks.inner.Tracks.{nextColumns, lookCounts}
 use Rattle.place.specs.declared.Step as Place
-use Rattle.place.specs.inner.Placing.{orientationNumber, outcomeX, yOf}
+use Rattle.place.specs.inner.Placing.{orientationNumber, outcomeX, yOf, gapOf}
 use Rattle.step.specs.declared.Stepped.{Stepped}
 
 abbrev pub rooms : List Float → List Float → List Float → List ℕ → List ℕ → List ℕ → List ℕ → Rooms
@@ -66,6 +66,7 @@ takenOf n s r tracks =
         orientation = set (s .layout .orientation) (s .taken) (orientationNumber (r .outcome));
         x = set (s .layout .x) (s .taken) (outcomeX (r .outcome));
         y = set (s .layout .y) (s .taken) (yOf (r .outcome));
+        gap = set (s .layout .gap) (s .taken) (gapOf (r .outcome));
         «unplaced_area» = r .totals .«unplaced_area»;
         right = r .totals .right;
       };

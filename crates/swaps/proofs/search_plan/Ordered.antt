@@ -29,8 +29,8 @@ module _ (bytes : List ℕ) (j : Job) (read : readJob bytes ≡ accepted j) wher
   pub order-upto : (order : List ℕ) → rearranged j order ≡ true → length order ≤ 4096
   order-upto order r = let a = rearranged-length j order r in let c = job-good bytes j read .copies in omega arith
 
-  -- five numbers for each
-  pub order-positions : (order : List ℕ) → rearranged j order ≡ true → (room : ℕ) → 5 * j .copies ≤ room → 5 * length order ≤ room
+  -- six numbers for each
+  pub order-positions : (order : List ℕ) → rearranged j order ≡ true → (room : ℕ) → 6 * j .copies ≤ room → 6 * length order ≤ room
   order-positions order r room h = let a = rearranged-length j order r in omega arith
 
   -- the header counts them in 12 bits
@@ -54,5 +54,5 @@ module _ (own : List ℕ) (n : ℕ) (table room : List ℕ) (d : (n ≡ length o
   pub order-arranged : (j : Job) → rearranged j own ≡ true → rearranged j (take n table) ≡ true
   order-arranged j r = ap (rearranged j) order-laid ∙ r
 
-  pub order-room : (k : ℕ) → 5 * length own ≤ k → 5 * length (take n table) ≤ k
-  order-room k = subst (λ (o : List ℕ). 5 * length o ≤ k) (sym order-laid)
+  pub order-room : (k : ℕ) → 6 * length own ≤ k → 6 * length (take n table) ≤ k
+  order-room k = subst (λ (o : List ℕ). 6 * length o ≤ k) (sym order-laid)

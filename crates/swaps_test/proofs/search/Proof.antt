@@ -77,7 +77,7 @@ search-requires c κs =
       p .1,
       p .2,
       two-of 6144 (length (c11 .two-tracks .result)) (c11 .two-tracks .ensures),
-      two-of 8192 (length (c10 .two-spots .result)) (c10 .two-spots .ensures),
+      two-of 12288 (length (c10 .two-spots .result)) (c10 .two-spots .ensures),
       few-rounds _ j (p .0 .1 .read) (c19 .args .h) (p .0 .2),
       p .3,
     )

@@ -31,7 +31,7 @@ use Rattle.claims.proofs.plan_promises.Demand1.{nest-stops, nest-runs, tested}
 -- what the lines of positions need
 pub record Placed (p : Planned) : Type 0 where
   pub few : p .plan .placed ≤ 4096
-  pub fit : 5 * p .plan .placed ≤ length (p .lent .positions)
+  pub fit : 6 * p .plan .placed ≤ length (p .lent .positions)
 
 -- a room of zeros with something laid into it is not shorter
 laid-keeps : (xs room : List Float) → length room ≤ length (laid xs (zeros posZero room))

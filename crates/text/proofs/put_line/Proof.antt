@@ -67,6 +67,15 @@ mul-place-line-2 c = search needs
 shared-slice-read-place-line-2 : tie.Need-shared-slice-read-place-line-2
 shared-slice-read-place-line-2 c = search needs
 
+add-place-line-3 : tie.Need-add-place-line-3
+add-place-line-3 c = search needs
+
+mul-place-line-3 : tie.Need-mul-place-line-3
+mul-place-line-3 c = search needs
+
+shared-slice-read-place-line-3 : tie.Need-shared-slice-read-place-line-3
+shared-slice-read-place-line-3 c = search needs
+
 place-line-requires : tie.Need-place-line-requires
 place-line-requires c κs = search needs
 
@@ -76,21 +85,22 @@ same-length c = search needs
 returns : tie.Need-returns
 unfolding putLine positionAt
 returns c =
-    let c7 = c .before .before .before .before .before .before .before in
-    let c9 = c7 .before .before in
-    let c11 = c9 .before .before in
-    let c15 = c11 .before .before .before .before in
-    let e = c11 .floor .ensures in
-    let f = c9 .floor2 .ensures in
-    let g = c7 .floor3 .ensures in
-    let x = getD (c15 .args .room .now) (5 * c15 .args .i + 3) nan in
-    let y = getD (c15 .args .room .now) (5 * c15 .args .i + 4) nan in
+    let c8 = c .before .before .before .before .before .before .before .before in
+    let c10 = c8 .before .before in
+    let c12 = c10 .before .before in
+    let c16 = c12 .before .before .before .before in
+    let e = c12 .floor .ensures in
+    let f = c10 .floor2 .ensures in
+    let g = c8 .floor3 .ensures in
+    let x = getD (c16 .args .room .now) (6 * c16 .args .i + 3) nan in
+    let y = getD (c16 .args .room .now) (6 * c16 .args .i + 4) nan in
+    let z = getD (c16 .args .room .now) (6 * c16 .args .i + 5) nan in
+    let k = toUnsigned 64 (getD (c16 .args .room .now) (6 * c16 .args .i) nan) in
+    let n = toUnsigned 64 (getD (c16 .args .room .now) (6 * c16 .args .i + 1) nan) in
     wrote-same
-    (ap (λ (v : ℕ). line putWord (decimal v ∷ decimal (c9 .floor2 .result) ∷ decimal (c7 .floor3 .result) ∷ hex x ∷ hex y ∷ [])) e
-    ∙ (ap (λ (v : ℕ). line putWord (decimal (toUnsigned 64 (getD (c15 .args .room .now) (5 * c15 .args .i) nan)) ∷ decimal v ∷ decimal (c7 .floor3 .result) ∷
-    hex x ∷ hex y ∷ [])) f
-    ∙ ap (λ (v : ℕ). line putWord (decimal (toUnsigned 64 (getD (c15 .args .room .now) (5 * c15 .args .i) nan)) ∷ decimal
-    (toUnsigned 64 (getD (c15 .args .room .now) (5 * c15 .args .i + 1) nan)) ∷ decimal v ∷ hex x ∷ hex y ∷ [])) g))
+    (ap (λ (v : ℕ). line putWord (decimal v ∷ decimal (c10 .floor2 .result) ∷ decimal (c8 .floor3 .result) ∷ hex x ∷ hex y ∷ hex z ∷ [])) e
+    ∙ (ap (λ (v : ℕ). line putWord (decimal k ∷ decimal v ∷ decimal (c8 .floor3 .result) ∷ hex x ∷ hex y ∷ hex z ∷ [])) f
+    ∙ ap (λ (v : ℕ). line putWord (decimal k ∷ decimal n ∷ decimal v ∷ hex x ∷ hex y ∷ hex z ∷ [])) g))
     (c .before .before .place-line .ensures)
 
 pub put-line-spec : {M : Type 1} → statement M
@@ -116,6 +126,9 @@ put-line-spec =
     add-place-line-2
     mul-place-line-2
     shared-slice-read-place-line-2
+    add-place-line-3
+    mul-place-line-3
+    shared-slice-read-place-line-3
     place-line-requires
     same-length
     returns)

@@ -14,7 +14,7 @@ use Rattle.text.proofs.put_lines.Tie as tie
 
 abbrev Inv-loop : tie.InvT-loop
 Inv-loop out₀ at room n end₀ i₀ out end i =
-    (i ≤ n) × Wrote out₀ at (putsTo room i) out end × (end ≤ at + 101 * i)
+    (i ≤ n) × Wrote out₀ at (putsTo room i) out end × (end ≤ at + 118 * i)
 
 abbrev μ-loop : tie.MeasureT-loop
 μ-loop out₀ at room n end₀ i₀ out end i = n - i

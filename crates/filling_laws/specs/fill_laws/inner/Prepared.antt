@@ -22,7 +22,7 @@ use Rattle.filling.specs.Consistent.{sheetIndex}
 use Rattle.filling.specs.Start.{tablesOf, firstRooms}
 use Rattle.filling.specs.Fill.{Filling, filled, stopped}
 use Rattle.accounts.specs.tables.inner.Tabled.{Tabled}
-use Rattle.rooms.specs.tracks.inner.Tracks.{nextColumns, lookCounts, orientations, xs, ys}
+use Rattle.rooms.specs.tracks.inner.Tracks.{nextColumns, lookCounts, orientations, xs, ys, gaps}
 use Rattle.choose.specs.declared.Grid.{Grid}
 use Rattle.place.specs.declared.Totals.{Totals}
 
@@ -87,8 +87,8 @@ abbrev pub SheetFirsts : Given → List ℕ → Type 0
 SheetFirsts g firsts = FirstBuckets (g .index) (g .sheet) (capacity (g .sheet)) firsts
 
 -- the state after so many copies; what the layout holds of later ones does not count
-abbrev pub stateBy : Planner → List ℕ → ℕ → List ℕ → List ℕ → Totals → List ℕ → List Float → List Float → State
-stateBy p order taken next looks t orientation x y =
+abbrev pub stateBy : Planner → List ℕ → ℕ → List ℕ → List ℕ → Totals → List ℕ → List Float → List Float → List Float → State
+stateBy p order taken next looks t orientation x y gap =
     record {
       tables = tablesOf p;
       order = laid order (replicate 4096 0);
@@ -100,6 +100,7 @@ stateBy p order taken next looks t orientation x y =
         orientation = laid (take taken orientation) (replicate 4096 0);
         x = laid (take taken x) (replicate 4096 posZero);
         y = laid (take taken y) (replicate 4096 posZero);
+        gap = laid (take taken gap) (replicate 4096 posZero);
         «unplaced_area» = t .«unplaced_area»;
         right = t .right;
       };
@@ -124,10 +125,10 @@ nextAfter Accepted i n = i + 1
 nextAfter (Refused k) i n = n
 
 -- the state at the end, or the refusal first met
-abbrev pub fillingBy : Verdict → Planner → List ℕ → List ℕ → List ℕ → Totals → List ℕ → List Float → List Float → Filling
-fillingBy Accepted p order next looks t orientation x y = filled (stateBy p order (length order) next looks t orientation x y)
-fillingBy (Refused k) p order next looks t orientation x y = stopped k
+abbrev pub fillingBy : Verdict → Planner → List ℕ → List ℕ → List ℕ → Totals → List ℕ → List Float → List Float → List Float → Filling
+fillingBy Accepted p order next looks t orientation x y gap = filled (stateBy p order (length order) next looks t orientation x y gap)
+fillingBy (Refused k) p order next looks t orientation x y gap = stopped k
 
 -- the same in a filling's two tables
 abbrev pub fillingIn : Verdict → Planner → List ℕ → List ℕ → Totals → List Float → Filling
-fillingIn v p order tracks t spots = fillingBy v p order (nextColumns tracks) (lookCounts tracks) t (orientations tracks) (xs spots) (ys spots)
+fillingIn v p order tracks t spots = fillingBy v p order (nextColumns tracks) (lookCounts tracks) t (orientations tracks) (xs spots) (ys spots) (gaps spots)

@@ -11,10 +11,11 @@ use Rattle.numbers.proofs.Doubles.{k, Finite}
 use Rattle.index.specs.declared.Interval.{Interval}
 use Rattle.index.specs.Buckets.{upFrom}
 use Rattle.index.specs.inner.Listing.{intervalAt, intervals}
-use Rattle.look.specs.height.Smallest.{heightOf}
+use Rattle.look.specs.height.Smallest.{clearAbove, heightOf}
 use Rattle.look.specs.height.inner.Raising.{lift, raised, fromLast, inTurn, swapped, Rearranged, FiniteEnds}
 use Rattle.look.proofs.height.SmallestHeight.{real-of, lt-is-true, lt-is-false, le-is-false, of-outside}
 use Rattle.look.proofs.height.Passes.{lift-in, lift-above, lift-below, Reached, reached-start, raised-reach, still, ends-free, ends-past, raise-on, raise-end, raise-back, raise-first, above, above-less}
+use Rattle.look.proofs.height.Clear.{clear-is, clear-rearranged}
 use Rattle.look.proofs.height.Rearranging.{rearranged-refl, rearranged-trans, rearranged-more, length-swapped, swapped-rearranged, turn-even, turn-odd, Raised, raised-pass}
 use Rattle.look.specs.declared.height.Look.the-variants.{Free, Full}
 use Rattle.look.proofs.height.height.Statement.{statement}
@@ -24,6 +25,7 @@ use Rattle.look.proofs.height.height.Lts as lts
 use Rattle.look.proofs.height.next_turn.Reads as next-turn-reads
 use Rattle.numbers.proofs.plus_zero.Reads as plus-zero-reads
 use Rattle.look.proofs.height.raise.Reads as raise-reads
+use Rattle.look.proofs.height.next_bottom.Reads as next-bottom-reads
 use Rattle.look.proofs.height.raise_up.Reads as raise-up-reads
 
 abbrev Inv-loop : tie.InvT-loop
@@ -82,15 +84,32 @@ loop-again c = let l = c .before .before .before .before .before .before .before
 plus-zero-requires : tie.Need-plus-zero-requires Inv-loop μ-loop
 plus-zero-requires c κs = tt
 
+next-bottom-requires : tie.Need-next-bottom-requires Inv-loop μ-loop
+next-bottom-requires c κs = let l = c .before .before .before .before .loop in
+    let p = c .before .before .before .before .before .before .before .before .pre in
+    omega (arith, p .0, l .inv .0 .size)
+
+plus-zero-requires-2 : tie.Need-plus-zero-requires-2 Inv-loop μ-loop
+plus-zero-requires-2 c κs = tt
+
 same-length-2 : tie.Need-same-length-2 Inv-loop μ-loop
-same-length-2 c = c .before .before .before .loop .inv .0 .size
+same-length-2 c = c .before .before .before .before .before .before .loop .inv .0 .size
 
 returns-2 : tie.Need-returns-2 Inv-loop μ-loop
-returns-2 c = let l = c .before .before .before .loop in
-    let g = c .before .before .before .before .before .before .before .args in
-    let p = c .before .before .before .before .before .before .before .pre in
+returns-2 c = let c6 = c .before .before .before .before .before .before in
+    let c10 = c6 .before .before .before .before in
+    let l = c6 .loop in
+    let g = c10 .args in
+    let p = c10 .pre in
     let is = intervals (g .room .now) (g .n) in
-    ap Free (c .plus-zero .ensures) ∙ ends-free (g .y-low) is (p .3) (g .y-high) (p .1) (p .2) (l .y) (l .inv .1 .here) (l .inv .1 .out (lt-is-false (real-of (l .inv .1 .here .fine)) (real-of (l .inv .1 .next .fine)) (c .before .before .loop-test .left))) (c .before .if2 .taken)
+    let h = c .before .before .before .plus-zero .result in
+    let e = clear-is (g .y-high) (intervals (l .room) (g .n)) h _ _ (c .before .next-bottom .ensures) (c .plus-zero2 .ensures)
+    ∙ clear-rearranged (g .y-high) h (p .2) (g .n) (g .room .now) (l .room) (l .inv .0) (p .3) in
+    ap (Free h) e
+    ∙ (ap (λ (z : Float). Free z (clearAbove (g .y-high) is z)) (c .before .before .before .plus-zero .ensures)
+    ∙ ends-free (g .y-low) is (p .3) (g .y-high) (p .1) (p .2) (l .y) (l .inv .1 .here)
+    (l .inv .1 .out (lt-is-false (real-of (l .inv .1 .here .fine)) (real-of (l .inv .1 .next .fine)) (c .before .before .before .before .before .loop-test .left)))
+    (c .before .before .before .before .if2 .taken))
 
 same-length-3 : tie.Need-same-length-3 Inv-loop μ-loop
 same-length-3 c = c .before .before .loop .inv .0 .size
@@ -117,6 +136,8 @@ height-spec =
     loop-less
     loop-again
     plus-zero-requires
+    next-bottom-requires
+    plus-zero-requires-2
     same-length-2
     returns-2
     same-length-3

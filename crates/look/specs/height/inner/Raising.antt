@@ -6,10 +6,13 @@ use mathlib.Core.Bool.{Bool, true, false}
 use mathlib.Core.List.{List, [], _∷_, List·Memᴰ}
 use lib.ListN.{length, getD, set}
 use lib.Dec.{eqb}
-use lib.Ieee.{Float, nan}
+use lib.Ieee.{Float, nan, le}
 use Rattle.numbers.proofs.Doubles.{Finite}
+use Rattle.numbers.specs.Numbers.{smaller}
 use Rattle.index.specs.declared.Interval.{Interval}
 use Rattle.index.specs.inner.Listing.{intervalAt, intervals}
+use Rattle.look.specs.declared.height.Look.{Look}
+use Rattle.look.specs.declared.height.Look.the-variants.{Free, Full}
 use Rattle.look.specs.height.Smallest.{inside}
 
 -- ---- one pass: y goes up to the top of each interval that it lies in
@@ -28,6 +31,19 @@ fromLast r (suc n) = intervalAt r n ∷ fromLast r n
 -- even passes run up, odd ones down
 unfoldable pub inTurn : List Float → ℕ → ℕ → List Interval
 inTurn r n turn = elim (eqb (turn % 2) 0) [ true ↦ intervals r n | false ↦ fromLast r n ]
+
+-- ---- the clear height: the bottom b goes down to that of each interval that begins at h or above it
+unfoldable pub lower : Float → Float → Interval → Float
+lower h b i = elim (le h (i .from)) [ true ↦ smaller b (i .from) | false ↦ b ]
+
+unfoldable pub lowered : Float → Float → List Interval → Float
+lowered h b [] = b
+lowered h b (i ∷ is) = lowered h (lower h b i) is
+
+-- a look's height alone
+unfoldable pub heightIn : Look → List Float
+heightIn (Free h g) = h ∷ []
+heightIn Full = []
 
 -- ---- another order
 unfoldable pub swapped : List Float → ℕ → ℕ → List Float

@@ -6,7 +6,7 @@ use Rattle.program.proofs.print_plan.buffer.Statement.{statement}
 use Rattle.program.proofs.print_plan.buffer.Tie as tie
 
 returns : tie.Need-returns
-returns c = sym (length-replicate {A = ℕ} 524288 0)
+returns c = sym (length-replicate {A = ℕ} 589824 0)
 
 pub buffer-spec : {M : Type 1} → statement M
 buffer-spec = tie.close (tie.spec returns)

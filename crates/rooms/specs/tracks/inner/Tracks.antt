@@ -25,12 +25,15 @@ lookCounts tracks = field 0 2 1 1024 tracks
 abbrev pub orientations : List ℕ → List ℕ
 orientations tracks = field 0 1 2048 4096 tracks
 
--- spots: x and y of each of 4,096 places
+-- spots: x, y and gap of each of 4,096 places
 abbrev pub spotNumbers : ℕ
-spotNumbers = 8192
+spotNumbers = 12288
 
 abbrev pub xs : List Float → List Float
-xs spots = field nan 2 0 4096 spots
+xs spots = field nan 3 0 4096 spots
 
 abbrev pub ys : List Float → List Float
-ys spots = field nan 2 1 4096 spots
+ys spots = field nan 3 1 4096 spots
+
+abbrev pub gaps : List Float → List Float
+gaps spots = field nan 3 2 4096 spots

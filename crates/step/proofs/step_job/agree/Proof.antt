@@ -10,70 +10,73 @@ use Rattle.consistent.proofs.consistent.Reads as consistent-reads
 slice-aggregate-consistent : tie.Need-slice-aggregate-consistent
 slice-aggregate-consistent c =
     let c16 = c .before .before .before .before .before .before .before .before .before .before .before .before .before .before .before .before in
-    let c19 = c16 .before .before .before in
-    let a = c19 .args in
-    let g = c19 .good .1 .1 .1 .0 .1 .1 in
-    let p = c19 .pre in
-    sym (length-unmapped _ (a .state .tables .«inset_bounds») 4096 (g .0 .1 .1 .1 .1 .1 .1 .0 .1 .0 .1))
+    let c21 = c16 .before .before .before .before .before in
+    let g = c21 .good .1 .1 .1 .0 .1 .1 in
+    sym (length-unmapped _ (c21 .args .state .tables .«inset_bounds») 4096 (g .0 .1 .1 .1 .1 .1 .1 .0 .1 .0 .1))
 
 slice-aggregate-consistent-2 : tie.Need-slice-aggregate-consistent-2
 slice-aggregate-consistent-2 c =
     let c16 = c .before .before .before .before .before .before .before .before .before .before .before .before .before .before .before .before in
-    let c20 = c16 .before .before .before .before in
-    let a = c20 .args in
-    let g = c20 .good .1 .1 .1 .0 .1 .1 in
-    let p = c20 .pre in
-    sym (length-unmapped _ (a .state .tables .parts) 4096 (g .0 .1 .1 .1 .1 .1 .1 .1 .0 .1 .0 .1))
+    let c22 = c16 .before .before .before .before .before .before in
+    let g = c22 .good .1 .1 .1 .0 .1 .1 in
+    sym (length-unmapped _ (c22 .args .state .tables .parts) 4096 (g .0 .1 .1 .1 .1 .1 .1 .1 .0 .1 .0 .1))
 
 slice-aggregate-consistent-3 : tie.Need-slice-aggregate-consistent-3
 slice-aggregate-consistent-3 c =
     let c16 = c .before .before .before .before .before .before .before .before .before .before .before .before .before .before .before .before in
-    let c21 = c16 .before .before .before .before .before in
-    let a = c21 .args in
-    let g = c21 .good .1 .1 .1 .0 .1 .1 in
-    let p = c21 .pre in
-    sym (length-unmapped _ (a .state .order) 4096 (g .1 .0 .1 .0 .1))
+    let c23 = c16 .before .before .before .before .before .before .before in
+    let g = c23 .good .1 .1 .1 .0 .1 .1 in
+    sym (length-unmapped _ (c23 .args .state .order) 4096 (g .1 .0 .1 .0 .1))
 
 slice-aggregate-consistent-4 : tie.Need-slice-aggregate-consistent-4
 slice-aggregate-consistent-4 c =
     let c16 = c .before .before .before .before .before .before .before .before .before .before .before .before .before .before .before .before in
-    let c22 = c16 .before .before .before .before .before .before in
-    let a = c22 .args in
-    let g = c22 .good .1 .1 .1 .0 .1 .1 in
-    let p = c22 .pre in
-    sym (length-unmapped _ (a .state .«next_column») 1024 (g .1 .1 .1 .0 .1 .0 .1))
+    let c24 = c16 .before .before .before .before .before .before .before .before in
+    let g = c24 .good .1 .1 .1 .0 .1 .1 in
+    sym (length-unmapped _ (c24 .args .state .«next_column») 1024 (g .1 .1 .1 .0 .1 .0 .1))
 
 slice-aggregate-consistent-5 : tie.Need-slice-aggregate-consistent-5
 slice-aggregate-consistent-5 c =
     let c16 = c .before .before .before .before .before .before .before .before .before .before .before .before .before .before .before .before in
-    let c23 = c16 .before .before .before .before .before .before .before in
-    let a = c23 .args in
-    let g = c23 .good .1 .1 .1 .0 .1 .1 in
-    let p = c23 .pre in
-    sym (length-unmapped _ (a .state .«look_counts») 1024 (g .1 .1 .1 .1 .0 .1 .0 .1))
+    let c25 = c16 .before .before .before .before .before .before .before .before .before in
+    let g = c25 .good .1 .1 .1 .0 .1 .1 in
+    sym (length-unmapped _ (c25 .args .state .«look_counts») 1024 (g .1 .1 .1 .1 .0 .1 .0 .1))
+
+slice-aggregate-consistent-6 : tie.Need-slice-aggregate-consistent-6
+slice-aggregate-consistent-6 c =
+    let c16 = c .before .before .before .before .before .before .before .before .before .before .before .before .before .before .before .before in
+    let c28 = c16 .before .before .before .before .before .before .before .before .before .before .before .before in
+    let g = c28 .good .1 .1 .1 .0 .1 .1 in
+    sym (length-unmapped _ (c28 .args .state .layout .orientation) 4096 (g .1 .1 .1 .1 .1 .1 .0 .1 .1 .0 .1 .0 .1))
+
+slice-aggregate-consistent-7 : tie.Need-slice-aggregate-consistent-7
+slice-aggregate-consistent-7 c =
+    let c16 = c .before .before .before .before .before .before .before .before .before .before .before .before .before .before .before .before in
+    let c29 = c16 .before .before .before .before .before .before .before .before .before .before .before .before .before in
+    let g = c29 .good .1 .1 .1 .0 .1 .1 in
+    sym (length-unmapped _ (c29 .args .state .layout .gap) 4096 (g .1 .1 .1 .1 .1 .1 .0 .1 .1 .1 .1 .1 .0 .1 .0 .1))
 
 consistent-requires : tie.Need-consistent-requires
 consistent-requires c κs =
     let c16 = c .before .before .before .before .before .before .before .before .before .before .before .before .before .before .before .before in
-    let c25 = c16 .before .before .before .before .before .before .before .before .before in
-    let a = c25 .args in
-    let g = c25 .good .1 .1 .1 .0 .1 .1 in
-    let p = c25 .pre in (
+    let c29 = c16 .before .before .before .before .before .before .before .before .before .before .before .before .before in
+    let s = c29 .args .state in
+    let g = c29 .good .1 .1 .1 .0 .1 .1 in
+    let l = g .1 .1 .1 .1 .1 .1 .0 .1 .1 in
+    let p = c29 .pre in (
       p .0,
       p .1,
       p .2,
       p .3,
-      le-of-eq (sym (length-unmapped _ (a .state .order) 4096 (g .1 .0 .1 .0 .1))),
-      le-of-eq
-          (sym (length-unmapped _ (a .state .tables .«inset_bounds») 4096 (g .0 .1 .1 .1 .1 .1 .1 .0 .1 .0 .1))),
-      le-of-eq
-          (sym (length-unmapped _ (a .state .tables .parts) 4096 (g .0 .1 .1 .1 .1 .1 .1 .1 .0 .1 .0 .1))),
-      le-of-eq
-          (sym (length-unmapped _ (a .state .«next_column») 1024 (g .1 .1 .1 .0 .1 .0 .1))),
-      le-of-eq
-          (sym (length-unmapped _ (a .state .«look_counts») 1024 (g .1 .1 .1 .1 .0 .1 .0 .1))),
+      le-of-eq (sym (length-unmapped _ (s .order) 4096 (g .1 .0 .1 .0 .1))),
+      le-of-eq (sym (length-unmapped _ (s .tables .«inset_bounds») 4096 (g .0 .1 .1 .1 .1 .1 .1 .0 .1 .0 .1))),
+      le-of-eq (sym (length-unmapped _ (s .tables .parts) 4096 (g .0 .1 .1 .1 .1 .1 .1 .1 .0 .1 .0 .1))),
+      le-of-eq (sym (length-unmapped _ (s .«next_column») 1024 (g .1 .1 .1 .0 .1 .0 .1))),
+      le-of-eq (sym (length-unmapped _ (s .«look_counts») 1024 (g .1 .1 .1 .1 .0 .1 .0 .1))),
       p .4,
       p .5,
+      le-of-eq (sym (length-unmapped _ (s .layout .orientation) 4096 (l .0 .1 .0 .1))),
+      le-of-eq (sym (length-unmapped _ (s .layout .gap) 4096 (l .1 .1 .1 .0 .1 .0 .1))),
     )
 
 same-length : tie.Need-same-length
@@ -85,10 +88,11 @@ same-length-2 c = c .before .before .before .before .consistent .kept .1 .1 .1 .
 returns : tie.Need-returns
 returns c =
     let c16 = c .before .before .before .before .before .before .before .before .before .before .before .before .before .before .before .before in
-    let c30 = c16 .before .before .before .before .before .before .before .before .before .before .before .before .before .before in
-    let a = c30 .args in
+    let c32 = c16 .before .before .before .before .before .before .before .before .before .before .before .before .before .before .before .before in
+    let c34 = c32 .before .before in
+    let l = c34 .args .state .layout in
     let e = c .before .before .before .before .consistent .ensures in
-    (λ j areas t k n. e .0 j areas (a .state .layout .orientation) (a .state .layout .x) (a .state .layout .y) t k n, e .1)
+    (λ j areas t k n. e .0 j areas (l .x) (l .y) t k n, e .1)
 
 pub agree-spec : {M : Type 1} → statement M
 agree-spec =
@@ -99,6 +103,8 @@ agree-spec =
     slice-aggregate-consistent-3
     slice-aggregate-consistent-4
     slice-aggregate-consistent-5
+    slice-aggregate-consistent-6
+    slice-aggregate-consistent-7
     consistent-requires
     same-length
     same-length-2

@@ -16,7 +16,7 @@ use Rattle.swaps.proofs.search_plan.search_plan.Tie as tie
 as-few : {m n : ℕ} → m ≡ n → n ≤ 4096 → m ≤ 4096
 as-few e h = omega arith
 
-as-many : {m n room : ℕ} → m ≡ n → 5 * n ≤ room → 5 * m ≤ room
+as-many : {m n room : ℕ} → m ≡ n → 6 * n ≤ room → 6 * m ≤ room
 as-many e h = omega arith
 
 two-of : (w m n : ℕ) → m ≡ n → n ≡ 2 * w → 2 * w ≤ m
@@ -48,7 +48,7 @@ search-requires c κs =
       p .1,
       p .2,
       two-of 6144 (length (c10 .two-tracks .result)) (length (c10 .two-tracks .result)) refl (c10 .two-tracks .ensures),
-      two-of 8192 (length (c9 .two-spots .result)) (length (c9 .two-spots .result)) refl (c9 .two-spots .ensures),
+      two-of 12288 (length (c9 .two-spots .result)) (length (c9 .two-spots .result)) refl (c9 .two-spots .ensures),
       p .4,
       p .5,
     )
@@ -84,7 +84,8 @@ report-kept-requires c κs =
     let s = c17 .search in
     let few = order-few (p .0 .0) _ (p .0 .1) (now (a .order)) (p .0 .2) in
     let q = report-ready (p .0 .0) _ (p .0 .1) (s .last .1 .1 .1 .0) (as-few (s .kept .1 .1 .1 .0) few) (a .kinds) (p .0 .3) (s .result .verdict)
-    (λ _. s .ensures .1 (p .0 .0) (p .0 .2)) 4096 4096 4096 1024 (length (now (a .positions))) refl refl refl refl (as-many (s .kept .1 .1 .1 .0) (p .3)) in (
+    (λ _. s .ensures .1 (p .0 .0) (p .0 .2)) 4096 4096 4096 4096 1024 (length (now (a .positions))) refl refl refl refl refl
+    (as-many (s .kept .1 .1 .1 .0) (p .3)) in (
       q .0,
       q .1,
       q .6,
@@ -94,7 +95,7 @@ report-kept-requires c κs =
       s .ensures .2,
       two-of 6144 (length (s .last .1 .1 .1 .1 .1 .1 .1 .1 .1 .1 .1 .1 .1 .0)) (length (c28 .two-tracks .result))
           (s .kept .1 .1 .1 .1 .1 .1 .1 .1 .1 .1 .1 .1 .1 .0) (c28 .two-tracks .ensures),
-      two-of 8192 (length (s .last .1 .1 .1 .1 .1 .1 .1 .1 .1 .1 .1 .1 .1 .1 .0)) (length (c27 .two-spots .result))
+      two-of 12288 (length (s .last .1 .1 .1 .1 .1 .1 .1 .1 .1 .1 .1 .1 .1 .1 .0)) (length (c27 .two-spots .result))
           (s .kept .1 .1 .1 .1 .1 .1 .1 .1 .1 .1 .1 .1 .1 .1 .0) (c27 .two-spots .ensures),
     )
 
