@@ -1,7 +1,8 @@
 //! Times of whole fillings, the proved `fill` and the lifted one, on the same jobs in the same run: the
 //! least of 10, the two in turn. The proved one reads the job's bytes, prepares strips and entries,
 //! fills, and clears its rooms; the lifted one is given the job read, prepares and fills. Positions
-//! are compared first. fill JOBS RUNS, with a container of jobs as oracle/README.md says.
+//! are compared first, but for their gaps, which the lifted one does not have. fill JOBS RUNS, with a
+//! container of jobs as oracle/README.md says.
 #![allow(dead_code, improper_ctypes)]
 #[path = "../oracle/rust/job.rs"]
 mod job;
@@ -39,7 +40,7 @@ impl Rooms {
             entries: [(); 2].map(|_| vec![0; 16384]),
             firsts: [(); 2].map(|_| vec![0; 1365]),
             intervals: vec![0.0; 8192],
-            positions: vec![0.0; 20480],
+            positions: vec![0.0; 24576],
         }
     }
 
@@ -73,8 +74,8 @@ fn copy_order(job: &Job) -> Vec<usize> {
     kinds.iter().flat_map(|&k| vec![k; job.parts[k].quantity as usize]).collect()
 }
 
-/// The lifted places as they lie in the position room: by kind, then copy.
-fn positions(order: &[usize], filled: &Filled) -> Vec<f64> {
+/// The lifted places as they lie in the position room, by kind, then copy: five numbers of its six.
+fn positions(order: &[usize], filled: &Filled) -> Vec<[f64; 5]> {
     let mut list: Vec<(usize, usize, [f64; 3])> = vec![];
     let mut copies = vec![0; 64];
     for (&kind, place) in order.iter().zip(&filled.placed) {
@@ -84,7 +85,15 @@ fn positions(order: &[usize], filled: &Filled) -> Vec<f64> {
         }
     }
     list.sort_by_key(|p| (p.0, p.1));
-    list.into_iter().flat_map(|(k, c, [o, x, y])| [k as f64, c as f64, o, x, y]).collect()
+    list.into_iter().map(|(k, c, [o, x, y])| [k as f64, c as f64, o, x, y]).collect()
+}
+
+/// Whether a position room holds these, each before its gap, and zeros after them.
+fn holds(room: &[f64], right: &[[f64; 5]]) -> bool {
+    let bits = |numbers: &[f64]| numbers.iter().map(|x| x.to_bits()).collect::<Vec<_>>();
+    let mut records = room.chunks(6);
+    right.iter().zip(&mut records).all(|(five, six)| bits(five) == bits(&six[..5]))
+        && records.all(|six| six.iter().all(|x| x.to_bits() == 0))
 }
 
 /// The jobs of a container, with their labels.
@@ -115,16 +124,14 @@ fn main() {
         let number = rooms.fill(bytes, &order);
         assert_eq!(number, 0, "{label}: refused");
         let right = positions(&order, &filled);
-        let same = right.iter().zip(&rooms.positions).all(|(a, b)| a.to_bits() == b.to_bits());
-        let after = rooms.positions[right.len()..].iter().all(|x| x.to_bits() == 0);
-        assert!(same && after, "{label}: positions differ");
+        assert!(holds(&rooms.positions, &right), "{label}: positions differ");
         let [lifted, ours] = timing::alternating(
             runs,
             || _ = black_box(lifted_fill(black_box(&job), &order)),
             || _ = black_box(rooms.fill(black_box(bytes), &order)),
         );
         let ratio = ours / lifted;
-        let (copies, placed) = (order.len(), right.len() / 5);
+        let (copies, placed) = (order.len(), right.len());
         println!("{label:12} {copies:6} {placed:7} {:11.2} {:11.2} {ratio:6.2}", lifted / 1e6, ours / 1e6);
         logs.push(ratio.ln());
         worst = worst.max(ratio);

@@ -1,4 +1,4 @@
-"""Times of the program `plan` and of the lifted Rust (`oracle --lifted-only`: no rooms, no looks counted) on
+"""Times of the program `plan` and of the lifted Rust (`oracle --lifted-only`: no rooms, no looks counted, no gaps) on
 the same jobs. plan.py PLAN JOBS RUNS, with a container of jobs as oracle/README.md says; see plan.sh."""
 import math
 import os
@@ -10,16 +10,17 @@ HERE = os.path.dirname(os.path.abspath(__file__))
 ORACLE = os.path.join(HERE, "..", "oracle")
 sys.path.insert(0, ORACLE)
 from jobs.bits import read_container  # noqa: E402
+from jobs.oracle import without_gaps  # noqa: E402
 
 LIFTED = [os.path.join(ORACLE, "build", "oracle"), "--lifted-only"]
 JOB = os.path.join(HERE, "build", "job")
 
 
 def printed(command):
-    """What a command prints for the job, without the looks, which the Rust does not count."""
+    """What a command prints for the job, without the looks and the gaps, which the Rust does not have."""
     with open(JOB, "rb") as f:
         text = subprocess.run(command, stdin=f, capture_output=True, check=True).stdout.decode()
-    return [line for line in text.splitlines() if not line.startswith("look ")]
+    return [line for line in without_gaps(text).splitlines() if not line.startswith("look ")]
 
 
 def seconds(command):

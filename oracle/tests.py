@@ -1,20 +1,20 @@
 #!/usr/bin/env python3
-"""Tests of the oracle itself: the starred cases of document 01, the offcuts of document 02, the order of
-refusals where two hold, and every room exact and one short by --rooms."""
+"""Tests of the oracle itself: the starred cases of document 01, the offcuts and gaps of document 02, the order
+of refusals where two hold, and every room exact and one short by --rooms."""
 import re
 import subprocess
 import sys
 
 from jobs.bits import bits, double, fields, pack, pack_fields, set_fields
-from jobs.cases import CLOCKWISE, TRIANGLE, case4, grid, job, offcut_cases, part, rect, run_cases, starred
-from jobs.oracle import ORACLE
+from jobs.cases import CLOCKWISE, TRIANGLE, case4, gap_cases, grid, job, offcut_cases, part, rect, run_cases, starred
+from jobs.oracle import ORACLE, without_gaps
 from jobs.script import RECORD, ROOMS
 
 CASE4 = """plan 4 1 0
-put 0 0 0 0000000000000000 0000000000000000
-put 0 1 0 0000000000000000 4008000000000000
-put 0 2 0 4010000000000000 0000000000000000
-put 0 3 0 4010000000000000 4008000000000000
+put 0 0 0 0000000000000000 0000000000000000 4008000000000000
+put 0 1 0 0000000000000000 4008000000000000 0000000000000000
+put 0 2 0 4010000000000000 0000000000000000 4008000000000000
+put 0 3 0 4010000000000000 4008000000000000 0000000000000000
 left 0 1
 look 0 0 11
 right 4020000000000000
@@ -46,9 +46,9 @@ def hexes(*xs):
 
 
 def puts(text):
-    """(kind, copy, orientation, x, y) of the put lines."""
+    """(kind, copy, orientation, x, y, gap) of the put lines."""
     lines = [line.split() for line in text.splitlines() if line.startswith("put")]
-    return [(*map(int, p[1:4]), double(int(p[4], 16)), double(int(p[5], 16))) for p in lines]
+    return [(*map(int, p[1:4]), *(double(int(w, 16)) for w in p[4:])) for p in lines]
 
 
 def columns(text):
@@ -73,10 +73,10 @@ def test_starred():
     expect("case 7", sorted(set(columns(oracle(case["case7"], "--looks")))), [0.0, 3.0, 6.0])
     expect("case 7 looks", "look 0 0 5\n" in oracle(case["case7"]), True)
     text = oracle(case["case8"])
-    expect("case 8", (puts(text), "look 0 0 2\n" in text), ([(0, 0, 0, 0.0, 0.0)], True))
+    expect("case 8", (puts(text), "look 0 0 2\n" in text), ([(0, 0, 0, 0.0, 0.0, 0.0)], True))
     text = oracle(case["case9"])
     expect("case 9", (puts(text), "look 0 0 0\n" in text, text[:10]), ([], True, "plan 0 1 0"))
-    expect("case 10", puts(oracle(case["case10"])), [(0, 0, 1, 0.0, 0.0)])
+    expect("case 10", puts(oracle(case["case10"])), [(0, 0, 1, 0.0, 0.0, 2.0)])
     text = oracle(case["case11"], "--draws")
     state = (7 + 6 * 0x9E3779B97F4A7C15) % 2**64
     expect("case 11", text.split("\n", 7)[7], f"order 0 0\nimprovements 0\nstate {state:016x}\n")
@@ -101,6 +101,38 @@ def test_offcut():
         expect(label + ", lifted", last(oracle(j, "--lifted-only")), OFFCUTS[label])
     expect("nothing placed", last(oracle(dict(starred())["case9"])), (0, 10))
     expect("below zero by rounding", last(oracle(dict(run_cases())["offcut below zero"]))[1], 0)
+
+
+# Height and gap of each panel of the jobs of document 02, W7, by kind and copy, worked out on paper.
+GAPS = {
+    "a hole touches from above": [(0, 0)], "a copy touches from above": [(2, 5), (0, 0)],
+    "only an empty interval above": [(0, 3)], "nothing above": [(0, 4.5)],
+    "a bottom as high as the range": [(0, 3), (0, 3)], "a bottom at zero": [(0, 0)],
+    "a bottom below zero": [(-1, 0.5), (-0.5, 0), (0.5, 0)], "the hole is next": [(3, 4), (0, 1)],
+    "the copy is next": [(2, 1), (0, 1)], "as high as the sheet": [(0, 0), (0, 0)],
+    "the first orientation wins": [(0, 2)], "a tie, more above the second": [(0, 3)],
+    "a tie, more above the first": [(0, 4)], "a bottom between others": [(0, 3)],
+    "the largest gap": [(-199999, 199999)],
+}
+
+
+def test_gap():
+    for label, j in gap_cases():
+        text = oracle(j)
+        expect(label, [p[4:] for p in puts(text)], GAPS[label])
+        expect(label + ", no minus zero", "8000000000000000" in text, False)
+        rest = [line for line in without_gaps(text).splitlines() if not line.startswith("look ")]
+        expect(label + ", lifted", oracle(j, "--lifted-only").splitlines(), rest)
+    looks = [line.split()[4:] for line in oracle(case4(), "--looks").splitlines() if line[0].isdigit()]
+    told = [["free", hexes(0), hexes(3), "0"], ["free", hexes(3), hexes(0), "1"], ["full", "2"]]
+    expect("looks of case 4", looks[:3], told)
+    empty = oracle(dict(gap_cases())["only an empty interval above"], "--looks").splitlines()[0]
+    expect("an empty interval does not count", empty.split()[-1], "0")
+    room = oracle(case4(), "--after").splitlines()[-1].split()
+    plates = [(0, 0, 0, 0, 0, 3), (0, 1, 0, 0, 3, 0), (0, 2, 0, 4, 0, 3), (0, 3, 0, 4, 3, 0)]
+    expect("positions of case 4", room[1:4] + [" ".join(room[4:])], ["positions", "24576", "23", hexes(*sum(plates, ())[:-1])])
+    kept = dict(offcut_cases())["only the kept filling of the swaps reaches past right"]
+    expect("gaps of the kept filling", [p[5] for p in puts(oracle(kept))], [2, 1, 1])
 
 
 def changed(name, value, j=None, nth=0):
@@ -221,6 +253,8 @@ def test_trace():
     expect("trace of case 4", replies(oracle(case4(), "--trace")), ["ok"] * 6 + ["no 23"])
     rooms = [line.split() for line in oracle(case4(), "--trace").splitlines() if "_firsts" in line]
     expect("bucket numbers of case 4", [r[4:] for r in rooms[-2:]], [[], ["0", "0", "204", "204"]])
+    places = [line.split()[1:] for line in oracle(case4(), "--trace").splitlines() if line.startswith("place ")]
+    expect("gaps of case 4's state", [p[4:] for p in places[-5:]], [[hexes(3)], [hexes(0)], [hexes(3)], [hexes(0)], []])
     expect("trace, no order", replies(oracle(case4(), "--trace", "--order", "0")), ["no 10"])
     # The interval room is each call's own: 22 changes nothing.
     text = oracle(case4(), "--trace", "--intervals", "0,0,2,0,8", "--calls", "7")
@@ -235,7 +269,7 @@ def test_trace():
 
 
 def main():
-    for test in (test_starred, test_offcut, test_reader_order, test_refusal_order, test_rooms_exact, test_trace):
+    for test in (test_starred, test_offcut, test_gap, test_reader_order, test_refusal_order, test_rooms_exact, test_trace):
         test()
     print(f"{tried} tests, {len(failed)} failed")
     sys.exit(len(failed) > 0)

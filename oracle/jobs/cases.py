@@ -1,5 +1,7 @@
-"""The starred cases and the "Run" cases of document 01, and jobs that fill
-each of plan's rooms exactly and one short. All fixed."""
+"""The starred cases and the "Run" cases of document 01, jobs for the offcut and the gap of document 02, and
+jobs that fill each of plan's rooms exactly and one short. All fixed."""
+import math
+
 from jobs.bits import fields, pack
 
 
@@ -7,6 +9,11 @@ def rect(w, h, x=0.0, y=0.0):
     """Counter-clockwise from its lower left corner."""
     x, y, w, h = float(x), float(y), float(w), float(h)
     return [[(x, y), (x + w, y), (x + w, y + h), (x, y + h)]]
+
+
+def hole(w, h, x, y):
+    """A rectangle cut out of the sheet: clockwise."""
+    return [rect(w, h, x, y)[0][::-1]]
 
 
 def part(sets, quantity=1, area=1.0, fill=False, priority=0):
@@ -101,6 +108,43 @@ def offcut_cases():
         ("spacing left of zero", job([part([grown(4, 3, 0.5)], 1, 12)], rect(10, 6, -20, -3))),
         ("only the kept filling of the swaps reaches past right", job(swapped, rect(8, 3), rounds=4, seed=24)),
         ("copies without strips", job([part([(flat(3), rect(4, 3))], 2, 12)])),
+    ]
+
+
+def sliver(x, y, point_left):
+    """A triangle with its point at x, 1 long and two least steps of y high: no height within 0.25 of x."""
+    top = math.nextafter(math.nextafter(y, math.inf), math.inf)
+    far = x + 1 if point_left else x - 1
+    loop = [(x, y), (far, y), (far, top)]
+    return [loop if point_left else loop[::-1]]
+
+
+def gap_cases():
+    """Document 02, W7: what is next above a panel."""
+    plate, small = rect(4, 3), rect(2, 2)
+    pointed = rect(10, 6) + [sliver(4.75, 4.0, True)[0][::-1]]
+    lifted = part([(rect(4, 1, 0, 6), plate)], 1, 13)
+    slanted = [[(0.0, 0.0), (2.0, 0.0), (2.0, 2.0)]]
+    corner = rect(10, 6) + hole(1, 1, 0, 5)
+    middle = rect(4, 2, 0, -1) + hole(1, 0.5, 0, 0)
+    # The first plate does not fit under the hole, the second does.
+    over, beside = rect(4, 10) + hole(4, 1, 0, 2), rect(4, 10) + hole(2, 1, 2, 1)
+    return [
+        ("a hole touches from above", job([part([plate], 1, 12)], rect(10, 6) + hole(4, 1, 0, 3))),
+        ("a copy touches from above", job([part([plate], 1, 12), part([small], 1, 4)], beside)),
+        ("only an empty interval above", job([part([plate + sliver(5.0, 2.0, False)], 1, 12)], pointed)),
+        ("nothing above", job([part([plate], 1, 12)], rect(10, 7.5))),
+        ("a bottom as high as the range", job([lifted, part([plate], 1, 12)])),
+        ("a bottom at zero", job([part([rect(1, 1, 0, -1)], 1, 1)], middle)),
+        ("a bottom below zero", job([part([rect(1, 0.5)], 3, 0.5)], middle)),
+        ("the hole is next", job([part([plate], 1, 12), part([rect(4, 1)], 1, 4)], over)),
+        ("the copy is next", job([part([plate], 1, 12), part([rect(2, 1)], 1, 2)], beside + hole(2, 1, 0, 6))),
+        ("as high as the sheet", job([part([rect(4, 6)], 2, 24)])),
+        ("the first orientation wins", job([part([rect(3, 4), plate], 1, 12)])),
+        ("a tie, more above the second", job([part([small, slanted], 1, 4)], corner)),
+        ("a tie, more above the first", job([part([slanted, small], 1, 4)], corner)),
+        ("a bottom between others", job([part([small], 1, 4)], rect(2, 20) + hole(2, 1, 0, 12) + hole(2, 1, 0, 5) + hole(2, 1, 0, 9))),
+        ("the largest gap", job([part([rect(1, 1, 0, 99999)])], rect(10, 200000, 0, -100000))),
     ]
 
 
@@ -254,5 +298,5 @@ def sized(size):
 
 def fixed():
     """All fixed jobs but the one-bit changes."""
-    out = [(label, pack(j)) for label, j in starred() + run_cases() + rooms_cases() + offcut_cases()]
+    out = [(label, pack(j)) for label, j in starred() + run_cases() + rooms_cases() + offcut_cases() + gap_cases()]
     return out + length_cases() + cut_jobs()

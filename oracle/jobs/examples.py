@@ -1,16 +1,11 @@
 """The jobs of examples/."""
-from jobs.cases import case4, job, part, rect
+from jobs.cases import case4, hole, job, part, rect
 
 
 def both(w, h, gap=2.0):
     """A panel lengthwise and across: apart grown by half the gap on each side, inset as it is."""
     half = gap / 2
     return [(rect(a + gap, b + gap, -half, -half), rect(a, b)) for a, b in ((w, h), (h, w))]
-
-
-def hole(w, h, x, y):
-    """A rectangle cut out of the sheet: clockwise."""
-    return [rect(w, h, x, y)[0][::-1]]
 
 
 def holes():

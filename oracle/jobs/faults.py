@@ -1,10 +1,10 @@
-"""Edited states for refusal 31, each clause alone and at its limit, and double faults."""
+"""Edited states for refusal 31, each clause alone and at its limit."""
 import math
 
 from jobs.bits import double
-from jobs.cases import case4, grid, job, part, rect
-from jobs.script import (INTERVALS, PLACED, PLACED_ENTRIES, PLACED_FIRSTS, POSITIONS, ROOMS, SHAPES,
-                         SHEET, SHEET_ENTRIES, SHEET_FIRSTS, needs, trace)
+from jobs.cases import case4
+from jobs.script import (INTERVALS, PLACED, PLACED_ENTRIES, PLACED_FIRSTS, ROOMS, SHAPES, SHEET, SHEET_ENTRIES,
+                         SHEET_FIRSTS, needs, trace)
 
 NAN = 0x7FF8000000000000
 INF = 0x7FF0000000000000
@@ -12,6 +12,7 @@ LESS_INF = 0xFFF0000000000000
 MILLION = 1000000.0
 ABOVE = math.nextafter(MILLION, 2 * MILLION)  # 1,000,000.0000000001
 TINY = 5e-324
+MINUS_ZERO = 1 << 63
 MOST = 2**64 - 1
 MOST_NUMBER = 2**16 - 1
 STRANGE = [NAN, INF, LESS_INF, ABOVE, -ABOVE]
@@ -51,7 +52,7 @@ class State:
             "order": lambda: self.order[n] if n < len(self.order) else 0,
             "taken": lambda: c.taken, "next_column": lambda: self.slots[n]["column"],
             "look_counts": lambda: self.slots[n]["looks"],
-            "placed_strips": lambda: c.strips[1],
+            "placed_strips": lambda: c.strips[1], "gap": lambda: c.gaps[n],
             "unplaced_area": lambda: c.area, "right": lambda: c.right,
         }[name]()
 
@@ -194,10 +195,8 @@ def first_buckets(t):
         s.length(room, length)
 
 
-def accepted(s, j, order, calls):
-    """What 31 does not refuse: limits that are reached, and what it does not look at. Each call
-    takes a copy; changed numbers that matter later are put back."""
-    room = [n // 6 for n in s.lengths[:3]]
+def accepted(s, calls, order):
+    """What 31 does not look at. The call takes a copy."""
     free = {"layout": [("orientation", 0, MOST), ("x", 0, NAN), ("y", 1, INF), ("x", 5, ABOVE),
                        ("orientation", 9, 7)],
             "unused": [("next_column", 1, MOST), ("look_counts", 1023, MOST), ("parts", 4, MOST),
@@ -213,8 +212,13 @@ def accepted(s, j, order, calls):
         used = [6 * sum(c.shapes()), 6 * c.strips[0], 6 * c.strips[1], *c.entries, *c.strips][a]
         s.garbage(a, used)
     s.next(0)
+
+
+def limits(t):
+    """What 31 does not refuse: limits that are reached. Each call takes a copy; changed numbers that matter
+    later are put back."""
+    s = t.s
     s.title("31: at the limits")
-    t = State(s, j, order, calls, 4)
     s.edit("right", 0, MILLION)
     s.edit("unplaced_area", 0, 1e16)
     # A strip without width: its x1 is its x0.
@@ -224,7 +228,7 @@ def accepted(s, j, order, calls):
         s.edit("look_counts", i, t.last(i) + 1 + t.taken)
     s.next(0)
     s.edit("right", 0, -MILLION)
-    s.edit("unplaced_area", 0, 0x8000000000000000)
+    s.edit("unplaced_area", 0, MINUS_ZERO)
     for i in t.slots:
         s.edit("next_column", i, t.last(i) + 1)
         s.edit("look_counts", i, 0)
@@ -253,9 +257,9 @@ def empty_sheet(s):
     j, order = case4(), [0] * 5
     s.job(j)
     s.order(order)
-    s.rooms([12, 0, 30, 0, 2000, 0, 5, 12, 25])
+    s.rooms([12, 0, 30, 0, 2000, 0, 5, 12, 30])
     far = [-MILLION, -MILLION, MILLION, MILLION]
-    zero = 0x8000000000000000
+    zero = MINUS_ZERO
     for bounds, resolution in ((far, 10000.0), (far[::-1], 0.001), ([zero, zero, 10.0, 6.0], 1.0),
                                ([0.0, 0.0, 4.0, 3.0], 0.001), ([6.5, 0.5, 10.5, 3.5], 0.5)):
         s.start(0)
@@ -263,6 +267,8 @@ def empty_sheet(s):
             s.edit("sheet_bounds", n, value)
         s.edit("resolution", 0, resolution)
         s.next(0)
+        # Where the sheet is farthest, the copy's gap is beyond 1,000,000.
+        s.edit("gap", 0, MILLION)
         s.next(0)
 
 
@@ -284,7 +290,8 @@ def many_columns(s):
         s.next(31)
         s.edit("look_counts", 0, last + 1)
         s.next(0)
-        # The strip now lies beyond 1,000,000.
+        # The strip now lies beyond 1,000,000, and so did the gap.
+        s.edit("gap", 0, MILLION)
         s.next(31)
 
 
@@ -305,7 +312,8 @@ def clauses(s, j, order):
                        ("strips", strips), ("entries", entries), ("first buckets", first_buckets)):
         s.title("31: " + name)
         test(t)
-    accepted(s, j, order, calls)
+    accepted(s, calls, order)
+    limits(State(s, j, order, calls, 4))
     empty_sheet(s)
     many_columns(s)
     s.title("31: a state of zeros")
@@ -313,98 +321,3 @@ def clauses(s, j, order):
     s.start(10)
     s.order(order)
     s.next(31)
-
-
-def double_faults(s):
-    """Two refusals at once: the first of document 01's order is given."""
-    sheet = rect(10, 6) + grid(1, 1, 1.0, 1.0, 8.0, 4.0, True)
-    j = job([part([rect(4, 3)], 3, 12), part([rect(2, 2)], 1, 4)], sheet)
-    wide = dict(j, sheet=rect(1e5, 6), resolution=0.001)
-    order, wrong = [0, 1, 0, 0], [0, 1, 1, 0]
-    calls = trace(j, order)
-    need = needs(calls, 4)
-
-    def both(name, wants, bytes_, kinds, *short):
-        """A start and a filling with these rooms one short."""
-        s.title(name)
-        s.job(bytes_)
-        s.order(kinds)
-        for call, want in zip((s.start, s.fill), wants):
-            s.rooms([n - (room in short) for room, n in enumerate(need)])
-            call(want)
-
-    both("8 and 30", (8, 8), wide, order, POSITIONS)
-    both("30 and 10", (30, 30), j, wrong, POSITIONS)
-    both("10 and the sheet's 20", (10, 10), j, wrong, SHEET)
-    both("10 and the sheet's 20 by its numbers", (10, 10), j, wrong, SHEET_FIRSTS)
-    both("the sheet's 20 and 21", (20, 20), j, order, SHEET, SHEET_ENTRIES)
-    both("the sheet's 20 by its numbers, and 21", (20, 20), j, order, SHEET_FIRSTS, SHEET_ENTRIES)
-    both("the sheet's 21 and the shapes' 20", (21, 21), j, order, SHEET_ENTRIES, SHAPES)
-    both("the shapes' 20 and the filling's", (20, 20), j, order, SHAPES, PLACED, PLACED_ENTRIES,
-         INTERVALS)
-    both("22, 20 and 21 of a filling", (0, 22), j, order, PLACED, PLACED_ENTRIES, INTERVALS)
-    both("20 and 21 of a filling", (0, 20), j, order, PLACED, PLACED_ENTRIES)
-    both("22, 20 by the numbers and 21 of a filling", (0, 22), j, order, PLACED_FIRSTS,
-         PLACED_ENTRIES, INTERVALS)
-    both("20 by the numbers and 21 of a filling", (0, 20), j, order, PLACED_FIRSTS, PLACED_ENTRIES)
-    both("an order that is too short", (10, 10), j, order[1:])
-    both("an order that is too long", (10, 10), j, order + [0])
-    both("an order of nothing", (10, 10), j, [])
-    both("an order with a kind that the job lacks", (10, 10), j, [0, 1, 0, 2])
-    steps_twice(s, j, wide, order, calls, need)
-
-
-def steps_twice(s, j, wide, order, calls, need):
-    """Double faults of a single step."""
-    s.title("double faults of a step")
-    s.job(j)
-    s.order(order)
-    s.rooms(need)
-    s.start(0)
-    s.next(0)
-    s.next(0)
-    after = calls[3]
-    s.length(PLACED, 6 * after.strips[1] - 1)
-    s.length(PLACED_ENTRIES, after.entries[1] - 1)
-    s.length(INTERVALS, 2 * after.most - 1)
-    s.title("22, 20 and 21 of one copy")
-    s.next(22)
-    s.title("20 and 21 of one copy")
-    s.length(INTERVALS, 2 * after.most)
-    s.next(20)
-    s.title("20 by the numbers and 21 of one copy")
-    s.length(PLACED, 6 * after.strips[1])
-    s.length(PLACED_FIRSTS, after.strips[1] - 1)
-    s.next(20)
-    s.title("31 and 22")
-    s.length(INTERVALS, 0)
-    s.edit("right", 0, NAN)
-    s.next(31)
-    s.edit("right", 0, calls[2].right)
-    s.title("31 by a bucket number, and 22, 20 and 21")
-    first = calls[2].number("placed_firsts", 0)
-    s.slot(PLACED_FIRSTS, 0, first + 1)
-    s.next(31)
-    s.slot(PLACED_FIRSTS, 0, first)
-    s.next(22)
-    s.edit("right", 0, NAN)
-    s.title("the job's and 31")
-    s.job(wide)
-    s.next(8)
-    s.job(b"")
-    s.next(1)
-    s.job(j)
-    s.edit("right", 0, calls[2].right)
-    s.rooms(need, garbage=False)
-    s.next(0)
-    s.next(0)
-    s.title("23, and 31 before it")
-    s.next(23)
-    s.edit("taken", 0, 5)
-    s.next(31)
-    s.edit("taken", 0, 4)
-    s.edit("right", 0, INF)
-    s.next(31)
-    s.title("the job's before 23")
-    s.job(wide)
-    s.next(8)

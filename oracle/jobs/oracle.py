@@ -1,5 +1,6 @@
 """Where the oracle lies, and its answers to a list of jobs."""
 import os
+import re
 import subprocess
 import tempfile
 
@@ -9,6 +10,11 @@ HERE = os.path.dirname(os.path.dirname(os.path.abspath(__file__)))
 ROOT = os.path.dirname(HERE)
 BUILD = os.path.join(HERE, "build")
 ORACLE = os.path.join(BUILD, "oracle")
+
+
+def without_gaps(text):
+    """A plan with five fields to a put line, as the lifted Rust has them."""
+    return re.sub(r"^(put( \S+){5}) \S+$", r"\1", text, flags=re.M)
 
 
 def answers(jobs, *options):

@@ -8,15 +8,13 @@ ROOMS = ["shapes", "sheet", "placed", "sheet_entries", "placed_entries", "sheet_
          "placed_firsts", "intervals", "positions"]
 (SHAPES, SHEET, PLACED, SHEET_ENTRIES, PLACED_ENTRIES, SHEET_FIRSTS, PLACED_FIRSTS, INTERVALS,
  POSITIONS) = range(len(ROOMS))
-RECORD = [6, 6, 6, 1, 1, 1, 1, 2, 5]
+RECORD = [6, 6, 6, 1, 1, 1, 1, 2, 6]
 # What `plan` lends.
-PLAN = [8190, 8190, 8190, 16384, 16384, 1365, 1365, 8192, 20480]
+PLAN = [8190, 8190, 8190, 16384, 16384, 1365, 1365, 8192, 24576]
 # The numbers of a state, in the order of its fields.
 NUMBERS = ["resolution", "sheet_bounds", "sheet_strips", "apart_strips", "inset_bounds", "parts",
            "order", "taken", "next_column", "look_counts", "placed_strips", "orientation", "x",
-           "y", "unplaced_area", "right"]
-
-
+           "y", "gap", "unplaced_area", "right"]
 # First words of the lines that answer calls; no title begins so.
 CALLS = ["start", "next", "fill", "leaf"]
 
@@ -97,11 +95,13 @@ class Call:
     """The state and rooms after one call of a trace."""
 
     def __init__(self, text):
-        self.slots, self.rooms, self.most = [], {}, 0
+        self.slots, self.rooms, self.gaps, self.most = [], {}, [], 0
         for line in text.splitlines():
             word, *rest = line.split(" ")
             if word == "slot":
                 self.slots.append(rest)
+            elif word == "place":
+                self.gaps.append(0 if rest[1] == "none" else int(rest[4], 16))
             elif word == "room":
                 self.rooms[rest[0]] = rest[3:]
             elif word == "most":
@@ -160,4 +160,4 @@ def needs(calls, copies):
     """The least lengths of the rooms in which the whole filling is accepted."""
     last = calls[-1]
     return [6 * sum(last.shapes()), 6 * last.strips[0], 6 * last.strips[1], *last.entries,
-            *last.strips, 2 * max(c.most for c in calls), 5 * copies]
+            *last.strips, 2 * max(c.most for c in calls), 6 * copies]

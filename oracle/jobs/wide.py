@@ -6,13 +6,13 @@ from jobs.bits import pack, pack_fields, set_fields
 from jobs.cases import case4, grid, job, part, rect
 from jobs.examples import nan_corner
 from jobs.oracle import ORACLE
-from jobs.script import POSITIONS, Script, answers
+from jobs.script import PLAN, POSITIONS, Script, answers
 
 STRIPS = 65_536   # that entries can number
 WIDE = 400_000    # slots: 66,666 strips
 NARROW = 8190
 ENTRIES = 132_000
-POSITION_SLOTS = 40   # of a filling: eight positions
+POSITION_SLOTS = 48   # of a filling: eight positions
 POSITION_ROOM = "6"   # the number that wide_test prints with the position room
 ROOMS = ["shapes", "sheet", "placed"]
 
@@ -92,7 +92,7 @@ def answer(room, slots, entries, j, program=ORACLE, options=()):
     """What the oracle prints in those rooms."""
     strips = [slots if name == room else NARROW for name in ROOMS]
     firsts = [n // 6 for n in strips[1:]]
-    lengths = ",".join(map(str, strips + [entries, entries, *firsts, 8192, 20480]))
+    lengths = ",".join(map(str, strips + [entries, entries, *firsts, *PLAN[-2:]]))
     done = subprocess.run([program, *options, "--rooms", lengths], input=pack(j), capture_output=True)
     if done.returncode:
         raise SystemExit(done.stderr.decode())
@@ -121,7 +121,7 @@ def fill_answer(copies, entries, j):
     s.job(j)
     s.order([0] * copies)
     firsts = NARROW // 6
-    s.rooms([NARROW, NARROW, NARROW, entries, entries, firsts, firsts, 8192, POSITION_SLOTS])
+    s.rooms([NARROW, NARROW, NARROW, entries, entries, firsts, firsts, PLAN[-2], POSITION_SLOTS])
     s.fill()
     s.show(POSITIONS)
     text, (call,) = answers(s)

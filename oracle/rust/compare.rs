@@ -153,6 +153,9 @@ fn same_plain(job: &Job, plan: &Plan, work: u64) -> Result<bool, String> {
     };
     let filled = Filled { placed: p.placed, unplaced_area: p.unplaced_area, right: p.right };
     same_filling(plan, &filled).map_err(|e| format!("plain planner: {e}"))?;
+    if !same_bits(&p.gaps, &plan.layout.gaps) {
+        return Err(format!("plain planner: gaps {:?}", p.gaps));
+    }
     if p.looks != plan.layout.looks {
         return Err(format!("plain planner: look counts {:?}", p.looks));
     }

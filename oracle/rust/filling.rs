@@ -1,6 +1,6 @@
 //! The planner with rooms, by hand from document 01, "Filling" and "Refused
 //! because of the state": start, next copy and a filling.
-use crate::index::{height, Index};
+use crate::index::{gap, height, Index};
 use crate::job::Job;
 use crate::rooms::{capacity, load, standing, store, Rooms, ENTRY, POSITION, STRIP};
 use crate::strips::{bounds, moved, trapezoids, Strip};
@@ -40,6 +40,8 @@ pub struct State {
     pub right: f64,
     pub unplaced_area: f64,
     pub placed: Vec<Place>,
+    /// By place in the order: the clear height above the copy, 0 where it has no place.
+    pub gaps: Vec<f64>,
     pub slots: Vec<Slot>,
     pub sheet_strips: usize,
     pub placed_strips: usize,
@@ -156,6 +158,7 @@ pub fn start(job: &Job, order: &[usize], rooms: &mut Rooms) -> Result<State, Sto
         right: sheet[0],
         unplaced_area: 0.0,
         placed: vec![None; order.len()],
+        gaps: vec![0.0; order.len()],
         slots: shapes(job, &mut rooms.shapes)?,
         sheet_strips,
         placed_strips: 0,
@@ -164,7 +167,7 @@ pub fn start(job: &Job, order: &[usize], rooms: &mut Rooms) -> Result<State, Sto
     })
 }
 
-/// One look at a column: counted intervals, then the height.
+/// One look at a column: counted intervals, then the height and the gap above it.
 fn look(
     state: &State,
     slot: &Slot,
@@ -186,17 +189,19 @@ fn look(
         .intervals(entries, firsts, &rooms.placed, shapes, apart, x, r.ys, out, &mut n)
         .map_err(Stop::Refused)?;
     let y = height(out, n, r.ys.0);
+    let free = y <= r.ys.1;
+    let gap = if free { gap(out, n, y, r.ys.1) } else { 0.0 };
     let (kind, orientation) = (slot.kind, slot.orientation);
-    Ok(Look { kind, orientation, column, x, y, free: y <= r.ys.1, intervals: n })
+    Ok(Look { kind, orientation, column, x, y, gap, free, intervals: n })
 }
 
-/// From the remembered column, the first with a free height.
+/// From the remembered column, the first with a free height: x, y and gap.
 fn search(
     state: &State,
     slot: &mut Slot,
     rooms: &mut Rooms,
     watch: &mut Watch,
-) -> Result<Option<(f64, f64)>, Stop> {
+) -> Result<Option<(f64, f64, f64)>, Stop> {
     watch.search(slot);
     let Some(r) = ranges(&state.sheet, &slot.bounds, state.resolution) else {
         slot.column = None;
@@ -211,7 +216,7 @@ fn search(
         watch.look(&look, &r).map_err(Stop::Differ)?;
         if look.free {
             slot.column = Some(column);
-            return Ok(Some((look.x, look.y)));
+            return Ok(Some((look.x, look.y, look.gap)));
         }
     }
     slot.column = None;
@@ -249,25 +254,26 @@ pub fn next_copy(
     };
     let first = state.slots.iter().position(|s| s.kind == kind).expect("a slot");
     let mut slots = state.slots[first..first + job.parts[kind].orientations.len()].to_vec();
-    let mut best: Option<(f64, f64, usize, f64, f64)> = None;
+    let mut best: Option<(f64, f64, usize, f64, f64, f64)> = None;
     for (o, slot) in slots.iter_mut().enumerate() {
-        if let Some((x, y)) = search(state, slot, rooms, watch)? {
+        if let Some((x, y, gap)) = search(state, slot, rooms, watch)? {
             let (right, top) = (x + slot.bounds[2], y + slot.bounds[3]);
             let wins = match best {
                 None => true,
                 Some((r, t, ..)) => right < r || (right == r && top < t),
             };
             if wins {
-                best = Some((right, top, o, x, y));
+                best = Some((right, top, o, x, y, gap));
             }
         }
     }
     match best {
-        Some((right, _, o, x, y)) => {
+        Some((right, _, o, x, y, gap)) => {
             place(state, first + o, x, y, rooms)?;
             watch.place(kind, o, x, y);
             state.right = if right > state.right { right } else { state.right };
             state.placed[state.taken] = Some((o, x, y));
+            state.gaps[state.taken] = gap;
         }
         None => state.unplaced_area += job.parts[kind].area,
     }
@@ -299,6 +305,7 @@ pub fn again(state: &mut State, order: &[usize]) {
     state.right = state.sheet[0];
     state.unplaced_area = 0.0;
     state.placed.fill(None);
+    state.gaps.fill(0.0);
     state.placed_strips = 0;
     state.placed_index.clear();
     for slot in &mut state.slots {

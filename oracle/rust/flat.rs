@@ -31,6 +31,7 @@ pub struct Flat {
     pub orientation: Vec<usize>,
     pub x: Vec<f64>,
     pub y: Vec<f64>,
+    pub gap: Vec<f64>,
     pub unplaced_area: f64,
     pub right: f64,
 }
@@ -73,6 +74,7 @@ impl Flat {
             orientation: vec![0; COPIES],
             x: vec![0.0; COPIES],
             y: vec![0.0; COPIES],
+            gap: vec![0.0; COPIES],
             unplaced_area: 0.0,
             right: 0.0,
         }
@@ -149,6 +151,12 @@ impl Flat {
             && (0.0..=1e16).contains(&self.unplaced_area)
     }
 
+    /// The gap of every standing copy (document 02, W7); one to come or without a place has none.
+    fn gaps_fit(&self) -> bool {
+        let taken = self.orientation.iter().zip(&self.gap).take(self.taken);
+        taken.filter(|(&o, _)| o > 0).all(|(_, gap)| (0.0..=1e6).contains(gap))
+    }
+
     /// The strips of the sheet, of the job's slots and of the placed copies.
     fn strips_fit(&self, job: &Job, rooms: &Rooms) -> bool {
         let all = |room: &[f64], mut which: Range<usize>| which.all(|i| strip_fits(&load(room, i)));
@@ -192,6 +200,7 @@ impl Flat {
         let fits = self.counts_fit(job, rooms)
             && rearrangement(job, &self.order[..copies])
             && self.numbers_fit(job)
+            && self.gaps_fit()
             && self.strips_fit(job, rooms)
             && self.tracks_fit(job);
         if !fits {
@@ -216,6 +225,7 @@ impl Flat {
             right: self.right,
             unplaced_area: self.unplaced_area,
             placed: vec![None; copies],
+            gaps: vec![0.0; copies],
             slots: slots.collect(),
             sheet_strips: self.sheet_strips,
             placed_strips: self.placed_strips,
@@ -233,6 +243,7 @@ impl Flat {
         self.orientation[self.taken] = orientation;
         self.x[self.taken] = x;
         self.y[self.taken] = y;
+        self.gap[self.taken] = state.gaps[self.taken];
         self.taken = state.taken;
         self.placed_strips = state.placed_strips;
         self.right = state.right;

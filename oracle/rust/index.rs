@@ -2,7 +2,7 @@
 //! bucket, then strip number. The starts of the buckets are work space. The bucket of each standing
 //! strip's x0 is kept in a lent room of its own (document 02, W3).
 use crate::rooms::{capacity, load, Bucket, Entry, ENTRY, INTERVAL};
-use crate::strips::{forbidden, larger, Strip};
+use crate::strips::{forbidden, larger, smaller, Strip};
 
 const BUCKETS: usize = 512;
 
@@ -134,4 +134,16 @@ pub fn height(room: &mut [f64], count: usize, y_low: f64) -> f64 {
         }
     }
     y + 0.0
+}
+
+/// Document 02, W7: the clear height above the free height y: the next counted interval's bottom at or
+/// above it, or y_high if none is below that, minus y. A bottom that is minus zero is plus zero.
+pub fn gap(room: &[f64], count: usize, y: f64, y_high: f64) -> f64 {
+    let mut next = y_high;
+    for i in room[..count * INTERVAL].chunks(INTERVAL) {
+        if y <= i[0] {
+            next = smaller(next, i[0]);
+        }
+    }
+    (next + 0.0) - y
 }

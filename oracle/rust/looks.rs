@@ -28,6 +28,7 @@ extern "C" {
         placed_starts: *const usize, placed_starts_len: usize,
         room: *mut f64, room_len: usize,
         sheet_firsts: *const u16, sheet_firsts_len: usize, placed_firsts: *const u16, placed_firsts_len: usize,
+        gap: *mut f64, gap_len: usize,
     ) -> f64;
     fn panel_enter(
         x0: f64, width: f64, standing: *const f64, standing_len: usize, from: usize, to: usize,
@@ -79,8 +80,10 @@ impl Ours {
     }
 }
 
-fn our_look(x: f64, ys: (f64, f64), inset: &[f64], apart: &[f64], sheet: &Ours, placed: &Ours, room: &mut [f64]) -> f64 {
-    unsafe {
+/// Our look: the height, FULL or NO_ROOM, and the gap above a free height, else 0.
+fn our_look(x: f64, ys: (f64, f64), inset: &[f64], apart: &[f64], sheet: &Ours, placed: &Ours, room: &mut [f64]) -> [f64; 2] {
+    let mut gap = [f64::NAN];
+    let height = unsafe {
         panel_look(
             sheet.x0, sheet.width, x, ys.0, ys.1, inset.as_ptr(), inset.len(), apart.as_ptr(), apart.len(),
             sheet.strips.as_ptr(), sheet.strips.len(), sheet.entries.as_ptr(), sheet.entries.len(),
@@ -89,8 +92,10 @@ fn our_look(x: f64, ys: (f64, f64), inset: &[f64], apart: &[f64], sheet: &Ours, 
             placed.starts.as_ptr(), 513,
             room.as_mut_ptr(), room.len(),
             sheet.firsts.as_ptr(), sheet.firsts.len(), placed.firsts.as_ptr(), placed.firsts.len(),
+            gap.as_mut_ptr(), gap.len(),
         )
-    }
+    };
+    [height, gap[0]]
 }
 
 struct Draws(u64);
@@ -243,6 +248,20 @@ fn lifted_look(s: &Scene, l: &Look, out: &mut Vec<(f64, f64)>) -> (f64, usize) {
     (if y <= l.ys.1 { y } else { FULL }, out.len())
 }
 
+/// The clear height above what the lifted look answered, 0 where that is FULL: its intervals lie sorted by
+/// their bottoms (document 02, W7).
+fn gap_above(height: f64, y_high: f64, intervals: &[(f64, f64)]) -> f64 {
+    if height == FULL {
+        return 0.0;
+    }
+    let next = intervals.iter().map(|i| i.0).find(|&low| low >= height);
+    (next.unwrap_or(y_high) + 0.0) - height
+}
+
+fn bits(look: [f64; 2]) -> [u64; 2] {
+    look.map(f64::to_bits)
+}
+
 fn size(d: &mut Draws) -> f64 {
     [1.0, 10.0, 100.0, 1000.0, 30000.0][d.below(5) as usize]
 }
@@ -257,18 +276,20 @@ fn compare(n: u64, seed: u64) -> u64 {
         wrong += s.wrong;
         for _ in 0..50.min(n - done) {
             let l = a_look(&mut d, &s, z);
-            let (want, count) = lifted_look(&s, &l, &mut out);
+            let (height, count) = lifted_look(&s, &l, &mut out);
+            let want = [height, gap_above(height, l.ys.1, &out)];
             let (inset, apart) = (flat(&l.shape.inset), flat(&l.shape.apart));
             let mut room = vec![f64::NAN; 2 * count];
             let got = our_look(l.x, l.ys, &inset, &apart, &s.our_sheet, &s.our_placed, &mut room);
-            let mut bad = got.to_bits() != want.to_bits();
+            let mut bad = bits(got) != bits(want);
             if count > 0 {
                 let mut room = vec![f64::NAN; 2 * count - 1];
-                bad |= our_look(l.x, l.ys, &inset, &apart, &s.our_sheet, &s.our_placed, &mut room) != NO_ROOM;
+                let none = our_look(l.x, l.ys, &inset, &apart, &s.our_sheet, &s.our_placed, &mut room);
+                bad |= bits(none) != bits([NO_ROOM, 0.0]);
             }
             if bad {
                 wrong += 1;
-                eprintln!("look {done}: lifted {want:e}, ours {got:e}, {count} intervals");
+                eprintln!("look {done}: lifted {want:?}, ours {got:?}, {count} intervals");
             }
             done += 1;
         }
@@ -306,7 +327,8 @@ fn sample(n: u64, seed: u64, dir: &str) {
         for v in head.iter().chain(sets.iter().flatten()) {
             bytes.extend(v.to_bits().to_be_bytes());
         }
-        text += &if want == FULL { "full\n".to_string() } else { format!("free {:016x}\n", want.to_bits()) };
+        let [height, gap] = bits([want, gap_above(want, l.ys.1, &out)]);
+        text += &if want == FULL { "full\n".to_string() } else { format!("free {height:016x} {gap:016x}\n") };
         text += if count > 0 { "no 22\n" } else { "" };
         done += 1;
     }

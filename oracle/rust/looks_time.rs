@@ -53,7 +53,7 @@ fn times() {
         for l in &looks {
             let a = lifted_look(&s, l, &mut out).0;
             let b = our_look(l.x, l.ys, &inset, &apart, &s.our_sheet, &s.our_placed, &mut room);
-            assert!(a.to_bits() == b.to_bits());
+            assert!(bits([a, gap_above(a, l.ys.1, &out)]) == bits(b));
         }
         let rust = least(|| for l in &looks {
             std::hint::black_box(lifted_look(&s, l, &mut out));
@@ -65,7 +65,9 @@ fn times() {
     }
     // entering a copy of so many strips, a tenth or a thirtieth of the sheet wide, the next to the
     // right, where so many strips stand
-    for (standing, strips_each, columns) in [(100usize, 1usize, 10.0), (100, 8, 10.0), (100, 8, 30.0), (1200, 1, 10.0), (1200, 8, 10.0), (1200, 8, 30.0), (1200, 40, 10.0)] {
+    let few = [(100usize, 1usize, 10.0), (100, 8, 10.0), (100, 8, 30.0)];
+    let many = [(1200, 1, 10.0), (1200, 8, 10.0), (1200, 8, 30.0), (1200, 40, 10.0)];
+    for (standing, strips_each, columns) in few.into_iter().chain(many) {
         let mut placed = Index::new(0.0, 1000.0);
         let mut our = Ours::new(0.0, 1000.0);
         our.entries = vec![0; 200_000];

@@ -6,6 +6,7 @@ mod batch;
 mod compare;
 mod filling;
 mod flat;
+mod hash;
 mod index;
 mod job;
 mod modes;
@@ -149,7 +150,7 @@ pub fn answer_text(
     if o.trace {
         return trace_text(&job, o, order).map(|text| (text, None));
     }
-    let plain_work = o.plain_work.unwrap_or(20_000_000);
+    let plain_work = o.plain_work.unwrap_or(plain::WORK);
     let ask = Ask { sizes: o.sizes()?, order, plain_work, looks: o.looks };
     let answer = run(&job, &ask)?;
     let mut text: String = answer.looks.iter().map(|l| l.line() + "\n").collect();

@@ -52,15 +52,25 @@ pub fn time(job: &Job, runs: u32) -> String {
 }
 
 /// `--lifted-only`: the plan by the lifted code alone, without look lines,
-/// rooms or comparison.
+/// rooms or comparison. A put line has five fields, since the Rust has no gap.
 pub fn lifted_text(job: &Job) -> String {
     let nested = timed::lifted::reach::Lifted::new(job, &timed::Signal).nest(job);
     let filled = nested.filled;
     let looks = vec![];
     let (placed, right, unplaced_area) = (filled.placed, filled.right, filled.unplaced_area);
-    let layout = Layout { placed, unplaced_area, right, looks };
+    let gaps = vec![0.0; placed.len()];
+    let layout = Layout { placed, gaps, unplaced_area, right, looks };
     let (order, improvements, state) = (nested.order, nested.improvements, nested.state);
-    print::plan(job, &Plan { order, layout, improvements, state, kept: 0 })
+    let text = print::plan(job, &Plan { order, layout, improvements, state, kept: 0 });
+    text.lines().map(|line| without_gap(line).to_string() + "\n").collect()
+}
+
+/// A line as it is, a put line without its last field.
+fn without_gap(line: &str) -> &str {
+    match line.rsplit_once(' ') {
+        Some((five, _)) if line.starts_with("put ") => five,
+        _ => line,
+    }
 }
 
 /// `--by-hand`: the plan by the planner with rooms alone, nothing compared.

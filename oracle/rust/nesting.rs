@@ -7,6 +7,7 @@ use crate::watch::Watch;
 /// What a filling leaves.
 pub struct Layout {
     pub placed: Vec<Place>,
+    pub gaps: Vec<f64>,
     pub unplaced_area: f64,
     pub right: f64,
     /// Look counts by slot, kinds and orientations in order.
@@ -17,6 +18,7 @@ impl Layout {
     fn of(state: &State) -> Self {
         Self {
             placed: state.placed.clone(),
+            gaps: state.gaps.clone(),
             unplaced_area: state.unplaced_area,
             right: state.right,
             looks: state.slots.iter().map(|s| s.looks).collect(),

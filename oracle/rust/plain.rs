@@ -4,6 +4,9 @@ use crate::filling::{ranges, Place, Ranges};
 use crate::job::Job;
 use crate::strips::{bounds, forbidden, moved, trapezoids, Strip};
 
+/// Pairs of strips that it may take, unless another limit is asked for.
+pub const WORK: u64 = 20_000_000;
+
 /// One orientation, with its searches so far.
 struct Slot {
     bounds: [f64; 4],
@@ -30,6 +33,7 @@ impl Slot {
 
 pub struct Plain {
     pub placed: Vec<Place>,
+    pub gaps: Vec<f64>,
     pub unplaced_area: f64,
     pub right: f64,
     pub looks: Vec<u64>,
@@ -60,6 +64,13 @@ fn height(intervals: &[(f64, f64)], y_low: f64) -> f64 {
     }
 }
 
+/// The clear height above y: from the lowest of y_high and the bottoms at y or above. One of these that
+/// does not count is at y_high or above.
+fn gap(intervals: &[(f64, f64)], y: f64, y_high: f64) -> f64 {
+    let above = intervals.iter().map(|i| i.0).filter(|&low| low >= y);
+    (above.fold(y_high, f64::min) + 0.0) - y
+}
+
 impl Sheet {
     /// All forbidden intervals of the copy at x, counted or not.
     fn intervals(&self, slot: &Slot, x: f64, out: &mut Vec<(f64, f64)>) {
@@ -72,9 +83,9 @@ impl Sheet {
         }
     }
 
-    /// The first column from 0 on with a free height; an error where the work
+    /// The first column from 0 on with a free height, its x, y and gap; an error where the work
     /// is used up.
-    fn search(&mut self, slot: &Slot, r: &Ranges) -> Result<Option<(usize, f64, f64)>, ()> {
+    fn search(&mut self, slot: &Slot, r: &Ranges) -> Result<Option<(usize, [f64; 3])>, ()> {
         let pairs = slot.inset.len() * self.strips.len() + slot.apart.len() * self.standing.len();
         let mut intervals = vec![];
         for column in 0..=r.last {
@@ -83,7 +94,7 @@ impl Sheet {
             self.intervals(slot, x, &mut intervals);
             let y = height(&intervals, r.ys.0);
             if y <= r.ys.1 {
-                return Ok(Some((column, x, y)));
+                return Ok(Some((column, [x, y, gap(&intervals, y, r.ys.1)])));
             }
         }
         Ok(None)
@@ -91,24 +102,24 @@ impl Sheet {
 
     /// Seeks in each orientation; the smallest x + b2, then y + b3, then the
     /// first listed wins.
-    fn seek(&mut self, slots: &mut [Slot]) -> Result<Option<(f64, usize, f64, f64)>, ()> {
-        let mut best: Option<(f64, f64, usize, f64, f64)> = None;
+    fn seek(&mut self, slots: &mut [Slot]) -> Result<Option<(f64, usize, [f64; 3])>, ()> {
+        let mut best: Option<(f64, f64, usize, [f64; 3])> = None;
         for (o, slot) in slots.iter_mut().enumerate() {
             let Some(r) = slot.ranges.take() else { continue };
             let found = self.search(slot, &r);
             slot.ranges = Some(r);
-            let Some((column, x, y)) = found? else {
+            let Some((column, found)) = found? else {
                 slot.none = true;
                 continue;
             };
             slot.found = Some(column);
             slot.finds += 1;
-            let (right, top) = (x + slot.bounds[2], y + slot.bounds[3]);
+            let (right, top) = (found[0] + slot.bounds[2], found[1] + slot.bounds[3]);
             if best.is_none_or(|b| right < b.0 || (right == b.0 && top < b.1)) {
-                best = Some((right, top, o, x, y));
+                best = Some((right, top, o, found));
             }
         }
-        Ok(best.map(|(right, _, o, x, y)| (right, o, x, y)))
+        Ok(best.map(|(right, _, o, found)| (right, o, found)))
     }
 }
 
@@ -131,17 +142,20 @@ pub fn plain(job: &Job, order: &[usize], work: u64) -> Option<Plain> {
     let strips = trapezoids(&job.sheet, true);
     let mut sheet = Sheet { resolution: job.resolution, strips, standing: vec![], work };
     let mut slots = slots(job, &s);
-    let mut result = Plain { placed: vec![], unplaced_area: 0.0, right: s[0], looks: vec![] };
+    let (placed, gaps, looks) = (vec![], vec![], vec![]);
+    let mut result = Plain { placed, gaps, unplaced_area: 0.0, right: s[0], looks };
     for &kind in order {
-        let Some((right, o, x, y)) = sheet.seek(&mut slots[kind]).ok()? else {
+        let Some((right, o, [x, y, gap])) = sheet.seek(&mut slots[kind]).ok()? else {
             result.unplaced_area += job.parts[kind].area;
             result.placed.push(None);
+            result.gaps.push(0.0);
             continue;
         };
         let copy = slots[kind][o].apart.iter().map(|p| moved(p, x, y));
         sheet.standing.extend(copy);
         result.right = if right > result.right { right } else { result.right };
         result.placed.push(Some((o, x, y)));
+        result.gaps.push(gap);
     }
     result.looks = slots.iter().flatten().map(Slot::looks).collect();
     Some(result)

@@ -1,4 +1,4 @@
-//! The printed plan (document 01), its offcut that of document 02, W2.
+//! The printed plan (document 01), its offcut and gaps those of document 02, W2 and W7.
 use crate::job::Job;
 use crate::nesting::Plan;
 use crate::rooms::POSITION;
@@ -16,17 +16,18 @@ pub fn refusal(number: u32) -> String {
     format!("no {number}\n")
 }
 
-/// A placed copy: kind, copy, orientation, x, y.
-pub type Position = (usize, u32, usize, f64, f64);
+/// A placed copy: kind, copy, orientation, x, y, gap.
+pub type Position = (usize, u32, usize, f64, f64, f64);
 
 /// Placed copies numbered in the order, by kind, then copy; how many of each
 /// kind are placed.
 pub fn positions(job: &Job, plan: &Plan) -> (Vec<Position>, Vec<u32>) {
     let mut copies = vec![0; job.parts.len()];
     let mut list = vec![];
-    for (&kind, place) in plan.order.iter().zip(&plan.layout.placed) {
+    let places = plan.layout.placed.iter().zip(&plan.layout.gaps);
+    for (&kind, (place, &gap)) in plan.order.iter().zip(places) {
         if let Some((o, x, y)) = *place {
-            list.push((kind, copies[kind], o, x, y));
+            list.push((kind, copies[kind], o, x, y, gap));
             copies[kind] += 1;
         }
     }
@@ -53,8 +54,8 @@ pub fn plan(job: &Job, plan: &Plan) -> String {
     let (list, copies) = positions(job, plan);
     let without = plan.order.len() - list.len();
     let mut out = format!("plan {} {} {}\n", list.len(), without, plan.improvements);
-    for (kind, copy, o, x, y) in list {
-        out += &format!("put {kind} {copy} {o} {} {}\n", hex(x), hex(y));
+    for (kind, copy, o, x, y, gap) in list {
+        out += &format!("put {kind} {copy} {o} {}\n", hexes(&[x, y, gap]));
     }
     for (kind, p) in job.parts.iter().enumerate() {
         if !p.fill && copies[kind] < p.quantity {
@@ -88,8 +89,8 @@ pub fn draws(plan: &Plan) -> String {
 /// What an accepted plan leaves in the position room.
 pub fn position_room(job: &Job, plan: &Plan, slots: usize) -> Vec<f64> {
     let mut room = vec![0.0; slots];
-    for (i, (kind, copy, o, x, y)) in positions(job, plan).0.into_iter().enumerate() {
-        let record = [kind as f64, copy as f64, o as f64, x, y];
+    for (i, (kind, copy, o, x, y, gap)) in positions(job, plan).0.into_iter().enumerate() {
+        let record = [kind as f64, copy as f64, o as f64, x, y, gap];
         room[i * POSITION..(i + 1) * POSITION].copy_from_slice(&record);
     }
     room

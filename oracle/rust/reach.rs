@@ -134,6 +134,13 @@ impl<'a> Lifted<'a> {
         (x, y, self.intervals.len())
     }
 
+    /// The clear height above the free height y of the last look (document 02, W7): from its own
+    /// intervals, which it has sorted by their bottoms.
+    pub fn gap(&self, y: f64, y_high: f64) -> f64 {
+        let next = self.intervals.iter().map(|i| i.0).find(|&low| low >= y);
+        (next.unwrap_or(y_high) + 0.0) - y
+    }
+
     /// Enters a placed copy's strips.
     pub fn place(&mut self, (kind, o): (usize, usize), x: f64, y: f64) {
         for piece in &self.planner.shapes[kind][o].apart {

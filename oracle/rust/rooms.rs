@@ -18,7 +18,7 @@ pub const STRIP: usize = 6; // doubles
 pub const ENTRY: usize = 1; // strip number
 pub const FIRST: usize = 1; // bucket of a standing strip's x0
 pub const INTERVAL: usize = 2; // doubles: low, high
-pub const POSITION: usize = 5; // doubles: kind, copy, orientation, x, y
+pub const POSITION: usize = 6; // doubles: kind, copy, orientation, x, y, gap
 
 /// Lengths of the rooms in slots.
 #[derive(Clone)]

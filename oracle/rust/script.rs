@@ -3,8 +3,10 @@
 use crate::compare::{run, Ask};
 use crate::filling::{next_copy, start, Stop};
 use crate::flat::{Flat, COPIES};
+use crate::hash::{bits, hash, state_hash};
 use crate::job::{self, Job};
 use crate::nesting::{fill_order, next_random, Plan};
+use crate::plain;
 use crate::print::{hex, offcut, position_room, positions};
 use crate::probed::{lifted::reach::Lifted, Signal};
 use crate::rooms::{numbers, Rooms, Sizes, ROOMS};
@@ -12,7 +14,7 @@ use crate::watch::Watch;
 
 /// The longest rooms that a script can ask for, in slots: shapes, sheet, placed, sheet entries,
 /// placed entries, bucket numbers of the sheet's and of the placed strips, intervals, positions.
-const LONGEST: [usize; ROOMS] = [8200, 8200, 8200, 16500, 16500, 1400, 1400, 8200, 20500];
+const LONGEST: [usize; ROOMS] = [8200, 8200, 8200, 16500, 16500, 1400, 1400, 8200, 24600];
 
 /// Which rooms hold numbers of 16 bits and not doubles.
 fn number_room(a: usize) -> bool {
@@ -48,16 +50,6 @@ impl<'a> Reader<'a> {
         let (a, n, m) = (b[1] as usize, number(&b[2..6]) as usize, number(&b[6..]));
         Ok(Some(Command { letter: b[0], a, n, m }))
     }
-}
-
-/// A hash of numbers: each is mixed in by a draw; it begins with how many they are.
-fn hash(words: &[u64]) -> u64 {
-    words.iter().fold(words.len() as u64, |h, w| next_random(&mut (h ^ w)))
-}
-
-/// A double's bits; one pattern for every NaN.
-fn bits(x: f64) -> u64 {
-    if x.is_nan() { 0x7ff8_0000_0000_0000 } else { x.to_bits() }
 }
 
 /// What a slot of room a holds before a call: not a number, an infinity, minus zero, or whatever
@@ -202,7 +194,8 @@ impl Script {
         Ok(())
     }
 
-    /// A refused step. With the order used up and nothing edited, the layout must be the lifted fill's.
+    /// A refused step. With the order used up and nothing edited, the layout must be the lifted fill's
+    /// and its gaps the plain planner's.
     fn stopped(&self, job: &Job, stop: Stop) -> Result<u32, String> {
         let number = refusal(stop)?;
         if number != 23 || self.edited || self.by_hand {
@@ -218,10 +211,14 @@ impl Script {
             None => s.orientation[i] == 0,
         });
         let ends = [(s.right, filled.right), (s.unplaced_area, filled.unplaced_area)];
-        if same && ends.iter().all(|(a, b)| bits(*a) == bits(*b)) {
-            return Ok(number);
+        if !same || ends.iter().any(|(a, b)| bits(*a) != bits(*b)) {
+            return Err("steps to the end differ from the lifted fill".into());
         }
-        Err("steps to the end differ from the lifted fill".into())
+        let plain = plain::plain(job, &self.order, plain::WORK).map_or(vec![], |p| p.gaps);
+        if plain.iter().zip(&s.gap).any(|(a, b)| bits(*a) != bits(*b)) {
+            return Err("gaps of steps to the end differ from the plain planner's".into());
+        }
+        Ok(number)
     }
 
     /// The plan of a filling in the given order, or its refusal, compared with the lifted one and with
@@ -235,7 +232,7 @@ impl Script {
             };
         }
         let order = Some(self.order.clone());
-        let ask = Ask { sizes: self.sizes(), order, plain_work: 20_000_000, looks: false };
+        let ask = Ask { sizes: self.sizes(), order, plain_work: plain::WORK, looks: false };
         run(job, &ask).map(|answer| answer.plan)
     }
 
@@ -315,8 +312,9 @@ impl Script {
             11 => s.orientation[n] = i,
             12 => s.x[n] = x,
             13 => s.y[n] = x,
-            14 => s.unplaced_area = x,
-            15 => s.right = x,
+            14 => s.gap[n] = x,
+            15 => s.unplaced_area = x,
+            16 => s.right = x,
             _ => return Err(format!("the state has no number {a}")),
         }
         self.edited = true;
@@ -360,27 +358,6 @@ fn refusal(stop: Stop) -> Result<u32, String> {
         Stop::Refused(n) => Ok(n),
         Stop::Differ(message) => Err(message),
     }
-}
-
-/// The hash of all the state's numbers, in the order of the fields.
-fn state_hash(s: &Flat) -> u64 {
-    let mut words = vec![bits(s.resolution)];
-    let doubles = |words: &mut Vec<u64>, xs: &[f64]| words.extend(xs.iter().map(|&x| bits(x)));
-    let numbers = |words: &mut Vec<u64>, ns: &[usize]| words.extend(ns.iter().map(|&n| n as u64));
-    doubles(&mut words, &s.sheet_bounds);
-    numbers(&mut words, &[s.sheet_strips, s.apart_strips]);
-    doubles(&mut words, &s.inset_bounds);
-    numbers(&mut words, &s.parts);
-    numbers(&mut words, &s.order);
-    numbers(&mut words, &[s.taken]);
-    numbers(&mut words, &s.next_column);
-    numbers(&mut words, &s.look_counts);
-    numbers(&mut words, &[s.placed_strips]);
-    numbers(&mut words, &s.orientation);
-    doubles(&mut words, &s.x);
-    doubles(&mut words, &s.y);
-    doubles(&mut words, &[s.unplaced_area, s.right]);
-    hash(&words)
 }
 
 /// What a filling answers: counts, right, unplaced area, offcut, and the hash of the copies placed

@@ -24,9 +24,9 @@ fn state_text(state: &State) -> String {
     out += &format!("strips {} {}\n", state.sheet_strips, state.placed_strips);
     let entries = (state.sheet_index.count(), state.placed_index.count());
     out += &format!("entries {} {}\norder {}\n", entries.0, entries.1, order.join(" "));
-    for (i, place) in state.placed.iter().enumerate() {
+    for (i, (place, gap)) in state.placed.iter().zip(&state.gaps).enumerate() {
         out += &match place {
-            Some((o, x, y)) => format!("place {i} {o} {} {}\n", hex(*x), hex(*y)),
+            Some((o, x, y)) => format!("place {i} {o} {}\n", hexes(&[*x, *y, *gap])),
             None => format!("place {i} none\n"),
         };
     }

@@ -1,27 +1,28 @@
 //! What is noted of the planner with rooms while it works, and its comparison
 //! with the lifted code at every look.
 use crate::filling::{Ranges, Slot, State};
+use crate::print::{hex, hexes};
 use crate::probed::lifted::reach::Lifted;
 use crate::probed::Search;
 use crate::rooms::{load, numbers, Rooms};
 
-/// One look. `y` is the lowest height in no interval, free or not.
+/// One look. `y` is the lowest height in no interval, free or not; `gap` is 0 where it is not free.
 pub struct Look {
     pub kind: usize,
     pub orientation: usize,
     pub column: usize,
     pub x: f64,
     pub y: f64,
+    pub gap: f64,
     pub free: bool,
     pub intervals: usize,
 }
 
 impl Look {
     pub fn line(&self) -> String {
-        let Look { kind, orientation, column, x, y, free, intervals } = self;
-        let answer = if *free { format!("free {:016x}", y.to_bits()) } else { "full".into() };
-        let x = x.to_bits();
-        format!("{kind} {orientation} {column} {x:016x} {answer} {intervals}")
+        let Look { kind, orientation, column, x, y, gap, free, intervals } = self;
+        let answer = if *free { format!("free {}", hexes(&[*y, *gap])) } else { "full".into() };
+        format!("{kind} {orientation} {column} {} {answer} {intervals}", hex(*x))
     }
 }
 
@@ -59,11 +60,11 @@ impl Watch<'_, '_> {
         if let Some(lifted) = &mut self.lifted {
             let columns = (look.column, r.columns);
             let (x, y, n) = lifted.look((look.kind, look.orientation), columns, r.xs, r.ys);
-            let same = x.to_bits() == look.x.to_bits()
-                && y.to_bits() == look.y.to_bits()
-                && n == look.intervals;
-            if !same {
-                return Err(format!("look {}: lifted x {x:?} y {y:?} of {n}", look.line()));
+            let gap = if y <= r.ys.1 { lifted.gap(y, r.ys.1) } else { 0.0 };
+            let bits = |numbers: [f64; 3]| numbers.map(f64::to_bits);
+            if bits([x, y, gap]) != bits([look.x, look.y, look.gap]) || n != look.intervals {
+                let line = look.line();
+                return Err(format!("look {line}: lifted x {x:?} y {y:?} gap {gap:?} of {n}"));
             }
         }
         if self.fillings.len() < 2 {

@@ -3,9 +3,11 @@ import collections
 
 from jobs.bits import answer, pack
 from jobs.cases import CLOCKWISE, TRIANGLE, case4, job, part, rect
+from jobs.double_faults import double_faults
 from jobs.draws import Draws
 from jobs.examples import nan_corner
-from jobs.faults import clauses, double_faults
+from jobs.faults import clauses
+from jobs.gap_faults import gap_faults
 from jobs.random_jobs import random_job
 from jobs.script import (INTERVALS, PLACED, PLACED_ENTRIES, PLACED_FIRSTS, POSITIONS, RECORD, ROOMS,
                          SHAPES, SHEET, SHEET_ENTRIES, SHEET_FIRSTS, Script, answers, needs, trace)
@@ -164,7 +166,7 @@ def limits(s):
     order = [0] * 4000 + [1] + [0] * 95
     s.job(j)
     s.order(order)
-    lengths = [12, 0, 6, 0, 600, 0, 1, 8, 5 * 4096]
+    lengths = [12, 0, 6, 0, 600, 0, 1, 8, 6 * 4096]
     s.rooms(lengths)
     s.start(0)
     s.next(0)
@@ -174,9 +176,9 @@ def limits(s):
     s.next(31)
     s.rooms(lengths)
     s.fill(0)
-    s.length(POSITIONS, 5 * 4096 - 1)
+    s.length(POSITIONS, 6 * 4096 - 1)
     s.fill(30)
-    s.length(POSITIONS, 5 * 4096)
+    s.length(POSITIONS, 6 * 4096)
     s.order(order + [0])
     s.fill(10)
     s.start(10)
@@ -190,7 +192,7 @@ def fillings(s):
     """Random jobs in random orders."""
     r = Draws(SEED)
     s.title("fillings")
-    s.rooms([903, 604, 1805, 9001, 16384, 100, 300, 701, 202])
+    s.rooms([903, 604, 1805, 9001, 16384, 100, 300, 701, 242])
     made = 0
     while made < FILLINGS:
         j = random_job(r)
@@ -223,16 +225,19 @@ def refused_leaves(s):
 
 
 def script():
+    """New calls stand at the end, so that the garbage of the others stays."""
     s = Script(SEED)
     for one in step_jobs():
         steps(s, *one)
     for one in step_jobs():
         whole(s, *one)
     limits(s)
-    clauses(s, holed(), [1, 1, 0, 1, 0, 1, 1, 0, 1, 1])
+    mixed = [1, 1, 0, 1, 0, 1, 1, 0, 1, 1]
+    clauses(s, holed(), mixed)
     double_faults(s)
     fillings(s)
     refused_leaves(s)
+    gap_faults(s, holed(), mixed)
     return s
 
 

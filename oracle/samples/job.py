@@ -4,7 +4,7 @@ import collections
 
 from gen import generated
 from jobs.bits import fields, pack, pack_fields
-from jobs.cases import case4, job, offcut_cases, part, rect
+from jobs.cases import case4, gap_cases, job, offcut_cases, part, rect
 from jobs.oracle import answers
 from samples.stored import files_of
 
@@ -63,11 +63,12 @@ def judged(list_):
 
 
 def sample():
-    """The jobs above, then of each answer so many generated ones, without those of the offcut, which is no matter of reading."""
+    """The jobs above, then of each answer so many generated ones, without those of offcut and gap, which are no matter of
+    reading."""
     first = list(case4_changes()) + list(limits()) + list(minus_zeros())
     first = [(label, data) for label, data in first if len(data) <= 20000]
-    offcut = {label for label, _ in offcut_cases()}
-    rest = [one for one in generated(GENERATED, SEED) if len(one[1]) <= LONGEST and one[0] not in offcut]
+    others = {label for label, _ in offcut_cases() + gap_cases()}
+    rest = [one for one in generated(GENERATED, SEED) if len(one[1]) <= LONGEST and one[0] not in others]
     out = judged(first)
     count = collections.Counter()
     for one, text in judged(rest):

@@ -60,10 +60,21 @@ def kinds(head, intervals, sets):
         yield "two moving strips share one bucket"
 
 
+def gap_kind(head, height, gap):
+    """What ends the gap above a free height, by the bits of both."""
+    height, gap = (struct.unpack(">d", bytes.fromhex(bits))[0] for bits in (height, gap))
+    if gap == 0:
+        return "a gap of zero"
+    return "a gap up to y_high" if gap == head[4] - height else "a gap up to an interval"
+
+
 def counted(files):
-    """How many looks are of each kind, and how many have each answer."""
+    """How many looks are of each kind, how many have each answer, and what ends their gaps."""
     found = collections.Counter(k for look in looks(files["stdin"]) for k in kinds(*look))
-    found.update("answer " + line.split()[0] for line in files["stdout"].decode().splitlines())
+    lines = [line.split() for line in files["stdout"].decode().splitlines()]
+    found.update("answer " + words[0] for words in lines)
+    answers = [words for words in lines if words[0] != "no"]
+    found.update(gap_kind(head, *words[1:]) for (head, *_), words in zip(looks(files["stdin"]), answers) if words[0] == "free")
     return "".join(f"\n{n:6} {kind}" for kind, n in found.items())
 
 

@@ -3,18 +3,19 @@ each a line `job` with its label, then what the oracle prints."""
 import collections
 
 from jobs.bits import fields, pack, pack_fields
-from jobs.cases import CLOCKWISE, case4, grid, job, length_cases, offcut_cases, part, rect, rooms_cases, run_cases, starred
+from jobs.cases import (CLOCKWISE, case4, gap_cases, grid, job, length_cases, offcut_cases, part, rect, rooms_cases,
+                        run_cases, starred)
 from jobs.damage import damaged
 from jobs.draws import Draws
 from jobs.examples import nan_corner
-from jobs.oracle import answers
+from jobs.oracle import answers, without_gaps
 from jobs.random_jobs import ties, valid
 from jobs.shapes import ell, finish, rectangle, slanted, triangle
 from samples.stored import files_of, with_label
 
 SEED = 8
 LONGEST = 560  # bytes of a generated job
-LONGEST_TEXT = 520
+LONGEST_TEXT = 520  # of its plan, gaps left out
 TRIED = 7400
 DAMAGED = 400
 SWAPS = 1500   # tried
@@ -125,6 +126,10 @@ def told(jobs):
     return list(zip(list_, answers(list_)))
 
 
+def short(text):
+    return len(without_gaps(text)) <= LONGEST_TEXT
+
+
 def number(text):
     return text.strip() if text.startswith("no ") else "plan"
 
@@ -137,16 +142,16 @@ def sample():
     first += list(numbers()) + [one for one in length_cases() if one[0] in LENGTHS]
     out = told(first)
     r = Draws(SEED)
-    out += [(one, text) for one, text in told(generated(r)) if len(text) <= LONGEST_TEXT]
-    rest = [(one, text) for one, text in told(swap_jobs(r)) if len(text) <= LONGEST_TEXT]
+    out += [(one, text) for one, text in told(generated(r)) if short(text)]
+    rest = [(one, text) for one, text in told(swap_jobs(r)) if short(text)]
     out += [pair for pair in rest if improved(pair[1])][:IMPROVED]
     out += [pair for pair in rest if "\nfill " in pair[1] and not improved(pair[1])][:FILLED]
     count = collections.Counter()
     for one, text in told(faults(r)):
         count[number(text)] += 1
-        if count[number(text)] <= OF_EACH and len(text) <= LONGEST_TEXT:
+        if count[number(text)] <= OF_EACH and short(text):
             out.append((one, text))
-    return out + told([(label, pack(j)) for label, j in offcut_cases()])
+    return out + told([(label, pack(j)) for label, j in offcut_cases() + gap_cases()])
 
 
 def made():
