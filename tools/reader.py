@@ -28,7 +28,7 @@ PARTS = [
     ("The whole plan", "Nest"),
     ("The printed plan", "Text Printed Told"),
     ("The program", "Program"),
-    ("Sheets tried by hand", "Cases"),
+    ("Sheets tried by hand", "Case4 Cases"),
 ]
 HEAD = """# What a reader must believe
 
