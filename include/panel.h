@@ -6,7 +6,7 @@
 
    A job (the sheet, the kinds of panels, their quantities) goes in as bytes, a plan comes out as text and as a table of
    positions. Nothing is allocated, read from a file, written to one or kept between calls: all memory is the caller's, beside
-   about half a megabyte of stack during a call. Calls in several threads do not disturb each other where their rooms are
+   about 0.6 megabytes of stack during a call. Calls in several threads do not disturb each other where their rooms are
    different ones. Of the C library memset and memcpy are called, nothing else.
 
    UNITS    Coordinates and the resolution are in mm, areas in mm2. Kinds, copies and orientations are numbered from 0, in
