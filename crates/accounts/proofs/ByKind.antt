@@ -330,7 +330,7 @@ module _ (s : State) where
         ∙ (sym (flat-append (flatMap (λ k. positionsOfKind k 0 (standingTo s n)) (upFrom m 0)) (positionsOfKind m 0 (standingTo s n)))
         ∙ ap flatPositions (sym (flat-snoc (λ k. positionsOfKind k 0 (standingTo s n)) m 0 ∙ ap (λ (k : ℕ). flatMap (λ k. positionsOfKind k 0 (standingTo s n)) (upFrom m 0) ++ positionsOfKind k 0 (standingTo s n)) z)))))
 
-    all-long : (m : ℕ) → length (flatMap (λ k. positionsOfKind k 0 (standingTo s n)) (upFrom m 0)) ≡ startOf m
+    pub all-long : (m : ℕ) → length (flatMap (λ k. positionsOfKind k 0 (standingTo s n)) (upFrom m 0)) ≡ startOf m
     unfolding flatMap upFrom sumTo
     all-long zero = refl
     all-long (suc m) =

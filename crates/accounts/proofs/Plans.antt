@@ -11,7 +11,7 @@ use Rattle.filling.specs.declared.Plan.{Plan}
 use Rattle.filling.specs.Shapes.{Standing}
 use Rattle.filling.specs.Rooms.{laid}
 use Rattle.filling.specs.State.{bySlot, copyAt, standsAt, standingTo, withoutTo, standingOf, withoutOf}
-use Rattle.filling.specs.Accounts.{positionsOfKind, positions, flatPositions, placedOf, unplacedOf, looksBySlot, lookCountsOf, planOf}
+use Rattle.filling.specs.Accounts.{positionsOfKind, framedPositions, flatPositions, placedOf, unplacedOf, looksBySlot, lookCountsOf, planOf}
 use Rattle.filling.proofs.Reading.{upFrom-same}
 use Rattle.accounts.specs.tables.inner.Tabled.{Tabled}
 use Rattle.accounts.specs.inner.Counting.{sumTo, kindTo, standsIn, missesIn, byKind, lookIn}
@@ -50,8 +50,8 @@ module _ (j : Job) (rows : List ℕ) (areas : List Float) (s : State) (order ori
     (h : Tabled j rows areas) (k : length (j .kinds) ≡ kinds) (t : PlanTold s order orientation x y gap looks taken) where
   pub positions-are : (room before : List Float) → room ≡ laid (flatPositions (flatMap
       (λ k. positionsOfKind k 0 (standingTo (stateOf order orientation x y gap) taken)) (upFrom kinds 0))) before
-      → room ≡ laid (flatPositions (positions j (standingOf s))) before
-  unfolding positions standingOf
+      → room ≡ laid (flatPositions (framedPositions j (standingOf s))) before
+  unfolding framedPositions standingOf
   positions-are room before e =
       e ∙ ap (λ (l : List Standing). laid (flatPositions (flatMap (λ k. positionsOfKind k 0 l) (upFrom kinds 0))) before)
       (sym (standing-as s (stateOf order orientation x y gap) (t .order-is) (t .x-is) (t .y-is) (t .gap-is) (t .orientation-is) taken)

@@ -14,7 +14,7 @@ ghost use Rattle.job.specs.Jobs.{Job};
 ghost use Rattle.filling.specs.declared.State.{State};
 ghost use Rattle.filling.specs.Rooms.{laid};
 ghost use Rattle.filling.specs.State.{bySlot, standingOf, standingTo};
-ghost use Rattle.filling.specs.Accounts.{positionsOfKind, positions, flatPositions, planOf};
+ghost use Rattle.filling.specs.Accounts.{positionsOfKind, framedPositions, flatPositions, planOf};
 ghost use Rattle.accounts.specs.tables.inner.Tabled.{Tabled};
 ghost use Rattle.accounts.specs.inner.Counting.{stands, sumTo, kindTo, standsIn, missesIn, byKind, startsBy, lookIn};
 ghost use Rattle.accounts.specs.inner.Laying.{setPosition, putPosition, stateOf};
@@ -210,7 +210,7 @@ pub fn plan_of(
     ensures { λ r. ⌜ ((j : Job) (areas : List Float) (s : State) → Tabled j (now (rows .entry)) areas → length (j .kinds) ≡ kinds
         → PlanTold s (now (order .entry)) (now (orientation .entry)) (now (x .entry)) (now (y .entry)) (now (gap .entry)) (now («look_counts» .entry)) taken
         → Totalled j s right «unplaced_area» offcut
-        → (r ≡ planOf j s improvements) × (now (room .exit) ≡ laid (flatPositions (positions j (standingOf s))) (now (room .entry)))) ⌝ }
+        → (r ≡ planOf j s improvements) × (now (room .exit) ≡ laid (flatPositions (framedPositions j (standingOf s))) (now (room .entry)))) ⌝ }
 {
     let mut placed_of = [0; 64];
     let mut unplaced_of = [0; 64];

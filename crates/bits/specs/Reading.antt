@@ -15,7 +15,7 @@ abbrev pub jobRefusalNumber : Refusal → ℕ
 jobRefusalNumber Truncated = 1
 -- "a set filling bit, or a further byte"
 jobRefusalNumber TrailingData = 2
--- "version not 1"
+-- "version not 1", document 02, W1: "versions other than 1 and 2"
 jobRefusalNumber UnknownVersion = 3
 -- "resolution, coordinate or area not finite"
 jobRefusalNumber NonFinite = 4

@@ -19,7 +19,7 @@ use Rattle.bits.specs.declared.Refusal.the-variants as Wrong
 use Rattle.bits.specs.Bits.{fieldAt}
 use Rattle.bits.specs.Reading.{ok, bad, bits}
 use Rattle.bits.specs.Fields.{Field, count, Range, number}
-use Rattle.job.specs.Jobs.{Job, aJob, ended, widthOf, accepted, refused, readJob}
+use Rattle.job.specs.Jobs.{Job, aJob, frameOf, ended, framedWidth, accepted, refused, readJob}
 use Rattle.filling.specs.declared.State.{State}
 use Rattle.filling.specs.declared.Refusal.{Refusal}
 use Rattle.filling.specs.declared.Refusal.the-variants as Why
@@ -31,10 +31,10 @@ use Rattle.filling.specs.Rooms.{Rooms, Lent, laid, zeros}
 use Rattle.filling.specs.Order.{rearranged}
 use Rattle.filling.specs.State.{standingOf}
 use Rattle.filling.specs.Consistent.{every, bounded, plannerFits, gapsFit, sheetIndex, sheetStrips, placedStrips, firstsFor, firstsFit}
-use Rattle.filling.specs.Start.{startVerdict, noStart, goodStart, startOf}
-use Rattle.filling.specs.NextCopy.{noStep, nextCopyOf}
+use Rattle.filling.specs.Start.{startVerdict, noStart, goodStart, startJob, startOf}
+use Rattle.filling.specs.NextCopy.{noStep, stepJob, nextCopyOf}
 use Rattle.filling.specs.Accounts.{reachOf, notBelowZero, offcutOf}
-use Rattle.filling.specs.Fill.{filled, fillOrder, notPlanned, plannedWith, fillOf}
+use Rattle.filling.specs.Fill.{filled, fillOrder, notPlanned, plannedWith, fillJob, fillOf}
 use Rattle.filling.specs.Calls.{Call, afterCalls, refusals, stateOutcome, plainAfter}
 use Rattle.filling.specs.Reports.{Reports}
 use Rattle.filling.proofs.Demand3 as Proved3
@@ -44,7 +44,7 @@ use Rattle.filling.proofs.FirstBuckets as ProvedFirsts
 use Rattle.filling.proofs.WithinBounds.{jobs-within}
 use Rattle.nesting.specs.CopyOrder.{copyOrder}
 use Rattle.nesting.specs.Rounds.{Kept, kept, swapSearch}
-use Rattle.nesting.specs.Nest.{nestVerdict, nestOf}
+use Rattle.nesting.specs.Nest.{nestVerdict, nestJob, nestOf}
 use Rattle.nesting.specs.RefusalLines.{nestLines}
 use Rattle.nesting.specs.Cases.{starred}
 use Rattle.nesting.proofs.Cases as ProvedCases
@@ -60,6 +60,8 @@ use Rattle.claims.proofs.plan_promises.Refused as ProvedPlan
 use Rattle.claims.proofs.plan_promises.Replies as ProvedReplies
 use Rattle.claims.specs.JobNumbers.{jobWithin}
 use Rattle.claims.proofs.Within.{job-within}
+use Rattle.claims.specs.FramedJobs.{framedJob, plannedOnSheet}
+use Rattle.claims.proofs.FramedPlan as ProvedFrames
 use Rattle.claims.specs.LookNumbers.{isFinite, endsFinite}
 use Rattle.claims.proofs.Gaps as ProvedGaps
 use Rattle.claims.proofs.ExactLines as ProvedLines
@@ -204,6 +206,20 @@ pub demand-3 : (bytes order : List ℕ) (l : Lent) (j : Job) → readJob bytes �
     × (fillOf bytes order l .verdict ≡ Accepted → Reports j l (fillOf bytes order l) (plainAfter j order (replicate (length order) false)))
 demand-3 = Proved3.demand-3
 
+-- ---- Document 02, W1: "Loops go through `to`, reversed where the frame reverses, positions back through `from` .. "Left" and "lower" in the placement
+-- ---- rule are meant in the framed sheet, as are right and offcut, and what is proved speaks of all eight frames by one argument."
+
+-- the argument, of every job: planner, start and single step are those of the job with its sets in its frame, planned at the lower left; a filling and the
+-- whole plan are that job's, counts, looks, right, area, offcut and refusals too, with the positions back through `from`
+pub framed-plan : (j : Job)
+    → (plannerOf j ≡ plannerOf (framedJob j))
+    × ((order : List ℕ) (l : Lent) → startJob j order l ≡ startJob (framedJob j) order l)
+    × ((s : State) (w : Rooms) (iv : List Float) → stepJob j s w iv ≡ stepJob (framedJob j) s w iv)
+    × ((order : List ℕ) (l : Lent) → fillJob j order l ≡ plannedOnSheet (frameOf (j .header)) (fillJob (framedJob j) order l))
+    × ((l : Lent) → nestJob j l ≡ plannedOnSheet (frameOf (j .header)) (nestJob (framedJob j) l))
+framed-plan j =
+    (ProvedFrames.planner-framed j, ProvedFrames.start-framed j, ProvedFrames.step-framed j, ProvedFrames.fill-framed j, ProvedFrames.nest-framed j)
+
 -- ---- Document 02, W3: "The strip record gets that bucket number, beside the doubles in a lent room of 16-bit numbers, worked out on entry and true for
 -- ---- every standing strip after every operation that is given true ones. Sheet and placed strips share the record. .. a false bucket number is 31."
 
@@ -318,9 +334,9 @@ number-read = ProvedReader.number-read
 pub job-read : (bytes : List ℕ) (j : Job)
     → (readJob bytes ≡ accepted j
     → (p : ℕ) × (aJob bytes 0 ≡ ok j p)
-    × ((ended bytes p ≡ true) × (j .copies ≤ 4096) × (lt (fromInt 1_000_000) (widthOf (j .sheet) ⊘ j .header .resolution) ≡ false)))
+    × ((ended bytes p ≡ true) × (j .copies ≤ 4096) × (lt (fromInt 1_000_000) (framedWidth j ⊘ j .header .resolution) ≡ false)))
     × ((p : ℕ) → aJob bytes 0 ≡ ok j p
-    → (ended bytes p ≡ true) × (j .copies ≤ 4096) × (lt (fromInt 1_000_000) (widthOf (j .sheet) ⊘ j .header .resolution) ≡ false)
+    → (ended bytes p ≡ true) × (j .copies ≤ 4096) × (lt (fromInt 1_000_000) (framedWidth j ⊘ j .header .resolution) ≡ false)
     → readJob bytes ≡ accepted j)
 job-read = ProvedReader.job-read
 

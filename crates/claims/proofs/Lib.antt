@@ -2,4 +2,6 @@ pub mod Within
 pub mod Reader
 pub mod ExactLines
 pub mod Gaps
+pub mod FramedKinds
+pub mod FramedPlan
 pub mod Claims

@@ -21,7 +21,7 @@ use Rattle.bits.specs.Bits.{fieldAt}
 use Rattle.bits.specs.Reading.{Read, ok, bad, after, bits}
 use Rattle.bits.specs.Fields.{Field, judgeCount, counted, count, Range, judgeDouble, judgeNumber, measured, number}
 use Rattle.job.specs.declared.Judged.the-variants.{Passed, Failed}
-use Rattle.job.specs.Jobs.{Job, aJob, ended, widthOf, judgeEnd, accepted, passed, judged, readJob}
+use Rattle.job.specs.Jobs.{Job, aJob, ended, framedWidth, judgeEnd, accepted, passed, judged, readJob}
 
 -- ---- fields
 
@@ -94,16 +94,16 @@ number-read r bytes p h = (λ f. of false f, λ f e. of true f ∙ ap in-range e
 
 -- nothing is wrong at a job's end: 2, 7, 8
 abbrev Ends : List ℕ → Job → ℕ → Type 0
-Ends bytes j p = (ended bytes p ≡ true) × (j .copies ≤ 4096) × (lt (fromInt 1_000_000) (widthOf (j .sheet) ⊘ j .header .resolution) ≡ false)
+Ends bytes j p = (ended bytes p ≡ true) × (j .copies ≤ 4096) × (lt (fromInt 1_000_000) (framedWidth j ⊘ j .header .resolution) ≡ false)
 
 end-passed : (bytes : List ℕ) (p : ℕ) (i j : Job)
-    → passed (judgeEnd bytes p (i .copies) (widthOf (i .sheet)) (i .header .resolution)) i ≡ accepted j → (i ≡ j) × Ends bytes i p
+    → passed (judgeEnd bytes p (i .copies) (framedWidth i) (i .header .resolution)) i ≡ accepted j → (i ≡ j) × Ends bytes i p
 unfolding judgeEnd
 end-passed bytes p i j e =
-    go (ended bytes p) refl (leb (i .copies) 4096) refl (lt (fromInt 1_000_000) (widthOf (i .sheet) ⊘ i .header .resolution)) refl e
+    go (ended bytes p) refl (leb (i .copies) 4096) refl (lt (fromInt 1_000_000) (framedWidth i ⊘ i .header .resolution)) refl e
   where
     go : (a : Bool) → ended bytes p ≡ a → (b : Bool) → leb (i .copies) 4096 ≡ b
-        → (c : Bool) → lt (fromInt 1_000_000) (widthOf (i .sheet) ⊘ i .header .resolution) ≡ c
+        → (c : Bool) → lt (fromInt 1_000_000) (framedWidth i ⊘ i .header .resolution) ≡ c
         → passed (cond a (cond b (cond c (Failed TooManyColumns) Passed) (Failed TooManyCopies)) (Failed TrailingData)) i ≡ accepted j
         → (i ≡ j) × Ends bytes i p
     go false f b g c h e = absurd (let z : _≡_ {A = ℕ} 0 1 = cc in omega arith)
@@ -112,7 +112,7 @@ end-passed bytes p i j e =
     go true f true g false h e = (let z : i ≡ j = cc in z, (f, leb-true (i .copies) 4096 g, h))
 
 end-good : (bytes : List ℕ) (p : ℕ) (j : Job) → Ends bytes j p
-    → passed (judgeEnd bytes p (j .copies) (widthOf (j .sheet)) (j .header .resolution)) j ≡ accepted j
+    → passed (judgeEnd bytes p (j .copies) (framedWidth j) (j .header .resolution)) j ≡ accepted j
 unfolding judgeEnd
 end-good bytes p j h = rw (h .0, le-leb (j .copies) 4096 (h .1), h .2)
 

@@ -1,3 +1,4 @@
 pub mod plan_promises
 pub mod JobNumbers
 pub mod LookNumbers
+pub mod FramedJobs

@@ -17,7 +17,9 @@ use Rattle.index.specs.Buckets.{stripNumbers, standingCapacity}
 use Rattle.index.proofs.Standing.{standing-few}
 use Rattle.strips.specs.declared.Rect.{Rect}
 use Rattle.kinds.specs.Kinds.{Orientation, Kind}
-use Rattle.job.specs.Jobs.{Job, Answer, accepted, refused, readJob}
+use Rattle.frames.specs.declared.Frame.{Frame}
+use Rattle.frames.specs.Frames.{framed}
+use Rattle.job.specs.Jobs.{Job, frameOf, Answer, accepted, refused, readJob}
 use Rattle.filling.specs.declared.State.{State}
 use Rattle.filling.specs.declared.Tables.{Tables}
 use Rattle.filling.specs.declared.Refusal.{Refusal}
@@ -52,9 +54,9 @@ set-sixfold : (sheet : Bool) (s : _) → Sixfold (setStrips sheet s)
 unfolding setStrips
 set-sixfold sheet s = sixfold-flat _
 
-shape-sixfold : (o : Orientation) → SixfoldShape (shapeFor o)
+shape-sixfold : (f : Frame) (o : Orientation) → SixfoldShape (shapeFor f o)
 unfolding shapeFor
-shape-sixfold o = record { apart = set-sixfold false (o .apart); inset = set-sixfold false (o .inset) }
+shape-sixfold f o = record { apart = set-sixfold false (framed f (o .apart)); inset = set-sixfold false (framed f (o .inset)) }
 
 none-sixfold : SixfoldShape noShape
 unfolding noShape
@@ -63,15 +65,17 @@ none-sixfold = record { apart = sixfold-nil; inset = sixfold-nil }
 slot-sixfold : (j : Job) (i : ℕ) → SixfoldShape (slotShape (plannerOf j) i)
 unfolding slotShape shapeOf plannerOf
 slot-sixfold j i =
-    subst (λ (row : List Shape). SixfoldShape (getD row (i % 16) noShape)) (sym (List·getD-map (λ k. map shapeFor (k .orientations)) (j .kinds) (i / 16) noKind))
-    (get-all shapeFor SixfoldShape shape-sixfold noShape none-sixfold (getD (j .kinds) (i / 16) noKind .orientations) (i % 16))
+    subst (λ (row : List Shape). SixfoldShape (getD row (i % 16) noShape)) (sym (List·getD-map (λ k. map (shapeFor (frameOf (j .header))) (k .orientations))
+    (j .kinds) (i / 16) noKind))
+    (get-all (shapeFor (frameOf (j .header))) SixfoldShape (shape-sixfold (frameOf (j .header))) noShape none-sixfold
+    (getD (j .kinds) (i / 16) noKind .orientations) (i % 16))
   where
     noKind : Kind
     noKind = record { quantity = 0; fill = false; priority = lib.IntN.pos 0; area = posZero; orientations = [] }
 
 sheet-sixfold : (j : Job) → Sixfold (plannerOf j .sheet)
 unfolding plannerOf
-sheet-sixfold j = set-sixfold true (j .sheet)
+sheet-sixfold j = set-sixfold true (framed (frameOf (j .header)) (j .sheet))
 
 -- ---- the shapes are read back
 
@@ -110,36 +114,49 @@ module _ (j : Job) (w : Rooms) where
 
   pub apart-room : apartRoom (tablesOf (plannerOf j)) Room ≡ apartStrips (plannerOf j)
   unfolding apartRoom tablesOf
-  apart-room = ap (take (6 * capacity (apartStrips (plannerOf j)))) room-is ∙ take-at (apartStrips (plannerOf j)) (insetStrips (plannerOf j) ++ Rest) (6 * capacity (apartStrips (plannerOf j))) apart-sixfold
+  apart-room = ap (take (6 * capacity (apartStrips (plannerOf j)))) room-is ∙ take-at (apartStrips (plannerOf j)) (insetStrips (plannerOf j) ++ Rest)
+      (6 * capacity (apartStrips (plannerOf j))) apart-sixfold
 
   inset-room : insetRoom (tablesOf (plannerOf j)) Room ≡ insetStrips (plannerOf j) ++ Rest
   unfolding insetRoom tablesOf
-  inset-room = ap (drop (6 * capacity (apartStrips (plannerOf j)))) room-is ∙ drop-at (apartStrips (plannerOf j)) (insetStrips (plannerOf j) ++ Rest) (6 * capacity (apartStrips (plannerOf j))) apart-sixfold
+  inset-room = ap (drop (6 * capacity (apartStrips (plannerOf j)))) room-is ∙ drop-at (apartStrips (plannerOf j)) (insetStrips (plannerOf j) ++ Rest)
+      (6 * capacity (apartStrips (plannerOf j))) apart-sixfold
 
   part-is : (i : ℕ) → i < 1024
       → partAt (tablesOf (plannerOf j) .parts) i
-      ≡ record { apart-start = starts (λ s. s .apart) 0 Slots i; apart-count = capacity (getD Slots i noShape .apart); inset-start = starts (λ s. s .inset) 0 Slots i; inset-count = capacity (getD Slots i noShape .inset) }
+      ≡ record {
+        apart-start = starts (λ s. s .apart) 0 Slots i;
+        apart-count = capacity (getD Slots i noShape .apart);
+        inset-start = starts (λ s. s .inset) 0
+            Slots i;
+        inset-count = capacity (getD Slots i noShape .inset);
+      }
   unfolding tablesOf
   part-is i h = let l = length-bySlot (slotShape (plannerOf j)) in part-slot Slots i (omega arith)
 
   -- the apart strips of slot i lie in the room where its part says, whatever follows them
   pub apart-lies : (i : ℕ) → i < 1024 → (rest : List Float)
-      → let q = partAt (tablesOf (plannerOf j) .parts) i in partOf (apartStrips (plannerOf j) ++ rest) (q .apart-start) (q .apart-count) ≡ slotShape (plannerOf j) i .apart
+      → let q = partAt (tablesOf (plannerOf j) .parts) i in partOf (apartStrips (plannerOf j) ++ rest) (q .apart-start) (q .apart-count) ≡ slotShape
+      (plannerOf j) i .apart
   apart-lies i h rest = let l = length-bySlot (slotShape (plannerOf j)) in rw (part-is i h) (read l)
     where
       read : length Slots ≡ 1024
-          → partOf (apartStrips (plannerOf j) ++ rest) (starts (λ s. s .apart) 0 Slots i) (capacity (getD Slots i noShape .apart)) ≡ slotShape (plannerOf j) i .apart
+          → partOf (apartStrips (plannerOf j) ++ rest) (starts (λ s. s .apart) 0 Slots i) (capacity (getD Slots i noShape .apart)) ≡ slotShape (plannerOf j)
+          i .apart
       read l = unfold apartStrips in (part-read (λ s. s .apart) Slots 0 [] rest i refl apart-all (omega arith) ∙ ap (λ s. s .apart) (slot-at i h))
 
-  apart-read : (i : ℕ) → i < 1024 → partOf (apartRoom (tablesOf (plannerOf j)) Room) (partAt (tablesOf (plannerOf j) .parts) i .apart-start) (partAt (tablesOf (plannerOf j) .parts) i .apart-count) ≡ slotShape (plannerOf j) i .apart
+  apart-read : (i : ℕ) → i < 1024 → partOf (apartRoom (tablesOf (plannerOf j)) Room) (partAt (tablesOf (plannerOf j) .parts) i .apart-start)
+      (partAt (tablesOf (plannerOf j) .parts) i .apart-count) ≡ slotShape (plannerOf j) i .apart
   apart-read i h = rw (apart-room ∙ sym (append-nil (apartStrips (plannerOf j)))) (apart-lies i h [])
 
-  inset-read : (i : ℕ) → i < 1024 → partOf (insetRoom (tablesOf (plannerOf j)) Room) (partAt (tablesOf (plannerOf j) .parts) i .inset-start) (partAt (tablesOf (plannerOf j) .parts) i .inset-count) ≡ slotShape (plannerOf j) i .inset
+  inset-read : (i : ℕ) → i < 1024 → partOf (insetRoom (tablesOf (plannerOf j)) Room) (partAt (tablesOf (plannerOf j) .parts) i .inset-start)
+      (partAt (tablesOf (plannerOf j) .parts) i .inset-count) ≡ slotShape (plannerOf j) i .inset
   inset-read i h =
       let l = length-bySlot (slotShape (plannerOf j)) in
       rw (part-is i h, inset-room) (read l)
     where
-      read : length Slots ≡ 1024 → partOf (insetStrips (plannerOf j) ++ Rest) (starts (λ s. s .inset) 0 Slots i) (capacity (getD Slots i noShape .inset)) ≡ slotShape (plannerOf j) i .inset
+      read : length Slots ≡ 1024 → partOf (insetStrips (plannerOf j) ++ Rest) (starts (λ s. s .inset) 0 Slots i) (capacity (getD Slots i noShape .inset)) ≡
+          slotShape (plannerOf j) i .inset
       read l = unfold insetStrips in (part-read (λ s. s .inset) Slots 0 [] Rest i refl inset-all (omega arith) ∙ ap (λ s. s .inset) (slot-at i h))
 
   bounds-read : (i : ℕ) → i < 1024 → boundsAt (tablesOf (plannerOf j) .«inset_bounds») i ≡ slotShape (plannerOf j) i .bounds
@@ -155,19 +172,23 @@ module _ (j : Job) (w : Rooms) where
   unfolding apartStrips
   apart-within i h = let a = starts-within (λ s. s .apart) Slots 0 i apart-all h in omega arith
 
-  inset-within : (i : ℕ) → i < length Slots → starts (λ s. s .inset) 0 Slots i + capacity (getD Slots i noShape .inset) ≤ capacity (insetStrips (plannerOf j) ++ Rest)
+  inset-within : (i : ℕ) → i < length Slots → starts (λ s. s .inset) 0 Slots i + capacity (getD Slots i noShape .inset) ≤ capacity
+      (insetStrips (plannerOf j) ++ Rest)
   unfolding insetStrips capacity
   inset-within i h =
       let a = starts-within (λ s. s .inset) Slots 0 i inset-all h in
       let b = length-append (flatMap (λ s. s .inset) Slots) Rest in
       omega arith
 
-  pub part-fits : (i : ℕ) → i < 1024 → partFits (capacity (apartRoom (tablesOf (plannerOf j)) Room)) (capacity (insetRoom (tablesOf (plannerOf j)) Room)) (partAt (tablesOf (plannerOf j) .parts) i) ≡ true
+  pub part-fits : (i : ℕ) → i < 1024 → partFits (capacity (apartRoom (tablesOf (plannerOf j)) Room)) (capacity (insetRoom (tablesOf (plannerOf j)) Room))
+      (partAt (tablesOf (plannerOf j) .parts) i) ≡ true
   unfolding partFits
   part-fits i h =
       let l = length-bySlot (slotShape (plannerOf j)) in
-      let a = le-leb (starts (λ s. s .apart) 0 Slots i + capacity (getD Slots i noShape .apart)) (capacity (apartStrips (plannerOf j))) (apart-within i (omega arith)) in
-      let b = le-leb (starts (λ s. s .inset) 0 Slots i + capacity (getD Slots i noShape .inset)) (capacity (insetStrips (plannerOf j) ++ Rest)) (inset-within i (omega arith)) in
+      let a = le-leb (starts (λ s. s .apart) 0 Slots i + capacity (getD Slots i noShape .apart)) (capacity (apartStrips (plannerOf j)))
+      (apart-within i (omega arith)) in
+      let b = le-leb (starts (λ s. s .inset) 0 Slots i + capacity (getD Slots i noShape .inset)) (capacity (insetStrips (plannerOf j) ++ Rest))
+      (inset-within i (omega arith)) in
       rw (part-is i h, apart-room, inset-room) (ap₂ _&&_ a b)
 
   pub sheet-read : take (6 * tablesOf (plannerOf j) .«sheet_strips») (firstRooms (plannerOf j) w .sheet) ≡ plannerOf j .sheet
@@ -178,9 +199,9 @@ turns-are : (j : Job) → orientationCounts j ≡ map length (plannerOf j .shape
 unfolding orientationCounts plannerOf
 turns-are j = go (j .kinds)
   where
-    go : (ks : List Kind) → map (λ k. length (k .orientations)) ks ≡ map length (map (λ k. map shapeFor (k .orientations)) ks)
+    go : (ks : List Kind) → map (λ k. length (k .orientations)) ks ≡ map length (map (λ k. map (shapeFor (frameOf (j .header))) (k .orientations)) ks)
     go [] = refl
-    go (k ∷ ks) = ap₂ _∷_ (sym (length-map (k .orientations) shapeFor)) (go ks)
+    go (k ∷ ks) = ap₂ _∷_ (sym (length-map (k .orientations) (shapeFor (frameOf (j .header))))) (go ks)
 
 module _ (j : Job) (z : Sized j) where
   -- a slot of the job's lies within the table
@@ -188,7 +209,8 @@ module _ (j : Job) (z : Sized j) where
   unfolding orientationCounts
   within i o a b =
       let t = sixteen-get (z .turns) i in
-      let g : getD (orientationCounts j) i 0 ≡ length (getD (plannerOf j .shapes) i []) = ap (λ l. getD l i 0) (turns-are j) ∙ List·getD-map length (plannerOf j .shapes) i [] in
+      let g : getD (orientationCounts j) i 0 ≡ length (getD (plannerOf j .shapes) i []) = ap (λ l. getD l i 0) (turns-are j) ∙ List·getD-map length
+      (plannerOf j .shapes) i [] in
       let n : length (orientationCounts j) ≡ length (plannerOf j .shapes) = ap length (turns-are j) ∙ length-map (plannerOf j .shapes) length in
       let m : length (orientationCounts j) ≡ length (j .kinds) = length-map (j .kinds) (λ k. length (k .orientations)) in
       let k = z .kinds in
@@ -232,7 +254,8 @@ module _ (j : Job) (z : Sized j) where
   first-parts w =
       let m : length (orientationCounts j) ≡ length (j .kinds) = unfold orientationCounts in length-map (j .kinds) (λ k. length (k .orientations)) in
       let k = z .kinds in
-      rows-every (partAt (tablesOf (plannerOf j) .parts)) (partFits (capacity (apartRoom (tablesOf (plannerOf j)) (firstRooms (plannerOf j) w .shapes))) (capacity (insetRoom (tablesOf (plannerOf j)) (firstRooms (plannerOf j) w .shapes)))) 0 (orientationCounts j) (z .turns) (omega arith) (part-fits j w)
+      rows-every (partAt (tablesOf (plannerOf j) .parts)) (partFits (capacity (apartRoom (tablesOf (plannerOf j)) (firstRooms (plannerOf j) w .shapes)))
+      (capacity (insetRoom (tablesOf (plannerOf j)) (firstRooms (plannerOf j) w .shapes)))) 0 (orientationCounts j) (z .turns) (omega arith) (part-fits j w)
 
   pub first-counts : (w : Rooms) → capacity (plannerOf j .sheet) ≤ stripNumbers → stripCountsFit (tablesOf (plannerOf j)) 0 (firstRooms (plannerOf j) w) ≡ true
   unfolding stripCountsFit tablesOf firstRooms standingCapacity capacity
@@ -244,12 +267,14 @@ module _ (j : Job) (z : Sized j) where
       let d = laid-long (firstsFor (p .bounds) (p .sheet)) (zeros 0 (w .sheet-firsts)) in
       let e : length (firstsFor (p .bounds) (p .sheet)) ≡ length (p .sheet) / 6 = length-firstsFor (p .bounds) (p .sheet) in
       rw (
-        le-leb (length (p .sheet) / 6) (min (min (length (laid (p .sheet) (zeros posZero (w .sheet))) / 6) (length (laid (firstsFor (p .bounds) (p .sheet)) (zeros 0 (w .sheet-firsts))))) stripNumbers) (omega arith),
+        le-leb (length (p .sheet) / 6) (min (min (length (laid (p .sheet) (zeros posZero (w .sheet))) / 6)
+            (length (laid (firstsFor (p .bounds) (p .sheet)) (zeros 0 (w .sheet-firsts))))) stripNumbers) (omega arith),
         le-leb (length (apartStrips p) / 6) (length (laid (apartStrips p ++ insetStrips p) (zeros posZero (w .shapes))) / 6) (omega arith),
         le-leb 0 (min (min (length (zeros posZero (w .placed)) / 6) (length (zeros 0 (w .placed-firsts)))) stripNumbers) (omega arith),
       )
 
-  pub tracks-read : (order : List ℕ) → tracksOf j (firstState (plannerOf j) order) ≡ map (map (λ s. record { next-column = column 0; look-count = 0 })) (plannerOf j .shapes)
+  pub tracks-read : (order : List ℕ) → tracksOf j (firstState (plannerOf j) order) ≡ map (map (λ s. record { next-column = column 0; look-count = 0 }))
+      (plannerOf j .shapes)
   unfolding tracksOf firstState trackAt rememberedOf
   tracks-read order =
       ap (slotRows (trackAt (replicate 1024 1) (replicate 1024 0)) 0) (turns-are j ∙ lengths (plannerOf j .shapes))
@@ -268,14 +293,20 @@ module _ (j : Job) (z : Sized j) where
       row : (i : ℕ) → getD rows i [] ≡ map (λ s. new) (getD (plannerOf j .shapes) i [])
       row i = List·getD-map (map (λ s. new)) (plannerOf j .shapes) i []
 
-      pointwise : (i o : ℕ) → i < length rows → o < length (getD rows i []) → trackAt (replicate 1024 1) (replicate 1024 0) (16 * (0 + i) + o) ≡ getD (getD rows i []) o new
+      pointwise : (i o : ℕ) → i < length rows → o < length (getD rows i []) → trackAt (replicate 1024 1) (replicate 1024 0) (16 * (0 + i) + o) ≡ getD
+          (getD rows i []) o new
       pointwise i o a b =
           let e : 16 * (0 + i) + o ≡ 16 * i + o = omega arith in
           let m : length rows ≡ length (plannerOf j .shapes) = length-map (plannerOf j .shapes) (map (λ s. new)) in
-          let n : length (getD rows i []) ≡ length (getD (plannerOf j .shapes) i []) = ap length (row i) ∙ length-map (getD (plannerOf j .shapes) i []) (λ s. new) in
+          let n : length (getD rows i []) ≡ length (getD (plannerOf j .shapes) i []) = ap length (row i) ∙ length-map (getD (plannerOf j .shapes) i [])
+          (λ s. new) in
           let f = within i o (omega arith) (omega arith) in
           let g : getD (getD rows i []) o new ≡ new = ap (λ l. getD l o new) (row i) ∙ List·getD-map (λ s. new) (getD (plannerOf j .shapes) i []) o noShape in
-          ap (trackAt (replicate 1024 1) (replicate 1024 0)) e ∙ rw (getD-replicate {A = ℕ} 1024 (16 * i + o) 1 0 (f .1), getD-replicate {A = ℕ} 1024 (16 * i + o) 0 0 (f .1)) (sym g)
+          ap (trackAt (replicate 1024 1) (replicate 1024 0)) e ∙ rw (
+            getD-replicate {A = ℕ} 1024 (16 * i + o) 1 0 (f .1),
+            getD-replicate {A = ℕ} 1024
+                (16 * i + o) 0 0 (f .1),
+          ) (sym g)
 
   module _ (order : List ℕ) (w : Rooms) where
     pub first-linked : Linked j (firstState (plannerOf j) order) (firstRooms (plannerOf j) w)
@@ -360,6 +391,7 @@ module _ (j : Job) (order : List ℕ) (l : Lent) where
       go (Refused k) d = absurd (refused≢accepted (sym (ap (λ r. r .verdict) (start-refused k d)) ∙ e))
       go Accepted d = record { verdict-is = d; state-is = ap (λ r. r .state) (start-good d); rooms-is = ap (λ r. r .lent .rooms) (start-good d) }
 
-pub start-accepted : (bytes order : List ℕ) (l : Lent) (j : Job) → readJob bytes ≡ accepted j → startOf bytes order l .verdict ≡ Accepted → Started j order l (startOf bytes order l)
+pub start-accepted : (bytes order : List ℕ) (l : Lent) (j : Job) → readJob bytes ≡ accepted j → startOf bytes order l .verdict ≡ Accepted → Started j order l
+    (startOf bytes order l)
 unfolding startOf startGiven
 start-accepted bytes order l j d e = rw d (job-started j order l (rw d at e))

@@ -13,13 +13,15 @@ use Rattle.filling.specs.State.{plannerAt, orderOf, copyAt, standsAt, mi
 use Rattle.filling.specs.State.{rememberedNumber, trackAt, tracksOf, zeroTables, emptyLayout, zeroState}
 use Rattle.filling.specs.Order.{countIn, inFull, rearranged}
 use Rattle.filling.specs.Consistent.{every, bounded, stripFits, stripsFit, boundsFit, takenFits, stripCountsFit, partFits, partsFit, columnFits}
-use Rattle.filling.specs.Consistent.{trackFits, tracksFit, trackTableFits, resolutionFits, shapeFits, plannerFits, layoutFits, gapFits, gapsFit, sameNumbers, numbersLie}
+use Rattle.filling.specs.Consistent.{trackFits, tracksFit, trackTableFits, resolutionFits, shapeFits}
+use Rattle.filling.specs.Consistent.{plannerFits, layoutFits, gapFits, gapsFit, sameNumbers, numbersLie}
 use Rattle.filling.specs.Consistent.{sheetIndex, entriesFor, entriesFit, sheetStrips, placedStrips, firstsFor, firstsFit, consistent}
 use Rattle.filling.specs.Start.{apartStrips, insetStrips, partsFrom, tablesOf, firstState, firstRooms, prepareVerdict, startVerdict, noStart, goodStart}
 use Rattle.filling.specs.Start.{startJob, startGiven, startOf}
 use Rattle.filling.specs.NextCopy.{intervalCounts, anyAbove, newStrips, storeVerdict, winnerVerdict, copyVerdict, entered, stateWith, layoutAfter}
 use Rattle.filling.specs.NextCopy.{stateAfter, stored, roomsAfter, noStep, placeFound, placeCopy, placeNext, coreStep, stepJob, stepGiven, nextCopyOf}
-use Rattle.filling.specs.Accounts.{positionsOfKind, positions, flatPositions, placedOf, unplacedOf, looksBySlot, lookCountsOf, reachOf, notBelowZero}
+use Rattle.filling.specs.Accounts.{positionsOfKind, framedPositions, placeOnSheet, onSheet, positions, flatPositions}
+use Rattle.filling.specs.Accounts.{placedOf, unplacedOf, looksBySlot, lookCountsOf, reachOf, notBelowZero}
 use Rattle.filling.specs.Accounts.{offcutOf, planOf, noPlan}
 use Rattle.filling.specs.Fill.{fillFrom, fillOrder, notPlanned, plannedWith, plannedBy, fillJob, fillGiven, fillOf}
 use Rattle.filling.specs.Calls.{callStep, afterCalls, refusals, stateOutcome, plainOutcome, plainAfter}
@@ -69,7 +71,8 @@ unfolding every neg bounded stripFits stripsFit boundsFit takenFits stripCountsF
 consistent-computes-1 = tt
 
 unfoldable pub consistent-computes-2 : Unit {0}
-unfolding resolutionFits shapeFits plannerFits layoutFits gapFits gapsFit sameNumbers numbersLie sheetIndex entriesFor entriesFit sheetStrips placedStrips firstsFor firstsFit consistent
+unfolding resolutionFits shapeFits plannerFits layoutFits gapFits gapsFit sameNumbers numbersLie sheetIndex entriesFor entriesFit sheetStrips placedStrips
+    firstsFor firstsFit consistent
 consistent-computes-2 = tt
 
 unfoldable pub consistent-computes : Unit {0}
@@ -93,7 +96,8 @@ unfolding next-copy-computes-1 next-copy-computes-2
 next-copy-computes = tt
 
 unfoldable pub accounts-compute : Unit {0}
-unfolding positionsOfKind positions flatPositions placedOf unplacedOf looksBySlot lookCountsOf reachOf notBelowZero offcutOf planOf noPlan
+unfolding positionsOfKind framedPositions placeOnSheet onSheet positions flatPositions placedOf unplacedOf looksBySlot lookCountsOf reachOf notBelowZero
+    offcutOf planOf noPlan
 accounts-compute = tt
 
 unfoldable pub fill-computes : Unit {0}

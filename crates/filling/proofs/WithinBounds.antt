@@ -17,7 +17,11 @@ use Rattle.strips.proofs.Sizes.{Framed}
 use Rattle.bits.proofs.Accepted.{UpFrom}
 use Rattle.kinds.specs.Kinds.{Orientation, Kind}
 use Rattle.kinds.proofs.Accepted.{Every, GoodSets, GoodKind}
-use Rattle.job.specs.Jobs.{Job, accepted, readJob}
+use Rattle.kinds.proofs.sets.Accepted as Sets
+use Rattle.frames.specs.declared.Frame.{Frame}
+use Rattle.frames.specs.Frames as Frames
+use Rattle.frames.proofs.Turned.{framed-good}
+use Rattle.job.specs.Jobs.{Job, frameOf, accepted, readJob}
 use Rattle.job.proofs.Accepted.{GoodJob, job-good}
 use Rattle.filling.specs.Shapes.{Planner, plannerOf, Copy, shapeFor, noShape, shapeOf, setBounds}
 use Rattle.filling.specs.Consistent.{every, bounded, plannerFits, shapeFits, gapFits}
@@ -28,31 +32,37 @@ use Rattle.filling.proofs.WithinBoundsStrips.{set-framed, set-fits, fra
 
 -- ---- shapes by kind and orientation
 
-row-fits : (os : List Orientation) → Every GoodSets os → every shapeFits (map shapeFor os) ≡ true
+row-fits : (f : Frame) (os : List Orientation) → Every GoodSets os → every shapeFits (map (shapeFor f) os) ≡ true
 unfolding every
-row-fits [] h = refl
-row-fits (t ∷ os) h = rw (shape-fits t (h .0), row-fits os (h .1))
+row-fits f [] h = refl
+row-fits f (t ∷ os) h = rw (shape-fits f t (h .0), row-fits f os (h .1))
 
-rows-fit : (ks : List Kind) → Every GoodKind ks → every (every shapeFits) (map (λ k. map shapeFor (k .orientations)) ks) ≡ true
+rows-fit : (f : Frame) (ks : List Kind) → Every GoodKind ks → every (every shapeFits) (map (λ k. map (shapeFor f) (k .orientations)) ks) ≡ true
 unfolding every
-rows-fit [] h = refl
-rows-fit (k ∷ ks) h = rw (row-fits (k .orientations) (h .0 .sets), rows-fit ks (h .1))
+rows-fit f [] h = refl
+rows-fit f (k ∷ ks) h = rw (row-fits f (k .orientations) (h .0 .sets), rows-fit f ks (h .1))
 
-row-fine : (os : List Orientation) → Every GoodSets os → (o : ℕ) → FineShape (getD (map shapeFor os) o noShape)
-row-fine [] h o = lacking-fine
-row-fine (t ∷ os) h zero = shape-fine t (h .0)
-row-fine (t ∷ os) h (suc o) = row-fine os (h .1) o
+row-fine : (f : Frame) (os : List Orientation) → Every GoodSets os → (o : ℕ) → FineShape (getD (map (shapeFor f) os) o noShape)
+row-fine f [] h o = lacking-fine
+row-fine f (t ∷ os) h zero = shape-fine f t (h .0)
+row-fine f (t ∷ os) h (suc o) = row-fine f os (h .1) o
 
-rows-fine : (ks : List Kind) → Every GoodKind ks → (i o : ℕ) → FineShape (getD (getD (map (λ k. map shapeFor (k .orientations)) ks) i []) o noShape)
-rows-fine [] h i o = lacking-fine
-rows-fine (k ∷ ks) h zero o = row-fine (k .orientations) (h .0 .sets) o
-rows-fine (k ∷ ks) h (suc i) o = rows-fine ks (h .1) i o
+rows-fine : (f : Frame) (ks : List Kind) → Every GoodKind ks → (i o : ℕ) → FineShape
+    (getD (getD (map (λ k. map (shapeFor f) (k .orientations)) ks) i []) o noShape)
+rows-fine f [] h i o = lacking-fine
+rows-fine f (k ∷ ks) h zero o = row-fine f (k .orientations) (h .0 .sets) o
+rows-fine f (k ∷ ks) h (suc i) o = rows-fine f ks (h .1) i o
 
 -- ---- areas
 
 -- an area of a kind, or of none
 area-at : (ks : List Kind) → Every GoodKind ks → (i : ℕ) → UpFrom posZero 1000000000000 (getD (map (λ k. k .area) ks) i posZero)
-area-at [] h i = record { num = zero-num binary64; low = le-refl (k posZero); high = (let z : Small 1000000000000 posZero = small-more zero-small (lit≤ tt) in z .bound) }
+area-at [] h i = record {
+  num = zero-num binary64;
+  low = le-refl (k posZero);
+  high = (let z : Small 1000000000000 posZero = small-more zero-small
+      (lit≤ tt) in z .bound);
+}
 area-at (k ∷ ks) h zero = h .0 .area
 area-at (k ∷ ks) h (suc i) = area-at ks (h .1) i
 
@@ -66,12 +76,14 @@ pub record Sum (x : Float) : Type 0 where
 module _ (p : Planner) (h : (i : ℕ) → UpFrom posZero 1000000000000 (getD (p .areas) i posZero)) where
   summed-within : (cs : List Copy) (m : ℕ) (a : Float) → Small m a → o ≤ k a → m + 1000000000000 * length cs ≤ 4096000000000000 → Sum (summed p a cs)
   unfolding summed
-  summed-within [] m a S l b = let w : Small 4096000000000000 a = small-more S (omega arith) in record { num = S .num; fine = finite (S .num); low = l; high = w .bound }
+  summed-within [] m a S l b = let w : Small 4096000000000000 a = small-more S (omega arith) in record
+      { num = S .num; fine = finite (S .num); low = l; high = w .bound }
   summed-within (c ∷ cs) m a S l b =
       let A = h (c .kind) in
       let r = add-upto (finite (S .num)) (finite (A .num)) (S .bound) (A .high) (le-trans (step m (length cs) b) (lit≤ tt)) in
       let f : o ≤ k (getD (p .areas) (c .kind) posZero) = subst (λ (n : ℕ). n ≤ k (getD (p .areas) (c .kind) posZero)) (zero-key binary64) (A .low) in
-      summed-within cs (m + 1000000000000) (a ⊕ getD (p .areas) (c .kind) posZero) (record { num = add-number (S .num) (finite (A .num)) (r .0); bound = r .1 }) (sum-grows (finite (S .num)) (finite (A .num)) l f) (next m (length cs) b)
+      summed-within cs (m + 1000000000000) (a ⊕ getD (p .areas) (c .kind) posZero) (record { num = add-number (S .num) (finite (A .num)) (r .0); bound = r .1 })
+      (sum-grows (finite (S .num)) (finite (A .num)) l f) (next m (length cs) b)
     where
       step : (m n : ℕ) → m + 1000000000000 * suc n ≤ 4096000000000000 → m + 1000000000000 ≤ 4096000000000000
       step m n b = omega arith
@@ -88,9 +100,13 @@ module _ (j : Job) (g : GoodJob j) where
   abbrev P : Planner
   P = plannerOf j
 
+  -- the sheet in the frame keeps what the reader promises of it
+  pub sheet-good : Sets.Good (Frames.framed (frameOf (j .header)) (j .sheet)) (g .sheetPoints)
+  sheet-good = framed-good (frameOf (j .header)) (j .sheet) (g .sheetPoints) (g .sheet)
+
   pub framed : Framed (P .bounds)
   unfolding plannerOf
-  framed = set-framed (j .sheet) (g .sheetPoints) (g .sheet)
+  framed = set-framed (Frames.framed (frameOf (j .header)) (j .sheet)) (g .sheetPoints) sheet-good
 
   pub resolution-in : UpFrom milli 10000 (P .resolution)
   unfolding plannerOf
@@ -98,11 +114,16 @@ module _ (j : Job) (g : GoodJob j) where
 
   planner-fits : plannerFits P ≡ true
   unfolding plannerOf plannerFits
-  planner-fits = rw (resolution-fits (g .header .resolution), set-fits (j .sheet) (g .sheetPoints) (g .sheet) true, frame-fits (setBounds (j .sheet)) (set-framed (j .sheet) (g .sheetPoints) (g .sheet)), rows-fit (j .kinds) (g .kinds))
+  planner-fits = rw (
+    resolution-fits (g .header .resolution),
+    set-fits (Frames.framed (frameOf (j .header)) (j .sheet)) (g .sheetPoints) sheet-good true,
+    frame-fits (setBounds (Frames.framed (frameOf (j .header)) (j .sheet))) framed,
+    rows-fit (frameOf (j .header)) (j .kinds) (g .kinds),
+  )
 
   pub shape : (i o : ℕ) → FineShape (shapeOf P i o)
   unfolding plannerOf shapeOf
-  shape i o = rows-fine (j .kinds) (g .kinds) i o
+  shape i o = rows-fine (frameOf (j .header)) (j .kinds) (g .kinds) i o
 
   pub area : (i : ℕ) → UpFrom posZero 1000000000000 (getD (P .areas) i posZero)
   unfolding plannerOf

@@ -23,9 +23,12 @@ use Rattle.index.specs.Buckets.{upFrom}
 use Rattle.look.proofs.height.SmallestHeight.{real-of, is-not-lt}
 use Rattle.kinds.specs.sets.Sets.{Set}
 use Rattle.kinds.proofs.sets.Accepted as Sets
-use Rattle.kinds.proofs.sets.Accepted.{Ends, ends-most, coordinate-at}
+use Rattle.kinds.proofs.sets.Accepted.{ends-most, coordinate-at}
 use Rattle.kinds.specs.Kinds.{Orientation}
 use Rattle.kinds.proofs.Accepted.{GoodSets}
+use Rattle.frames.specs.declared.Frame.{Frame}
+use Rattle.frames.specs.Frames.{framed}
+use Rattle.frames.proofs.Turned.{ends-loops, framed-good}
 use Rattle.filling.specs.Shapes.{Shape, setBounds, setStrips, shapeFor, noBounds, noShape, movedStrips}
 use Rattle.filling.specs.Consistent.{every, stripFits, stripsFit, boundsFit, shapeFits}
 use Rattle.filling.proofs.Reading.{length-flat, sixfold-flat}
@@ -73,7 +76,16 @@ capacity-flat l = let e = length-flat l in omega arith
 pub sized-fits : {n m : ℕ} (s : Trapezoid) → Sized n m s → n ≤ 1000000 → m ≤ 1000000 → k (s .x0) ≤ k (s .x1) → stripFits s ≡ true
 unfolding stripFits
 sized-fits s S h l g =
-    rw (is-not-lt (real-of (finite (S .x1 .num))) (real-of (finite (S .x0 .num))) g, small-bounded (S .x0) h, small-bounded (S .x1) h, small-bounded (S .low0) l, small-bounded (S .low1) l, small-bounded (S .high0) l, small-bounded (S .high1) l)
+    rw (
+      is-not-lt (real-of (finite (S .x1 .num))) (real-of (finite (S .x0 .num))) g,
+      small-bounded (S .x0) h,
+      small-bounded (S .x1) h,
+      small-bounded (S .low0)
+          l,
+      small-bounded (S .low1) l,
+      small-bounded (S .high0) l,
+      small-bounded (S .high1) l,
+    )
 
 nothing-fits : stripsFit (flat []) ≡ true
 unfolding stripsFit flat capacity upFrom every
@@ -93,20 +105,23 @@ flat-fits [] h = nothing-fits
 flat-fits (s ∷ l) h = strips-append (flat (s ∷ [])) (flat l) (sixfold-flat (s ∷ [])) (sixfold-flat l) (one-fits s (h .0)) (flat-fits l (h .1))
 
 own-fits : (l : List Trapezoid) → All Good l → stripsFit (flat l) ≡ true
-own-fits l h = flat-fits l (all-more Good (λ (s : Trapezoid). stripFits s ≡ true) (λ s G. sized-fits s (G .sizes) (lit≤ tt) (lit≤ tt) (le-of-lt (G .order))) l h)
+own-fits l h = flat-fits l (all-more Good (λ (s : Trapezoid). stripFits s ≡ true) (λ s G. sized-fits s (G .sizes) (lit≤ tt) (lit≤ tt) (le-of-lt (G .order))) l
+    h)
 
 good-at : (l : List Trapezoid) → All Good l → (i : ℕ) → i < length l → Good (stripAt (flat l) i)
 good-at l h i b = subst Good (sym (strip-at l i (stripAt (flat l) i) b)) (all-at Good l i (stripAt (flat l) i) h b)
 
 module _ (x y : Float) (X : Small 610000 x) (Y : Small 200000 y) where
   moved-fits : (s : Trapezoid) → Good s → stripFits (movedBy s x y) ≡ true
-  moved-fits s G = sized-fits (movedBy s x y) (moved-sized s (G .sizes) X Y (lit≤ tt) (lit≤ tt)) (lit≤ tt) (lit≤ tt) (moved-order s (G .sizes) X Y (le-of-lt (G .order)))
+  moved-fits s G = sized-fits (movedBy s x y) (moved-sized s (G .sizes) X Y (lit≤ tt) (lit≤ tt)) (lit≤ tt) (lit≤ tt)
+      (moved-order s (G .sizes) X Y (le-of-lt (G .order)))
 
   strips-moved : (l : List Trapezoid) → All Good l → stripsFit (movedStrips (flat l) x y) ≡ true
   unfolding movedStrips
   strips-moved l h =
       flat-fits (map (λ i. movedBy (stripAt (flat l) i) x y) (upFrom (capacity (flat l)) 0))
-      (all-upFrom (λ (s : Trapezoid). stripFits s ≡ true) (λ i. movedBy (stripAt (flat l) i) x y) (capacity (flat l)) 0 (λ i b. moved-fits (stripAt (flat l) i) (good-at l h i (let e = capacity-flat l in omega arith))))
+      (all-upFrom (λ (s : Trapezoid). stripFits s ≡ true) (λ i. movedBy (stripAt (flat l) i) x y) (capacity (flat l)) 0
+      (λ i b. moved-fits (stripAt (flat l) i) (good-at l h i (let e = capacity-flat l in omega arith))))
 
 -- ---- their numbers are finite and not minus zero
 
@@ -128,17 +143,6 @@ moved-numbers x y X Y l h =
     (λ i b. moved-sized (stripAt (flat l) i) (good-at l h i (let e = capacity-flat l in omega arith) .sizes) X Y (lit≤ tt) (lit≤ tt)))
 
 -- ---- a set of an accepted job
-
-pub ends-loops : (first n : ℕ) (es : List ℕ) → Ends first es n → Loops first es n
-unfolding Loops
-ends-loops first n [] h = h
-ends-loops first n (e ∷ es) h = (first-below first e (h .0), end-below e n (length es) (ends-most e n es (h .1)), ends-loops e n es (h .1))
-  where
-    first-below : (a b : ℕ) → a + 3 ≤ b → a ≤ b
-    first-below a b h = omega arith
-
-    end-below : (e n l : ℕ) → e + 3 * l ≤ n → e ≤ n
-    end-below e n l h = omega arith
 
 module _ (s : Set) (m : ℕ) (G : Sets.Good s m) where
   half : length (s .points) / 2 ≡ m
@@ -178,7 +182,13 @@ module _ (s : Set) (m : ℕ) (G : Sets.Good s m) where
 
 pub frame-fits : (b : Rect) → Framed b → boundsFit b ≡ true
 unfolding boundsFit
-frame-fits b F = rw (small-bounded (F .left) (lit≤ tt), small-bounded (F .bottom) (lit≤ tt), small-bounded (F .right) (lit≤ tt), small-bounded (F .top) (lit≤ tt))
+frame-fits b F = rw (
+  small-bounded (F .left) (lit≤ tt),
+  small-bounded (F .bottom) (lit≤ tt),
+  small-bounded (F .right) (lit≤ tt),
+  small-bounded (F .top)
+      (lit≤ tt),
+)
 
 -- ---- a shape of an accepted job, or of an orientation that the job lacks
 
@@ -189,21 +199,30 @@ pub record FineShape (s : Shape) : Type 0 where
   pub inset-numbers : All Number (s .inset)
   pub moved-numbers : (x y : Float) → Small 610000 x → Small 200000 y → All Number (movedStrips (s .apart) x y)
 
-pub shape-fine : (t : Orientation) → GoodSets t → FineShape (shapeFor t)
+pub shape-fine : (f : Frame) (t : Orientation) → GoodSets t → FineShape (shapeFor f t)
 unfolding shapeFor
-shape-fine t G =
+shape-fine f t G =
+    let a = framed-good f (t .apart) (G .apartPoints) (G .apart) in
+    let i = framed-good f (t .inset) (G .insetPoints) (G .inset) in
     record {
-      frame = set-framed (t .inset) (G .insetPoints) (G .inset);
-      moved = set-moved (t .apart) (G .apartPoints) (G .apart) false;
-      apart-numbers = set-numbers (t .apart) (G .apartPoints) (G .apart) false;
-      inset-numbers = set-numbers (t .inset) (G .insetPoints) (G .inset) false;
-      moved-numbers = set-moved-numbers (t .apart) (G .apartPoints) (G .apart) false;
+      frame = set-framed (framed f (t .inset)) (G .insetPoints) i;
+      moved = set-moved (framed f (t .apart)) (G .apartPoints) a false;
+      apart-numbers = set-numbers (framed f (t .apart)) (G .apartPoints) a false;
+      inset-numbers = set-numbers (framed f (t .inset)) (G .insetPoints) i false;
+      moved-numbers = set-moved-numbers (framed f (t .apart)) (G .apartPoints) a false;
     }
 
-pub shape-fits : (t : Orientation) → GoodSets t → shapeFits (shapeFor t) ≡ true
+pub shape-fits : (f : Frame) (t : Orientation) → GoodSets t → shapeFits (shapeFor f t) ≡ true
 unfolding shapeFor shapeFits
-shape-fits t G =
-    rw (set-fits (t .apart) (G .apartPoints) (G .apart) false, set-fits (t .inset) (G .insetPoints) (G .inset) false, frame-fits (setBounds (t .inset)) (set-framed (t .inset) (G .insetPoints) (G .inset)))
+shape-fits f t G =
+    let a = framed-good f (t .apart) (G .apartPoints) (G .apart) in
+    let i = framed-good f (t .inset) (G .insetPoints) (G .inset) in
+    rw (
+      set-fits (framed f (t .apart)) (G .apartPoints) a false,
+      set-fits (framed f (t .inset)) (G .insetPoints) i false,
+      frame-fits
+          (setBounds (framed f (t .inset))) (set-framed (framed f (t .inset)) (G .insetPoints) i),
+    )
 
 zero-side : Small 100000 posZero
 zero-side = small-more zero-small (lit≤ tt)

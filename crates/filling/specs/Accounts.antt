@@ -1,4 +1,4 @@
--- Document 01, "Order and swaps" and "The printed plan", and document 02, W2: what a filling answers: copy numbers, positions, counts, right,
+-- Document 01, "Order and swaps" and "The printed plan", and document 02, W1 and W2: what a filling answers: copy numbers, positions, counts, right,
 -- unplaced area, offcut. Definitions only. Assumes nothing.
 use Prim.Native.Nat.{ℕ, zero, suc, _/_, _%_}
 use mathlib.Core.Bool.{Bool, true, false, cond}
@@ -10,7 +10,10 @@ use Rattle.numbers.specs.Numbers.{_⊖_, larger, posZero, fromInt}
 use Rattle.trapezoid.specs.Strip.{stripAt, capacity}
 use Rattle.index.specs.Buckets.{upFrom}
 use Rattle.kinds.specs.Kinds.{Kind}
-use Rattle.job.specs.Jobs.{Job}
+use Rattle.frames.specs.declared.Frame.{Frame}
+use Rattle.frames.specs.declared.Point.{Point}
+use Rattle.frames.specs.Frames.{from}
+use Rattle.job.specs.Jobs.{Job, frameOf}
 use Rattle.filling.specs.declared.State.{State}
 use Rattle.filling.specs.declared.Plan.{Plan}
 use Rattle.filling.specs.Shapes.{Planner, plannerOf, Copy, Standing, standingStrips}
@@ -36,9 +39,19 @@ positionsOfKind k n (c ∷ cs) =
       | false ↦ positionsOfKind k n cs
     ]
 
--- ", and given by kind, then copy"
+-- ", and given by kind, then copy": as they stand, in the job's frame
+unfoldable pub framedPositions : Job → List Standing → List Position
+framedPositions j cs = flatMap (λ k. positionsOfKind k 0 cs) (upFrom (length (j .kinds)) 0)
+
+unfoldable pub placeOnSheet : Frame → Position → Point
+placeOnSheet f p = from f (record { x = p .x; y = p .y })
+
+-- W1: "positions back through `from`"; the gap is a length
+unfoldable pub onSheet : Frame → Position → Position
+onSheet f p = record { kind = p .kind; copy = p .copy; orientation = p .orientation; x = placeOnSheet f p .x; y = placeOnSheet f p .y; gap = p .gap }
+
 unfoldable pub positions : Job → List Standing → List Position
-positions j cs = flatMap (λ k. positionsOfKind k 0 cs) (upFrom (length (j .kinds)) 0)
+positions j cs = map (onSheet (frameOf (j .header))) (framedPositions j cs)
 
 -- as they lie in the position room, six doubles each
 unfoldable pub flatPositions : List Position → List Float

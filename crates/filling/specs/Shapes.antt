@@ -1,5 +1,5 @@
--- Document 01, "Filling": what is worked out of a job once, strips and bounds, and the strips of the standing copies. Strips lie as in a room,
--- six numbers each. Definitions only. Assumes nothing.
+-- Document 01, "Filling", and document 02, W1: what is worked out of a job once, strips and bounds in its frame, and the strips of the standing copies.
+-- Strips lie as in a room, six numbers each. Definitions only. Assumes nothing.
 use Prim.Native.Nat.{ℕ, suc, _/_}
 use mathlib.Core.Bool.{Bool, true, false}
 use mathlib.Core.List.{List, [], _∷_, map, flatMap}
@@ -12,7 +12,9 @@ use Rattle.strips.specs.declared.Rect.{Rect}
 use Rattle.strips.specs.Strips as Strips
 use Rattle.kinds.specs.sets.Sets.{Set}
 use Rattle.kinds.specs.Kinds.{Orientation, Kind}
-use Rattle.job.specs.Jobs.{Job}
+use Rattle.frames.specs.declared.Frame.{Frame}
+use Rattle.frames.specs.Frames.{framed}
+use Rattle.job.specs.Jobs.{Job, frameOf}
 
 -- nesting.rs's Shape: one orientation's apart strips, inset strips and inset bounds
 pub record Shape : Type 0 where
@@ -36,18 +38,23 @@ setBounds s = Strips.bounds (s .points) (length (s .points) / 2)
 unfoldable pub setStrips : Bool → Set → List Float
 setStrips sheet s = flat (Strips.trapezoids (s .points) (length (s .points) / 2) (s .ends) sheet)
 
--- "Inset strips are held against the sheet, apart strips against placed copies": of the two sets of an orientation
-unfoldable pub shapeFor : Orientation → Shape
-shapeFor o = record { apart = setStrips false (o .apart); inset = setStrips false (o .inset); bounds = setBounds (o .inset) }
+-- "Inset strips are held against the sheet, apart strips against placed copies": of the two sets of an orientation; W1: "Loops go through `to`"
+unfoldable pub shapeFor : Frame → Orientation → Shape
+shapeFor f o =
+    record {
+      apart = setStrips false (framed f (o .apart));
+      inset = setStrips false (framed f (o .inset));
+      bounds = setBounds (framed f (o .inset));
+    }
 
--- what is worked out of a job
+-- what is worked out of a job; W1: ""Left" and "lower" in the placement rule are meant in the framed sheet, as are right and offcut"
 unfoldable pub plannerOf : Job → Planner
 plannerOf j =
     record {
-      sheet = setStrips true (j .sheet);
-      bounds = setBounds (j .sheet);
+      sheet = setStrips true (framed (frameOf (j .header)) (j .sheet));
+      bounds = setBounds (framed (frameOf (j .header)) (j .sheet));
       resolution = j .header .resolution;
-      shapes = map (λ k. map shapeFor (k .orientations)) (j .kinds);
+      shapes = map (λ k. map (shapeFor (frameOf (j .header))) (k .orientations)) (j .kinds);
       areas = map (λ k. k .area) (j .kinds);
     }
 

@@ -24,9 +24,16 @@ use Rattle.job.specs.declared.ReadJob.{ReadJob}
 use Rattle.kinds.specs.inner.Tables.{tabulate, kindAt}
 use Rattle.job.specs.inner.Meaning.{answered, jobRead}
 use Rattle.kinds.specs.sets.Sets.{Set, aSet}
-use Rattle.kinds.specs.sets.inner.Answers.{found, setAt}
+use Rattle.kinds.specs.sets.inner.Answers.{found, setAt, setRead}
 use Rattle.kinds.specs.Kinds.{Kind, someKinds, copiesOf}
-use Rattle.job.specs.Jobs.{Job, aHeader, aJob, ended, left, right, widthOf, judgeEnd, Answer, accepted, refused, passed, judged, readJob}
+use Rattle.kinds.specs.declared.sets.SetRead.{SetRead}
+use Rattle.kinds.specs.declared.sets.SetRead.the-variants as Sets
+use Rattle.frames.specs.declared.Frame.{Frame}
+use Rattle.frames.specs.Frames.{framed}
+use Rattle.frames.specs.inner.Turning.{framedRead}
+use Rattle.frames.proofs.Turned.{framed-ok, framed-bad}
+use Rattle.job.specs.Jobs.{Job, frameOf, aHeader, aJob, ended, left, right, widthOf}
+use Rattle.job.specs.Jobs.{framedWidth, judgeEnd, Answer, accepted, refused, passed, judged, readJob}
 
 -- ---- the end
 module _ (bytes : List ℕ) (p : ℕ) where
@@ -122,6 +129,20 @@ module _ (bytes : List ℕ) (p copies : ℕ) (w r : Float) where
       unfolding judgeEnd
       end-passed l = rw (h, le-leb copies 4096 k, l)
 
+-- ---- the sheet, read in the frame g
+module _ (bytes : List ℕ) (at : ℕ) (room : List Float) (ends : List ℕ) (r : SetRead) (f g : Frame) (h : f ≡ g)
+    (e : framedRead f (aSet bytes at) ≡ setRead r room ends) where
+  read-as-told : (t : SetRead) → r ≡ t → framedRead g (aSet bytes at) ≡ setRead t room ends
+  read-as-told t d =
+      subst (λ (x : Frame). framedRead x (aSet bytes at) ≡ setRead r room ends) h e ∙ ap (λ (x : SetRead). setRead x room ends) d
+
+  pub sheet-read : (n m q : ℕ) → r ≡ Sets.Loops n m q
+      → (s : Set) × (aSet bytes at ≡ ok s q) × (framed g s ≡ record { points = take (2 * m) room; ends = take n ends })
+  sheet-read n m q d = framed-ok g (aSet bytes at) (record { points = take (2 * m) room; ends = take n ends }) q (read-as-told (Sets.Loops n m q) d)
+
+  pub sheet-refused : (k : Refusal) → r ≡ Sets.NoSet k → aSet bytes at ≡ bad k
+  sheet-refused k d = framed-bad g (aSet bytes at) k (read-as-told (Sets.NoSet k) d)
+
 -- ---- the job
 module _ (bytes : List ℕ) where
   pub job-header : {k : Refusal} → aHeader bytes 0 ≡ bad k → readJob bytes ≡ refused k
@@ -138,29 +159,35 @@ module _ (bytes : List ℕ) where
       unfolding readJob judged aJob after
       job-kinds e = rw (e1, e2, e)
 
-      pub job-in : {ks : List Kind} {p3 : ℕ} → someKinds (h .kinds) [] bytes p2 ≡ ok ks p3 → readJob bytes ≡ passed (judgeEnd bytes p3 (copiesOf ks) (widthOf s) (h .resolution)) (record { header = h; sheet = s; kinds = ks; copies = copiesOf ks })
-      unfolding readJob judged aJob after
+      pub job-in : {ks : List Kind} {p3 : ℕ} → someKinds (h .kinds) [] bytes p2 ≡ ok ks p3 → readJob bytes ≡ passed
+          (judgeEnd bytes p3 (copiesOf ks) (widthOf (framed (frameOf h) s)) (h .resolution))
+          (record { header = h; sheet = s; kinds = ks; copies = copiesOf ks })
+      unfolding readJob judged aJob after framedWidth
       job-in e = rw (e1, e2, e)
 
 -- the answer after the last field, from what each callee gave
 module _ (bytes R : List ℕ) (A : List Float) (P : List ℕ) (h : Header) (at c : ℕ) where
-  answered-is : (d : Judged) → jobRead (answered d h at c) bytes R A P ≡ passed d (record { header = h; sheet = setAt bytes at; kinds = tabulate (kindAt bytes R A P) (h .kinds); copies = c })
+  answered-is : (d : Judged) → jobRead (answered d h at c) bytes R A P ≡ passed d
+      (record { header = h; sheet = setAt bytes at; kinds = tabulate (kindAt bytes R A P) (h .kinds); copies = c })
   answered-is Passed = refl
   answered-is (Failed k) = refl
 
   pub job-answer :
       (p : ℕ) (w : Float) {s : Set} {d : Judged} {a : JobRead}
-      → readJob bytes ≡ passed (judgeEnd bytes p (copiesOf (tabulate (kindAt bytes R A P) (h .kinds))) (widthOf s) (h .resolution)) (record { header = h; sheet = s; kinds = tabulate (kindAt bytes R A P) (h .kinds); copies = copiesOf (tabulate (kindAt bytes R A P) (h .kinds)) })
+      → readJob bytes ≡ passed (judgeEnd bytes p (copiesOf (tabulate (kindAt bytes R A P) (h .kinds))) (widthOf (framed (frameOf h) s)) (h .resolution))
+      (record { header = h; sheet = s; kinds = tabulate (kindAt bytes R A P) (h .kinds); copies = copiesOf (tabulate (kindAt bytes R A P) (h .kinds)) })
       → setAt bytes at ≡ s
       → c ≡ copiesOf (tabulate (kindAt bytes R A P) (h .kinds))
-      → w ≡ widthOf s
+      → w ≡ widthOf (framed (frameOf h) s)
       → d ≡ judgeEnd bytes p c w (h .resolution)
       → a ≡ answered d h at c
       → readJob bytes ≡ jobRead a bytes R A P
   job-answer p w {s} {d} {a} e es ec ew ed ea =
       e
-      ∙ ap (λ (x : ℕ). passed (judgeEnd bytes p x (widthOf s) (h .resolution)) (record { header = h; sheet = s; kinds = tabulate (kindAt bytes R A P) (h .kinds); copies = x })) (sym ec)
-      ∙ ap (λ (x : Float). passed (judgeEnd bytes p c x (h .resolution)) (record { header = h; sheet = s; kinds = tabulate (kindAt bytes R A P) (h .kinds); copies = c })) (sym ew)
+      ∙ ap (λ (x : ℕ). passed (judgeEnd bytes p x (widthOf (framed (frameOf h) s)) (h .resolution))
+      (record { header = h; sheet = s; kinds = tabulate (kindAt bytes R A P) (h .kinds); copies = x })) (sym ec)
+      ∙ ap (λ (x : Float). passed (judgeEnd bytes p c x (h .resolution)) (record
+      { header = h; sheet = s; kinds = tabulate (kindAt bytes R A P) (h .kinds); copies = c })) (sym ew)
       ∙ ap (λ (x : Judged). passed x (record { header = h; sheet = s; kinds = tabulate (kindAt bytes R A P) (h .kinds); copies = c })) (sym ed)
       ∙ ap (λ (x : Set). passed d (record { header = h; sheet = x; kinds = tabulate (kindAt bytes R A P) (h .kinds); copies = c })) (sym es)
       ∙ sym (answered-is d)

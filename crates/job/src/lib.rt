@@ -4,22 +4,35 @@ ghost use mathlib.Core.Path.{_≡_};
 ghost use Prim.Native.Nat.{_+_, _*_, _≤_, _<_};
 ghost use lib.ListN.{length};
 ghost use Rattle.numbers.specs.Numbers.{_⊖_};
-ghost use Rattle.job.specs.Jobs.{afterVersion, aHeader, ended, left, right, judgeEnd, readJob, verdictOf};
-ghost use Rattle.job.specs.inner.Meaning.{headerRead, answered, jobRead, headerFits};
+ghost use Rattle.job.specs.Jobs.{frameOf, afterFrame, aHeader, ended, left, right, judgeEnd, readJob, verdictOf};
+ghost use Rattle.job.specs.inner.Meaning.{headerRead, framedHeader, answered, jobRead, headerFits};
 use bits::Counted;
 use bits::Measured;
 use bits::Refusal;
 use bits::Taken;
+use frames::Frame;
 use kinds::KindsRead;
 use kinds::sets::SetRead;
 
-// What stands before the sheet.
+// What stands before the sheet; start corner and fill axis by their numbers (see Frame).
 pub struct Header {
     pub version: u64,
+    pub corner: u64,
+    pub axis: u64,
     pub kinds: u64,
     pub rounds: u64,
     pub seed: u64,
     pub resolution: f64,
+}
+
+// The frame that a job is planned in.
+pub fn frame_of(h: Header) -> Frame
+    ensures { λ r. ⌜ r ≡ frameOf h ⌝ }
+{
+    Frame {
+        corner: h.corner,
+        axis: h.axis,
+    }
 }
 
 // The header and the position after it, or why it is refused.
@@ -35,15 +48,31 @@ fn read_header(bytes: &[u8]) -> HeaderRead
         return HeaderRead::NoHeader(Refusal::Truncated);
     };
     if version == 1 {
-        return read_front(bytes, 4, version);
+        return read_front(bytes, 4, version, 0, 1);
+    }
+    if version == 2 {
+        return read_framed(bytes);
     }
     HeaderRead::NoHeader(Refusal::UnknownVersion)
 }
 
-// The header's fields after the version.
-fn read_front(bytes: &[u8], at: usize, version: u64) -> HeaderRead
-    requires { ⌜ at ≤ 100 ⌝ }
-    ensures { λ r. ⌜ (afterVersion version (now (bytes .entry)) at ≡ headerRead r) × headerFits r ⌝ }
+// The fields of version 2 after the version.
+fn read_framed(bytes: &[u8]) -> HeaderRead
+    ensures { λ r. ⌜ (framedHeader 2 (now (bytes .entry)) 4 ≡ headerRead r) × headerFits r ⌝ }
+{
+    let Taken::Bits(corner) = bits::read_field(bytes, 4, 2) else {
+        return HeaderRead::NoHeader(Refusal::Truncated);
+    };
+    let Taken::Bits(axis) = bits::read_field(bytes, 6, 1) else {
+        return HeaderRead::NoHeader(Refusal::Truncated);
+    };
+    read_front(bytes, 7, 2, corner, axis)
+}
+
+// The header's fields after the frame.
+fn read_front(bytes: &[u8], at: usize, version: u64, corner: u64, axis: u64) -> HeaderRead
+    requires { ⌜ at ≤ 7 ⌝ }
+    ensures { λ r. ⌜ (afterFrame version (record { corner = corner; axis = axis }) (now (bytes .entry)) at ≡ headerRead r) × headerFits r ⌝ }
 {
     let kinds = match bits::read_count(bytes, at, 7, 1, 64) {
         Counted::Count(n) => n,
@@ -65,6 +94,8 @@ fn read_front(bytes: &[u8], at: usize, version: u64) -> HeaderRead
         Measured::Value(resolution) => HeaderRead::Front(
             Header {
                 version,
+                corner,
+                axis,
                 kinds,
                 rounds,
                 seed,
@@ -188,7 +219,8 @@ fn read_job(
     match read_header(bytes) {
         HeaderRead::Front(h, at) => {
             let sheet = at as u32;
-            match kinds::sets::read_set(bytes, sheet, room, ends) {
+            let f = frame_of(h);
+            match frames::read_set(f, bytes, sheet, room, ends) {
                 SetRead::Loops(_, m, q) => {
                     let w = width_of(room, m);
                     let n = h.kinds as usize;

@@ -1,8 +1,8 @@
--- The starred cases of document 01 and 31 by a gap, of the definitions: one list, one claim, computed. Assumes nothing.
+-- The starred cases of document 01, 31 by a gap and case 4 on the second table, of the definitions: one list, one claim, computed. Assumes nothing.
 use mathlib.Core.Path.{_≡_, refl, ap₂}
 use mathlib.Core.List.{List, [], _∷_, map}
 use Rattle.nesting.specs.Cases.{Case, starred, starred1, starred2, starred3, starred4, starred4-fill, starred4-plan, starred4-text, starred5}
-use Rattle.nesting.specs.Cases.{starred5-calls, starred6, starred7, starred8, starred9, starred10, starred11, starred-gap}
+use Rattle.nesting.specs.Cases.{starred5-calls, starred6, starred7, starred8, starred9, starred10, starred11, starred-gap, starred-frame}
 
 abbrev Holds : Case → Type 0
 Holds c = c .got ≡ c .want
@@ -72,6 +72,10 @@ case-gap : Holds starred-gap
 unfolding Rattle.nesting.proofs.Computing.cases-compute
 case-gap = refl
 
+case-frame : Holds starred-frame
+unfolding Rattle.nesting.proofs.Computing.cases-compute
+case-frame = refl
+
 data Each : List Case → Type 0 where
   done : Each []
   also : {c : Case} {cs : List Case} → Holds c → Each cs → Each (c ∷ cs)
@@ -85,4 +89,5 @@ unfolding starred
 starred-hold =
     all-hold
     (also case-1 (also case-2 (also case-3 (also case-4-calls (also case-4-fill (also case-4-plan (also case-4-text
-    (also case-5 (also case-5-calls (also case-6 (also case-7 (also case-8 (also case-9 (also case-10 (also case-11 (also case-gap done))))))))))))))))
+    (also case-5 (also case-5-calls (also case-6 (also case-7 (also case-8 (also case-9 (also case-10 (also case-11
+    (also case-gap (also case-frame done)))))))))))))))))

@@ -17,11 +17,13 @@ use Rattle.nesting.specs.Nest.{nestVerdict, nested, nestJob, nestGiven, 
 use Rattle.nesting.specs.Text.{decimalUpTo, decimal, hexDigit, hexUpTo, hex, line, planLine, positionAt, putLine, putLines, leftLine, leftLines}
 use Rattle.nesting.specs.Text.{fillLine, fillLines, lookLine, lookLines, lastLines, planText, refusalText, replyText, printedFor, printed}
 use Rattle.nesting.specs.Case4.{case4, case4Text}
-use Rattle.nesting.specs.Cases.{rectangle, triangle, clockwise, both, jobOf, bits, room, roomsSized, lentSized, ample, roomsBits, lentBits, planBits}
+use Rattle.nesting.specs.Sheets.{rectangle, triangle, clockwise, both, jobIn, jobOf, bits, room, roomsSized, lentSized, ample, roomsBits, lentBits}
+use Rattle.nesting.specs.Cases.{planBits}
 use Rattle.nesting.specs.Cases.{jobBits, drawsOf, stateBits, afterBits, columnBits, plannedBits, calledBits, fiveCopies, nothing, fourPlates}
 use Rattle.nesting.specs.Cases.{plateStrips, fourStrips, fourEntries, fourFirsts, roomsLeft, fourStanding, case4Plan, exact, case4Rooms, starred1}
 use Rattle.nesting.specs.Cases.{starred2, starred3, starred4, starred4-fill, starred4-plan, starred4-text, starred5, starred5-calls, starred6, starred7}
 use Rattle.nesting.specs.Cases.{starred8, starred9, starred10, starred11, gapped, gapNumber, gapNumbers, gapsJudged, starred-gap, starred}
+use Rattle.nesting.specs.Cases.{secondPlates, starred-frame}
 
 unfoldable pub copy-order-computes : Unit {0}
 unfolding samePriority numbered largerFirst higherFirst ahead copyOrder
@@ -60,7 +62,7 @@ unfolding consistent-computes start-computes next-copy-computes accounts-compute
 cases-compute-3 = tt
 
 unfoldable pub cases-compute-4 : Unit {0}
-unfolding rounds-compute nest-computes text-computes flatMap rectangle triangle clockwise both jobOf bits room roomsSized lentSized ample roomsBits
+unfolding rounds-compute nest-computes text-computes flatMap rectangle triangle clockwise both jobIn jobOf bits room roomsSized lentSized ample roomsBits
 cases-compute-4 = tt
 
 unfoldable pub cases-compute-5 : Unit {0}
@@ -73,7 +75,7 @@ cases-compute-6 = tt
 
 unfoldable pub cases-compute-7 : Unit {0}
 unfolding starred4-plan starred4-text starred5 starred5-calls starred6 starred7 starred8 starred9 starred10 starred11
-    gapped gapNumber gapNumbers gapsJudged starred-gap starred
+    gapped gapNumber gapNumbers gapsJudged starred-gap secondPlates starred-frame starred
 cases-compute-7 = tt
 
 unfoldable pub cases-compute : Unit {0}

@@ -1,110 +1,36 @@
 -- Document 01, "Sheets tried by hand": the starred cases as one list; `got` is what the definitions come to, `want` what the paper says.
--- The last is 31 by a gap (document 02, W7).
+-- The last two are 31 by a gap (document 02, W7) and case 4 on the second table (W1).
 -- Definitions only. Assumes nothing.
-use Prim.Native.Nat.{ℕ, zero, suc, _+_, _*_, _/_, _%_, _^_}
-use mathlib.Core.Bool.{Bool, true, false}
+use Prim.Native.Nat.{ℕ, zero, suc, _+_, _*_, _%_, _^_}
+use mathlib.Core.Bool.{true, false}
 use mathlib.Core.List.{List, [], _∷_, _++_, map, flatMap}
-use lib.ListN.{length, take, set, replicate}
-use lib.IntN.{ℤ, pos}
-use lib.Ieee.{Float, binary64, ofBits, toBits}
+use lib.ListN.{take, set, replicate}
+use lib.Ieee.{Float, binary64, ofBits}
 use Rattle.numbers.specs.Numbers.{fromInt}
-use Rattle.trapezoid.specs.declared.Heights.{Heights}
 use Rattle.trapezoid.specs.Strip.{stripAt, heightsAt}
 use Rattle.index.specs.Buckets.{upFrom}
-use Rattle.job.specs.declared.Header.{Header}
 use Rattle.kinds.specs.sets.Sets.{Set}
-use Rattle.kinds.specs.Kinds.{Orientation, Kind}
 use Rattle.job.specs.Jobs.{Job}
-use Rattle.filling.specs.declared.Layout.{Layout}
 use Rattle.filling.specs.declared.State.{State}
-use Rattle.filling.specs.declared.Plan.{Plan}
-use Rattle.filling.specs.declared.Verdict.{Verdict}
 use Rattle.filling.specs.Refusals.{verdictNumber}
-use Rattle.filling.specs.Columns.{Ranges, ranges, lastColumn, columnAt}
-use Rattle.filling.specs.Shapes.{Copy, Standing, setBounds, setStrips}
+use Rattle.filling.specs.Columns.{ranges, lastColumn, columnAt}
+use Rattle.filling.specs.Shapes.{setBounds, setStrips}
 use Rattle.filling.specs.Rooms.{Rooms, Lent}
 use Rattle.filling.specs.State.{standingOf, withoutOf}
 use Rattle.filling.specs.Start.{Start, startOf}
-use Rattle.filling.specs.NextCopy.{Step, nextCopyOf}
+use Rattle.filling.specs.NextCopy.{nextCopyOf}
 use Rattle.filling.specs.Fill.{Planned, fillOf}
-use Rattle.filling.specs.Calls.{Call, nextCopy, After, afterCalls}
-use Rattle.nesting.specs.Rounds.{Kept, Swaps, kept, ended, swapSearch}
+use Rattle.filling.specs.Calls.{nextCopy, After, afterCalls}
+use Rattle.nesting.specs.Rounds.{Swaps, kept, ended, swapSearch}
 use Rattle.nesting.specs.Nest.{nestJob, nestOf}
 use Rattle.nesting.specs.Text.{printed}
 use Rattle.nesting.specs.Case4.{case4, case4Text}
+use Rattle.nesting.specs.Sheets.{rectangle, triangle, clockwise, jobIn, jobOf, bits, room, roomsSized, lentSized, ample, roomsBits, lentBits}
 
 -- a case: what the definitions come to, and what the paper says
 pub record Case : Type 0 where
   pub got : List (List ℕ)
   pub want : List (List ℕ)
-
--- ---- sheets and parts
-
--- "rectangles from (0,0), counter-clockwise"
-unfoldable pub rectangle : ℕ → ℕ → Set
-rectangle a b = record { points = map fromInt (0 ∷ 0 ∷ a ∷ 0 ∷ a ∷ b ∷ 0 ∷ b ∷ []); ends = 4 ∷ [] }
-
--- "Loop (0,0),(4,0),(0,4)"
-unfoldable pub triangle : Set
-triangle = record { points = map fromInt (0 ∷ 0 ∷ 4 ∷ 0 ∷ 0 ∷ 4 ∷ []); ends = 3 ∷ [] }
-
--- "A 4 × 3 rectangle drawn clockwise"
-unfoldable pub clockwise : Set
-clockwise = record { points = map fromInt (0 ∷ 0 ∷ 0 ∷ 3 ∷ 4 ∷ 3 ∷ 4 ∷ 0 ∷ []); ends = 4 ∷ [] }
-
--- "apart and inset sets equal"
-unfoldable pub both : Set → Orientation
-both s = record { apart = s; inset = s }
-
--- "Sheet 10 × 6": n copies of one kind
-unfoldable pub jobOf : ℕ → ℕ → ℕ → ℕ → List Set → Job
-jobOf resolution n area rounds os =
-    record {
-      header = record { version = 1; kinds = 1; rounds = rounds; seed = 0; resolution = fromInt resolution };
-      sheet = rectangle 10 6;
-      kinds = record { quantity = n; fill = false; priority = pos 0; area = fromInt area; orientations = map both os } ∷ [];
-      copies = n;
-    }
-
--- ---- rooms, with something in them, and lengths that are no multiple of a record
-
--- doubles by their bits
-unfoldable pub bits : List Float → List ℕ
-bits l = map (toBits binary64) l
-
--- a room of n sevens
-unfoldable pub room : ℕ → List Float
-room n = replicate n (fromInt 7)
-
--- rooms of strips, entries and bucket numbers, of these as many as strips
-unfoldable pub roomsSized : ℕ → ℕ → ℕ → Rooms
-roomsSized shapes placed entries =
-    record {
-      shapes = room shapes;
-      sheet = room 7;
-      placed = room placed;
-      sheet-entries = 9 ∷ [];
-      placed-entries = replicate entries 9;
-      sheet-firsts = 9 ∷ [];
-      placed-firsts = replicate (placed / 6) 9;
-    }
-
--- all nine rooms
-unfoldable pub lentSized : Rooms → ℕ → ℕ → Lent
-lentSized w intervals positions = record { rooms = w; intervals = room intervals; positions = room positions }
-
--- more than the cases need
-unfoldable pub ample : Lent
-ample = lentSized (roomsSized 25 31 1100) 9 31
-
--- what lies in the rooms of strips, entries and bucket numbers
-unfoldable pub roomsBits : Rooms → List (List ℕ)
-roomsBits w =
-    bits (w .shapes) ∷ bits (w .sheet) ∷ bits (w .placed) ∷ w .sheet-entries ∷ w .placed-entries ∷ w .sheet-firsts ∷ w .placed-firsts ∷ []
-
--- what lies in all nine rooms
-unfoldable pub lentBits : Lent → List (List ℕ)
-lentBits l = roomsBits (l .rooms) ++ (bits (l .intervals) ∷ bits (l .positions) ∷ [])
 
 -- ---- what is compared
 
@@ -391,8 +317,20 @@ starred-gap =
       want = (0 ∷ 0 ∷ 31 ∷ 31 ∷ 31 ∷ []) ∷ (0 ∷ []) ∷ [];
     }
 
+-- the plates of case 4 on the second table: at (6,0), (2,0), (6,3), (2,3)
+unfoldable pub secondPlates : List ℕ
+secondPlates = bits (map fromInt (0 ∷ 0 ∷ 0 ∷ 6 ∷ 0 ∷ 6 ∷ 0 ∷ 1 ∷ 0 ∷ 2 ∷ 0 ∷ 2 ∷ 0 ∷ 2 ∷ 0 ∷ 6 ∷ 3 ∷ 6 ∷ 0 ∷ 3 ∷ 0 ∷ 2 ∷ 3 ∷ 2 ∷ []))
+
+-- document 02, W1: "The second table has its stop at lower right and advances upward." Case 4 there: 8 looks = 2 + 4 + 1 + 1, right 6, no offcut
+unfoldable pub starred-frame : Case
+starred-frame =
+    record {
+      got = jobBits (jobIn 2 (record { corner = 1; axis = 0 }) 1 5 12 0 (rectangle 4 3 ∷ []));
+      want = (0 ∷ 4 ∷ 1 ∷ 0 ∷ []) ∷ (4 ∷ 0 ∷ 1 ∷ 0 ∷ []) ∷ (8 ∷ 0 ∷ []) ∷ (d6 ∷ 0x4028000000000000 ∷ 0 ∷ []) ∷ (secondPlates ++ nothing 1) ∷ [];
+    }
+
 -- the starred cases
 unfoldable pub starred : List Case
 starred =
     starred1 ∷ starred2 ∷ starred3 ∷ starred4 ∷ starred4-fill ∷ starred4-plan ∷ starred4-text ∷ starred5 ∷ starred5-calls ∷ starred6 ∷ starred7
-    ∷ starred8 ∷ starred9 ∷ starred10 ∷ starred11 ∷ starred-gap ∷ []
+    ∷ starred8 ∷ starred9 ∷ starred10 ∷ starred11 ∷ starred-gap ∷ starred-frame ∷ []

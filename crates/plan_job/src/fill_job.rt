@@ -70,8 +70,7 @@ fn fill_tables(
             start::replies::copy_order(order, &mut table);
             swaps::search_plan::search_plan(
                 p.tables,
-                h.kinds as usize,
-                h.seed,
+                h,
                 0,
                 &mut table[..n],
                 rows,

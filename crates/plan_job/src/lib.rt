@@ -68,8 +68,7 @@ fn nest_tables(
             let n = copy_order::copy_order(rows, areas, kinds, &mut order);
             swaps::search_plan::search_plan(
                 p.tables,
-                kinds,
-                h.seed,
+                h,
                 h.rounds as usize,
                 &mut order[..n],
                 rows,

@@ -13,7 +13,9 @@ use Rattle.index.specs.Buckets.{standingCapacity}
 use Rattle.index.specs.inner.Listing.{Laid}
 use Rattle.strips.specs.declared.Rect.{Rect}
 use Rattle.job.specs.declared.Header.{Header}
-use Rattle.job.specs.Jobs.{Job}
+use Rattle.frames.specs.declared.Frame.{Frame}
+use Rattle.frames.specs.Frames.{framed}
+use Rattle.job.specs.Jobs.{Job, frameOf}
 use Rattle.filling.specs.declared.Refusal.{Refusal}
 use Rattle.filling.specs.declared.Refusal.the-variants as Why
 use Rattle.filling.specs.declared.Tables.{Tables}
@@ -46,18 +48,32 @@ module _ (p : Planner) (w : Rooms) where
   module _ (s : capacity (p .sheet) ≤ standingCapacity (w .sheet) (w .sheet-firsts)) where
     pub refused-entries : length (w .sheet-entries) < length (entriesFor (p .bounds) (p .sheet)) → prepareVerdict p w ≡ Refused Why.EntryRoom
     unfolding prepareVerdict refuseIf
-    refused-entries h = rw (le-ltb (standingCapacity (w .sheet) (w .sheet-firsts)) (capacity (p .sheet)) s, lt-ltb (length (w .sheet-entries)) (length (entriesFor (p .bounds) (p .sheet))) h)
+    refused-entries h = rw (
+      le-ltb (standingCapacity (w .sheet) (w .sheet-firsts)) (capacity (p .sheet)) s,
+      lt-ltb (length (w .sheet-entries))
+          (length (entriesFor (p .bounds) (p .sheet))) h,
+    )
 
     module _ (e : length (entriesFor (p .bounds) (p .sheet)) ≤ length (w .sheet-entries)) where
       pub refused-shapes : capacity (w .shapes) < capacity (apartStrips p ++ insetStrips p) → prepareVerdict p w ≡ Refused Why.StripRoom
       unfolding prepareVerdict refuseIf
       refused-shapes h =
-          rw (le-ltb (standingCapacity (w .sheet) (w .sheet-firsts)) (capacity (p .sheet)) s, le-ltb (length (w .sheet-entries)) (length (entriesFor (p .bounds) (p .sheet))) e, lt-ltb (capacity (w .shapes)) (capacity (apartStrips p ++ insetStrips p)) h)
+          rw (
+            le-ltb (standingCapacity (w .sheet) (w .sheet-firsts)) (capacity (p .sheet)) s,
+            le-ltb (length (w .sheet-entries))
+                (length (entriesFor (p .bounds) (p .sheet))) e,
+            lt-ltb (capacity (w .shapes)) (capacity (apartStrips p ++ insetStrips p)) h,
+          )
 
       pub prepared-all : capacity (apartStrips p ++ insetStrips p) ≤ capacity (w .shapes) → prepareVerdict p w ≡ Accepted
       unfolding prepareVerdict refuseIf
       prepared-all h =
-          rw (le-ltb (standingCapacity (w .sheet) (w .sheet-firsts)) (capacity (p .sheet)) s, le-ltb (length (w .sheet-entries)) (length (entriesFor (p .bounds) (p .sheet))) e, le-ltb (capacity (w .shapes)) (capacity (apartStrips p ++ insetStrips p)) h)
+          rw (
+            le-ltb (standingCapacity (w .sheet) (w .sheet-firsts)) (capacity (p .sheet)) s,
+            le-ltb (length (w .sheet-entries))
+                (length (entriesFor (p .bounds) (p .sheet))) e,
+            le-ltb (capacity (w .shapes)) (capacity (apartStrips p ++ insetStrips p)) h,
+          )
 
 -- ---- what is answered
 not-prepared : {k : Refusal} (r : Prepared) (p : Planner) (w : Rooms) (shapes sheet : List Float) (entries firsts : List ℕ)
@@ -70,24 +86,33 @@ tables-same : {r r′ : Float} {b b′ : Rect} {n n′ a a′ : ℕ} {x x′ : L
 tables-same e f g h i k = rw (e, f, g, h, i, k)
 
 -- ---- through the tables
-module _ (bytes rows places : List ℕ) (at kinds : ℕ) (j : Job) (T : FromTables bytes rows places at kinds j) where
+module _ (bytes rows places : List ℕ) (at kinds : ℕ) (j : Job) (T : FromTables bytes rows places at kinds j) (g : Frame) (G : g ≡ frameOf (j .header)) where
   abbrev P : Planner
   P = plannerOf j
 
-  sheet-as : (r : SheetLaid) (sheet₀ sheet : List Float) (entries₀ entries starts firsts₀ firsts : List ℕ) → SheetIs r (setBounds (setAt bytes at)) (setStrips true (setAt bytes at)) sheet₀ sheet entries₀ entries starts firsts₀ firsts → SheetIs r (P .bounds) (P .sheet) sheet₀ sheet entries₀ entries starts firsts₀ firsts
+  sheet-as : (r : SheetLaid) (sheet₀ sheet : List Float) (entries₀ entries starts firsts₀ firsts : List ℕ) → SheetIs r (setBounds (framed g (setAt bytes at)))
+      (setStrips true (framed g (setAt bytes at))) sheet₀ sheet entries₀ entries starts firsts₀ firsts
+      → SheetIs r (P .bounds) (P .sheet) sheet₀ sheet entries₀ entries starts firsts₀ firsts
   sheet-as r sheet₀ sheet entries₀ entries starts firsts₀ firsts S =
-      subst (λ (b : Rect). SheetIs r b (P .sheet) sheet₀ sheet entries₀ entries starts firsts₀ firsts) (sheet-bounds-are T) (subst (λ (s : List Float). SheetIs r (setBounds (setAt bytes at)) s sheet₀ sheet entries₀ entries starts firsts₀ firsts) (sheet-strips-are T) S)
+      subst (λ (b : Rect). SheetIs r b (P .sheet) sheet₀ sheet entries₀ entries starts firsts₀ firsts)
+      (ap (λ (f : Frame). setBounds (framed f (setAt bytes at))) G ∙ sheet-bounds-are T)
+      (subst (λ (s : List Float). SheetIs r (setBounds (framed g (setAt bytes at))) s sheet₀ sheet entries₀ entries starts firsts₀ firsts)
+      (ap (λ (f : Frame). setStrips true (framed f (setAt bytes at))) G ∙ sheet-strips-are T) S)
 
-  shapes-as : (r : ShapesLaid) (shapes₀ shapes bounds : List Float) (parts : List ℕ) → ShapesAre r (bySlot (slotOf bytes rows places kinds)) shapes₀ shapes bounds parts → ShapesAre r (bySlot (slotShape P)) shapes₀ shapes bounds parts
-  shapes-as r shapes₀ shapes bounds parts S = subst (λ (ss : List Shape). ShapesAre r ss shapes₀ shapes bounds parts) (slots-are T) S
+  shapes-as : (r : ShapesLaid) (shapes₀ shapes bounds : List Float) (parts : List ℕ) → ShapesAre r (bySlot (slotOf g bytes rows places kinds)) shapes₀ shapes
+      bounds parts → ShapesAre r (bySlot (slotShape P)) shapes₀ shapes bounds parts
+  shapes-as r shapes₀ shapes bounds parts S =
+      subst (λ (ss : List Shape). ShapesAre r ss shapes₀ shapes bounds parts) (ap (λ (f : Frame). bySlot (slotOf f bytes rows places kinds)) G ∙ slots-are T) S
 
   module _ (r : SheetLaid) (shapes₀ shapes sheet₀ sheet : List Float) (entries₀ entries starts firsts₀ firsts : List ℕ)
-      (S : SheetIs r (setBounds (setAt bytes at)) (setStrips true (setAt bytes at)) sheet₀ sheet entries₀ entries starts firsts₀ firsts) where
+      (S : SheetIs r (setBounds (framed g (setAt bytes at))) (setStrips true (framed g (setAt bytes at))) sheet₀ sheet entries₀ entries starts firsts₀
+      firsts) where
     abbrev Before : Rooms
     Before = given shapes₀ sheet₀ entries₀ firsts₀
 
     told : (q : SheetLaid) → r ≡ q → SheetIs q (P .bounds) (P .sheet) sheet₀ sheet entries₀ entries starts firsts₀ firsts
-    told q e = subst (λ (x : SheetLaid). SheetIs x (P .bounds) (P .sheet) sheet₀ sheet entries₀ entries starts firsts₀ firsts) e (sheet-as r sheet₀ sheet entries₀ entries starts firsts₀ firsts S)
+    told q e = subst (λ (x : SheetLaid). SheetIs x (P .bounds) (P .sheet) sheet₀ sheet entries₀ entries starts firsts₀ firsts) e
+        (sheet-as r sheet₀ sheet entries₀ entries starts firsts₀ firsts S)
 
     module _ (p : Prepared) where
       pub sheet-over : r ≡ Sheet.NoStrips → p .verdict ≡ Refused Why.StripRoom → PreparedIs p P Before shapes sheet entries firsts
@@ -97,7 +122,7 @@ module _ (bytes rows places : List ℕ) (at kinds : ℕ) (j : Job) (T : FromTabl
       entries-over e d = let t = told Sheet.NoEntries e in not-prepared p P Before shapes sheet entries firsts d (refused-entries P Before (t .0) (t .1))
 
     module _ (b : Rect) (n : ℕ) (e : r ≡ Sheet.Strips b n) (q : ShapesLaid) (bounds : List Float) (parts : List ℕ)
-        (Q : ShapesAre q (bySlot (slotOf bytes rows places kinds)) shapes₀ shapes bounds parts) where
+        (Q : ShapesAre q (bySlot (slotOf g bytes rows places kinds)) shapes₀ shapes bounds parts) where
       asked : (t : ShapesLaid) → q ≡ t → ShapesAre t (bySlot (slotShape P)) shapes₀ shapes bounds parts
       asked t d = subst (λ (x : ShapesLaid). ShapesAre x (bySlot (slotShape P)) shapes₀ shapes bounds parts) d (shapes-as q shapes₀ shapes bounds parts Q)
 
@@ -125,5 +150,13 @@ module _ (bytes rows places : List ℕ) (at kinds : ℕ) (j : Job) (T : FromTabl
             let s = asked (Shapes.Strips a i) d in
             record {
               verdict-is = sym (prepared-all P Before (t .strips-fit) (t .entries-fit) (s .2));
-              ready = λ _. record { tables-are = tables-told; shapes-are = s .3; sheet-is = t .strips; entries-are = t .entries-are; indexed = t .indexed; firsts-are = t .firsts-are; kept = t .kept };
+              ready = λ _. record {
+                tables-are = tables-told;
+                shapes-are = s .3;
+                sheet-is = t .strips;
+                entries-are = t .entries-are;
+                indexed = t .indexed;
+                firsts-are = t .firsts-are;
+                kept = t .kept;
+              };
             }

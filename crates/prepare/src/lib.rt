@@ -71,6 +71,7 @@ pub fn prepare(
     let mut sheet_starts = [0usize; 513];
     let mut inset_bounds = [0.0; 4096];
     let mut parts = [0usize; 4096];
+    let f = job::frame_of(h);
     match sheet::lay_sheet(
         bytes,
         at,
@@ -78,6 +79,7 @@ pub fn prepare(
         sheet_entries,
         &mut sheet_starts,
         sheet_firsts,
+        f,
     ) {
         SheetLaid::Strips(sheet_bounds, sheet_strips) => {
             match shapes::lay_shapes(
@@ -88,6 +90,7 @@ pub fn prepare(
                 shapes,
                 &mut inset_bounds,
                 &mut parts,
+                f,
             ) {
                 ShapesLaid::Strips(apart_strips, _) => Prepared {
                     verdict: Verdict::Accepted,

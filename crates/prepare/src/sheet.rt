@@ -7,7 +7,9 @@ ghost use lib.ListN.{length, getD};
 ghost use Rattle.index.specs.Buckets.{buckets};
 ghost use Rattle.filling.specs.Shapes.{setBounds, setStrips};
 ghost use Rattle.prepare.specs.sheet.inner.SheetRoom.{SheetIs};
+ghost use Rattle.frames.specs.Frames.{framed};
 ghost use Rattle.kinds.specs.sets.inner.Answers.{setAt};
+use frames::Frame;
 use index::Bucket;
 use index::Entry;
 use index::Index;
@@ -21,8 +23,8 @@ pub enum SheetLaid {
     NoEntries,
 }
 
-// The strips of the set at a bit position, their entries and their first buckets go into the rooms,
-// and the buckets' starts into their table, which is zero.
+// The strips of the set at a bit position in the frame, their entries and their first buckets go into
+// the rooms, and the buckets' starts into their table, which is zero.
 pub fn lay_sheet(
     bytes: &[u8],
     at: u32,
@@ -30,10 +32,11 @@ pub fn lay_sheet(
     entries: &mut [Entry],
     starts: &mut [usize],
     firsts: &mut [Bucket],
+    f: Frame,
 ) -> SheetLaid
     requires { ⌜ (length (now starts) ≡ buckets + 1) × ((b : ℕ) → getD (now starts) b 0 ≡ 0) ⌝ }
-    ensures { λ r. ⌜ SheetIs r (setBounds (setAt (now (bytes .entry)) at)) (setStrips true (setAt (now (bytes .entry)) at)) (now (sheet .entry))
-        (now (sheet .exit)) (now (entries .entry)) (now (entries .exit)) (now (starts .exit))
+    ensures { λ r. ⌜ SheetIs r (setBounds (framed f (setAt (now (bytes .entry)) at))) (setStrips true (framed f (setAt (now (bytes .entry)) at)))
+        (now (sheet .entry)) (now (sheet .exit)) (now (entries .entry)) (now (entries .exit)) (now (starts .exit))
         (now (firsts .entry)) (now (firsts .exit)) ⌝ }
 {
     let mut points = [0.0; 1024];
@@ -55,6 +58,7 @@ pub fn lay_sheet(
         &mut line,
         sheet,
         0,
+        f,
     ) {
         Stored::Count(n) => n,
         Stored::NoRoom => {
@@ -64,7 +68,7 @@ pub fn lay_sheet(
     if index::standing_capacity(sheet, firsts) < n {
         return SheetLaid::NoStrips;
     }
-    let bounds = shapes::set_strips::set_bounds(bytes, at, &mut points, &mut ends);
+    let bounds = shapes::set_strips::set_bounds(bytes, at, &mut points, &mut ends, f);
     let ix = Index::new(bounds.left, bounds.right);
     let end = 6 * n;
     if enter::enter_copy(ix, &sheet[..end], 0, n, entries, starts, &mut gains, firsts) {

@@ -1,6 +1,7 @@
-// The reply of a whole plan (document 01, "The printed plan"): its verdict, its plan, its positions,
-// and zeros in the work rooms.
+// The reply of a whole plan (document 01, "The printed plan"): its verdict, its plan, its positions on
+// the sheet (document 02, W1), and zeros in the work rooms.
 pub mod offcut;
+pub mod on_sheet;
 pub mod readied;
 
 ghost use mathlib.Core.List.{List};
@@ -9,7 +10,7 @@ ghost use Prim.Native.Nat.{ℕ, _*_, _≤_, _<_};
 ghost use lib.ListN.{length, getD};
 ghost use lib.Ieee.{Float};
 ghost use Rattle.numbers.specs.Numbers.{posZero};
-ghost use Rattle.job.specs.Jobs.{Job};
+ghost use Rattle.job.specs.Jobs.{Job, frameOf};
 ghost use Rattle.filling.specs.declared.Verdict.the-variants.{Accepted};
 ghost use Rattle.filling.specs.Shapes.{Planner, plannerOf};
 ghost use Rattle.filling.specs.Rooms.{Lent, zeros};
@@ -20,6 +21,7 @@ ghost use Rattle.report.specs.inner.Replies.{reply, replyOf, refusedBy, 
 use filling::Plan;
 use filling::Refusal;
 use filling::Verdict;
+use frames::Frame;
 use index::Bucket;
 use index::Entry;
 use place::Totals;
@@ -83,9 +85,9 @@ pub fn clear(
     rooms::zero_numbers(placed_firsts);
 }
 
-// The plan of a filling that ended so, its positions in their room. Only crates of ours call it:
-// every kind in the order must be one of the job's, the parts must be those of its slots, and the
-// room must hold a position for each copy.
+// The plan of a filling that ended so, its positions on the sheet in their room. Only crates of ours
+// call it: every kind in the order must be one of the job's, the parts must be those of its slots,
+// and the room must hold a position for each copy.
 pub fn report(
     verdict: Verdict,
     t: Totals,
@@ -102,6 +104,7 @@ pub fn report(
     sheet_right: f64,
     improvements: usize,
     positions: &mut [f64],
+    f: Frame,
 ) -> NestResult
     requires { ⌜ (kinds ≤ 64) × (256 ≤ length (now rows)) × (length (now order) ≤ length (now orientation)) × (length (now order) ≤ length (now x))
         × (length (now order) ≤ length (now y)) × (1024 ≤ length (now «look_counts»)) × (4096 ≤ length (now parts))
@@ -111,6 +114,7 @@ pub fn report(
     ensures { λ r. ⌜ ((j : Job) (areas : List Float) (p : Planner) (next : List ℕ) (l : Lent)
         → Tabled j (now (rows .entry)) areas → length (j .kinds) ≡ kinds → p .bounds .right ≡ «sheet_right»
         → Parted (plannerOf j) (now (parts .entry)) (now (shapes .entry)) → now (positions .entry) ≡ zeros posZero (l .positions)
+        → frameOf (j .header) ≡ f
         → reply r (now (positions .exit)) ≡ replyOf (reported verdict j l p (now (order .entry)) next (now («look_counts» .entry)) t
         (now (orientation .entry)) (now (x .entry)) (now (y .entry)) (now (gap .entry)) improvements)) ⌝ }
 {
@@ -133,6 +137,7 @@ pub fn report(
                 improvements,
                 positions,
             );
+            on_sheet::positions_on_sheet(f, positions, order.len());
             NestResult {
                 verdict: Verdict::Accepted,
                 plan: plan,

@@ -20,6 +20,7 @@ use Rattle.filling.specs.Start.{partsFrom}
 use Rattle.filling.proofs.Reading.{flat-append, getD-bySlot, length-bySlot, bounds-slot, length-bounds}
 use Rattle.filling.proofs.WithinBoundsStrips.{capacity-flat}
 use Rattle.shapes.proofs.set_strips.ReadSets.{laid-first}
+use Rattle.frames.specs.declared.Frame.{Frame}
 use Rattle.shapes.specs.declared.ShapesLaid.the-variants as Laid
 use Rattle.shapes.specs.slots.inner.Slots.{slotStrips, slotBounds, slotOf, stripsTo, Column, SlotsLaid, BoundsTo}
 use Rattle.shapes.specs.inner.ShapeRooms.{ShapesAre}
@@ -84,7 +85,8 @@ module _ (h : Shape → List Float) (f : ℕ → List Trapezoid) (s : ℕ → Sh
 
 -- ---- parts and bounds
 
-module _ (f g : ℕ → List Trapezoid) (b : ℕ → Rect) (s : ℕ → Shape) (fs : (i : ℕ) → s i .apart ≡ flat (f i)) (gs : (i : ℕ) → s i .inset ≡ flat (g i)) (bs : (i : ℕ) → s i .bounds ≡ b i) where
+module _ (f g : ℕ → List Trapezoid) (b : ℕ → Rect) (s : ℕ → Shape) (fs : (i : ℕ) → s i .apart ≡ flat (f i)) (gs : (i : ℕ) → s i .inset ≡ flat (g i))
+    (bs : (i : ℕ) → s i .bounds ≡ b i) where
   slot : (q : ℕ) → q < 1024 → getD (bySlot s) q noShape ≡ s q
   slot q h = getD-bySlot s q noShape h
 
@@ -94,7 +96,12 @@ module _ (f g : ℕ → List Trapezoid) (b : ℕ → Rect) (s : ℕ → Shape) (
   abbrev wanted : ℕ → Part
   wanted q = record { apart-start = length (stripsTo f q); apart-count = length (f q); inset-start = length (stripsTo g q); inset-count = length (g q) }
 
-  first-wanted : (c : ℕ) → record { apart-start = length (stripsTo f c); apart-count = capacity (s c .apart); inset-start = length (stripsTo g c); inset-count = capacity (s c .inset) } ≡ wanted c
+  first-wanted : (c : ℕ) → record {
+    apart-start = length (stripsTo f c);
+    apart-count = capacity (s c .apart);
+    inset-start = length (stripsTo g c);
+    inset-count = capacity (s c .inset);
+  } ≡ wanted c
   first-wanted c = rw (ap capacity (fs c) ∙ capacity-flat (f c), ap capacity (gs c) ∙ capacity-flat (g c))
 
   part-from : (n c q : ℕ) → q < n → partAt (flatParts (partsFrom (length (stripsTo f c)) (length (stripsTo g c)) (map s (upFrom n c)))) q ≡ wanted (c + q)
@@ -103,8 +110,10 @@ module _ (f g : ℕ → List Trapezoid) (b : ℕ → Rect) (s : ℕ → Shape) (
   part-from (suc n) c zero h = first-wanted c ∙ ap wanted (omega arith)
   part-from (suc n) c (suc q) h =
       let e : suc c + q ≡ c + suc q = omega arith in
-      part-tail (length (stripsTo f c)) (capacity (s c .apart)) (length (stripsTo g c)) (capacity (s c .inset)) (flatParts (partsFrom (length (stripsTo f c) + capacity (s c .apart)) (length (stripsTo g c) + capacity (s c .inset)) (map s (upFrom n (suc c))))) q
-      ∙ ap₂ (λ (x y : ℕ). partAt (flatParts (partsFrom x y (map s (upFrom n (suc c))))) q) (sym (length-suc (λ t. t .apart) f s fs c)) (sym (length-suc (λ t. t .inset) g s gs c))
+      part-tail (length (stripsTo f c)) (capacity (s c .apart)) (length (stripsTo g c)) (capacity (s c .inset))
+      (flatParts (partsFrom (length (stripsTo f c) + capacity (s c .apart)) (length (stripsTo g c) + capacity (s c .inset)) (map s (upFrom n (suc c))))) q
+      ∙ ap₂ (λ (x y : ℕ). partAt (flatParts (partsFrom x y (map s (upFrom n (suc c))))) q) (sym (length-suc (λ t. t .apart) f s fs c))
+      (sym (length-suc (λ t. t .inset) g s gs c))
       ∙ part-from n (suc c) q (omega arith)
       ∙ ap wanted e
 
@@ -116,7 +125,8 @@ module _ (f g : ℕ → List Trapezoid) (b : ℕ → Rect) (s : ℕ → Shape) (
     first : (q : ℕ) → q < 1024 → getD parts (4 * q) 0 ≡ length (stripsTo f q)
     first q h =
         let e : 4 * q + 0 ≡ 4 * q = omega arith in
-        let z : getD parts (4 * q) 0 ≡ getD parts₁ (4 * q) 0 = subst (λ (k : ℕ). getD parts k 0 ≡ getD parts₁ k 0) e (D .other q 0 (omega arith) (λ x. omega arith) (λ x. omega arith)) in
+        let z : getD parts (4 * q) 0 ≡ getD parts₁ (4 * q) 0 = subst (λ (k : ℕ). getD parts k 0 ≡ getD parts₁ k 0) e
+        (D .other q 0 (omega arith) (λ x. omega arith) (λ x. omega arith)) in
         z ∙ subst (λ (k : ℕ). getD parts₁ k 0 ≡ length (stripsTo f q)) e (C .start q h)
 
     second : (q : ℕ) → q < 1024 → getD parts (4 * q + 1) 0 ≡ length (f q)
@@ -167,7 +177,8 @@ module _ (f g : ℕ → List Trapezoid) (b : ℕ → Rect) (s : ℕ → Shape) (
   both-number = ap capacity both ∙ capacity-flat (stripsTo f 1024 ++ stripsTo g 1024) ∙ length-append (stripsTo f 1024) (stripsTo g 1024)
 
   module _ (shapes₀ shapes₁ shapes bounds₀ bounds : List Float) (parts₀ parts₁ parts : List ℕ) (m n : ℕ) where
-    pub all-laid : SlotsLaid (Stored.Count m) 0 f 1024 0 shapes₀ shapes₁ parts₀ parts₁ → SlotsLaid (Stored.Count n) 1 g 1024 m shapes₁ shapes parts₁ parts → BoundsTo b 1024 bounds₀ bounds
+    pub all-laid : SlotsLaid (Stored.Count m) 0 f 1024 0 shapes₀ shapes₁ parts₀ parts₁ → SlotsLaid (Stored.Count n) 1 g 1024 m shapes₁ shapes parts₁ parts →
+        BoundsTo b 1024 bounds₀ bounds
         → length parts ≡ 4096 → length bounds ≡ 4096 → ShapesAre (Laid.Strips m n) (bySlot s) shapes₀ shapes bounds parts
     unfolding capacity
     all-laid P Q B k l =
@@ -176,7 +187,9 @@ module _ (f g : ℕ → List Trapezoid) (b : ℕ → Rect) (s : ℕ → Shape) (
         let z = both-number in
         let v : length shapes₁ ≡ length shapes₀ = ap length (P .2) ∙ length-laid (stripsTo f 1024) shapes₀ 0 (omega (arith, P .0, P .1)) in
         let c : m ≡ 0 + length (stripsTo f 1024) = omega (arith, P .0) in
-        let w : shapes ≡ Tables.stripsLaid (stripsTo f 1024 ++ stripsTo g 1024) shapes₀ 0 = Q .2 ∙ ap₂ (λ (r : List Float) (k : ℕ). Tables.stripsLaid (stripsTo g 1024) r k) (P .2) c ∙ laid-on (stripsTo f 1024) (stripsTo g 1024) shapes₀ 0 (omega (arith, P .0, P .1)) in (
+        let w : shapes ≡ Tables.stripsLaid (stripsTo f 1024 ++ stripsTo g 1024) shapes₀ 0 = Q .2 ∙ ap₂
+        (λ (r : List Float) (k : ℕ). Tables.stripsLaid (stripsTo g 1024) r k) (P .2) c ∙ laid-on (stripsTo f 1024) (stripsTo g 1024) shapes₀ 0
+        (omega (arith, P .0, P .1)) in (
           P .0 ∙ sym x,
           Q .0 ∙ sym y,
           omega (arith, z, P .0, Q .0, Q .1, v),
@@ -188,7 +201,8 @@ module _ (f g : ℕ → List Trapezoid) (b : ℕ → Rect) (s : ℕ → Shape) (
     pub first-over : SlotsLaid Stored.NoRoom 0 f 1024 0 shapes₀ shapes₁ parts₀ parts₁ → ShapesAre Laid.NoRoom (bySlot s) shapes₀ shapes bounds parts
     first-over P = let z = both-number in omega (arith, z, P)
 
-    pub second-over : SlotsLaid (Stored.Count m) 0 f 1024 0 shapes₀ shapes₁ parts₀ parts₁ → SlotsLaid Stored.NoRoom 1 g 1024 m shapes₁ shapes parts₁ parts → ShapesAre Laid.NoRoom (bySlot s) shapes₀ shapes bounds parts
+    pub second-over : SlotsLaid (Stored.Count m) 0 f 1024 0 shapes₀ shapes₁ parts₀ parts₁ → SlotsLaid Stored.NoRoom 1 g 1024 m shapes₁ shapes parts₁ parts →
+        ShapesAre Laid.NoRoom (bySlot s) shapes₀ shapes bounds parts
     unfolding capacity
     second-over P Q =
         let z = both-number in
@@ -197,36 +211,41 @@ module _ (f g : ℕ → List Trapezoid) (b : ℕ → Rect) (s : ℕ → Shape) (
 
 -- ---- what the calls leave
 
-module _ (bytes rows places : List ℕ) (kinds : ℕ) (shapes₀ shapes₁ : List Float) (parts₀ parts₁ : List ℕ) (r : Stored) where
+module _ (f : Frame) (bytes rows places : List ℕ) (kinds : ℕ) (shapes₀ shapes₁ : List Float) (parts₀ parts₁ : List ℕ) (r : Stored) where
   abbrev FirstPass : Type 0
-  FirstPass = SlotsLaid r 0 (slotStrips bytes rows places kinds 0) 1024 0 shapes₀ shapes₁ parts₀ parts₁
+  FirstPass = SlotsLaid r 0 (slotStrips f bytes rows places kinds 0) 1024 0 shapes₀ shapes₁ parts₀ parts₁
 
-  told : (t : Stored) → FirstPass → r ≡ t → SlotsLaid t 0 (slotStrips bytes rows places kinds 0) 1024 0 shapes₀ shapes₁ parts₀ parts₁
-  told t P e = subst (λ (x : Stored). SlotsLaid x 0 (slotStrips bytes rows places kinds 0) 1024 0 shapes₀ shapes₁ parts₀ parts₁) e P
+  told : (t : Stored) → FirstPass → r ≡ t → SlotsLaid t 0 (slotStrips f bytes rows places kinds 0) 1024 0 shapes₀ shapes₁ parts₀ parts₁
+  told t P e = subst (λ (x : Stored). SlotsLaid x 0 (slotStrips f bytes rows places kinds 0) 1024 0 shapes₀ shapes₁ parts₀ parts₁) e P
 
   pub first-fits : (m : ℕ) → FirstPass → r ≡ Stored.Count m → 6 * m ≤ length shapes₀
   first-fits m P e = let p = told (Stored.Count m) P e in omega (arith, p .1)
 
   module _ (shapes bounds : List Float) (parts : List ℕ) where
-    pub none-laid : FirstPass → r ≡ Stored.NoRoom → ShapesAre Laid.NoRoom (bySlot (slotOf bytes rows places kinds)) shapes₀ shapes bounds parts
+    pub none-laid : FirstPass → r ≡ Stored.NoRoom → ShapesAre Laid.NoRoom (bySlot (slotOf f bytes rows places kinds)) shapes₀ shapes bounds parts
     unfolding slotOf
     none-laid P e =
-        first-over (slotStrips bytes rows places kinds 0) (slotStrips bytes rows places kinds 1) (slotBounds bytes rows places kinds) (slotOf bytes rows places kinds) (λ i. refl) (λ i. refl) (λ i. refl) shapes₀ shapes₁ shapes bounds bounds parts₀ parts₁ parts 0 0
+        first-over (slotStrips f bytes rows places kinds 0) (slotStrips f bytes rows places kinds 1) (slotBounds f bytes rows places kinds)
+        (slotOf f bytes rows places kinds) (λ i. refl) (λ i. refl) (λ i. refl) shapes₀ shapes₁ shapes bounds bounds parts₀ parts₁ parts 0 0
         (told Stored.NoRoom P e)
 
-    module _ (m : ℕ) (P : FirstPass) (e : r ≡ Stored.Count m) (t : Stored) (Q : SlotsLaid t 1 (slotStrips bytes rows places kinds 1) 1024 m shapes₁ shapes parts₁ parts) where
-      pub some-laid : t ≡ Stored.NoRoom → ShapesAre Laid.NoRoom (bySlot (slotOf bytes rows places kinds)) shapes₀ shapes bounds parts
+    module _ (m : ℕ) (P : FirstPass) (e : r ≡ Stored.Count m) (t : Stored) (Q : SlotsLaid t 1 (slotStrips f bytes rows places kinds 1) 1024 m shapes₁ shapes
+        parts₁ parts) where
+      pub some-laid : t ≡ Stored.NoRoom → ShapesAre Laid.NoRoom (bySlot (slotOf f bytes rows places kinds)) shapes₀ shapes bounds parts
       unfolding slotOf
       some-laid d =
-          second-over (slotStrips bytes rows places kinds 0) (slotStrips bytes rows places kinds 1) (slotBounds bytes rows places kinds) (slotOf bytes rows places kinds) (λ i. refl) (λ i. refl) (λ i. refl) shapes₀ shapes₁ shapes bounds bounds parts₀ parts₁ parts m 0
+          second-over (slotStrips f bytes rows places kinds 0) (slotStrips f bytes rows places kinds 1) (slotBounds f bytes rows places kinds)
+          (slotOf f bytes rows places kinds) (λ i. refl) (λ i. refl) (λ i. refl) shapes₀ shapes₁ shapes bounds bounds parts₀ parts₁ parts m 0
           (told (Stored.Count m) P e)
-          (subst (λ (x : Stored). SlotsLaid x 1 (slotStrips bytes rows places kinds 1) 1024 m shapes₁ shapes parts₁ parts) d Q)
+          (subst (λ (x : Stored). SlotsLaid x 1 (slotStrips f bytes rows places kinds 1) 1024 m shapes₁ shapes parts₁ parts) d Q)
 
-      pub both-laid : (n : ℕ) (bounds₀ : List Float) → t ≡ Stored.Count n → BoundsTo (slotBounds bytes rows places kinds) 1024 bounds₀ bounds → length parts ≡ 4096 → length bounds ≡ 4096
-          → ShapesAre (Laid.Strips m n) (bySlot (slotOf bytes rows places kinds)) shapes₀ shapes bounds parts
+      pub both-laid : (n : ℕ) (bounds₀ : List Float) → t ≡ Stored.Count n → BoundsTo (slotBounds f bytes rows places kinds) 1024 bounds₀ bounds → length parts ≡
+          4096 → length bounds ≡ 4096
+          → ShapesAre (Laid.Strips m n) (bySlot (slotOf f bytes rows places kinds)) shapes₀ shapes bounds parts
       unfolding slotOf
       both-laid n bounds₀ d B k l =
-          all-laid (slotStrips bytes rows places kinds 0) (slotStrips bytes rows places kinds 1) (slotBounds bytes rows places kinds) (slotOf bytes rows places kinds) (λ i. refl) (λ i. refl) (λ i. refl) shapes₀ shapes₁ shapes bounds₀ bounds parts₀ parts₁ parts m n
+          all-laid (slotStrips f bytes rows places kinds 0) (slotStrips f bytes rows places kinds 1) (slotBounds f bytes rows places kinds)
+          (slotOf f bytes rows places kinds) (λ i. refl) (λ i. refl) (λ i. refl) shapes₀ shapes₁ shapes bounds₀ bounds parts₀ parts₁ parts m n
           (told (Stored.Count m) P e)
-          (subst (λ (x : Stored). SlotsLaid x 1 (slotStrips bytes rows places kinds 1) 1024 m shapes₁ shapes parts₁ parts) d Q)
+          (subst (λ (x : Stored). SlotsLaid x 1 (slotStrips f bytes rows places kinds 1) 1024 m shapes₁ shapes parts₁ parts) d Q)
           B k l

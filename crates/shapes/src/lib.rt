@@ -11,6 +11,7 @@ ghost use lib.ListN.{length};
 ghost use Rattle.filling.specs.State.{bySlot};
 ghost use Rattle.shapes.specs.slots.inner.Slots.{slotOf};
 ghost use Rattle.shapes.specs.inner.ShapeRooms.{ShapesAre};
+use frames::Frame;
 use strips::Stored;
 
 // How many apart strips and inset strips were laid, or that they exceed the room (document 01's 20).
@@ -29,9 +30,10 @@ pub fn lay_shapes(
     shapes: &mut [f64],
     inset_bounds: &mut [f64],
     parts: &mut [usize],
+    f: Frame,
 ) -> ShapesLaid
     requires { ⌜ (256 ≤ length (now rows)) × (2048 ≤ length (now places)) × (length (now «inset_bounds») ≡ 4096) × (length (now parts) ≡ 4096) ⌝ }
-    ensures { λ r. ⌜ ShapesAre r (bySlot (slotOf (now (bytes .entry)) (now (rows .entry)) (now (places .entry)) kinds)) (now (shapes .entry))
+    ensures { λ r. ⌜ ShapesAre r (bySlot (slotOf f (now (bytes .entry)) (now (rows .entry)) (now (places .entry)) kinds)) (now (shapes .entry))
         (now (shapes .exit)) (now («inset_bounds» .exit)) (now (parts .exit)) ⌝ }
 {
     let mut points = [0.0; 1024];
@@ -55,6 +57,7 @@ pub fn lay_shapes(
         shapes,
         0,
         parts,
+        f,
     ) {
         Stored::Count(n) => n,
         Stored::NoRoom => {
@@ -76,6 +79,7 @@ pub fn lay_shapes(
         shapes,
         apart,
         parts,
+        f,
     ) {
         Stored::Count(n) => n,
         Stored::NoRoom => {
@@ -90,6 +94,7 @@ pub fn lay_shapes(
         &mut points,
         &mut ends,
         inset_bounds,
+        f,
     );
     ShapesLaid::Strips(apart, inset)
 }

@@ -1,12 +1,14 @@
-// The strips and the bounds of a job's set, read from the job's bytes. Only crates of ours call
-// these functions, so they may require that the work tables are long enough.
+// The strips and the bounds of a job's set in the job's frame, read from the job's bytes. Only crates
+// of ours call these functions, so they may require that the work tables are long enough.
 ghost use mathlib.Core.Path.{_≡_};
 ghost use Prim.Native.Nat.{ℕ, _+_, _*_, _≤_, _<_};
 ghost use lib.ListN.{length, getD, take};
 ghost use Rattle.filling.specs.Shapes.{setBounds};
 ghost use Rattle.shapes.specs.set_strips.inner.SetStrips.{stripsAt};
 ghost use Rattle.strips.specs.inner.Tables.{Stowed, stripsStored};
+ghost use Rattle.frames.specs.Frames.{framed};
 ghost use Rattle.kinds.specs.sets.inner.Answers.{setAt};
+use frames::Frame;
 use kinds::sets::SetRead;
 use strips::Rect;
 use strips::Stored;
@@ -37,12 +39,13 @@ pub fn set_strips(
     line: &mut [f64],
     room: &mut [f64],
     from: usize,
+    f: Frame,
 ) -> Stored
     requires { ⌜ (1024 ≤ length (now points)) × (64 ≤ length (now ends)) × (64 ≤ length (now short)) × (3072 ≤ length (now es)) × (1536 ≤ length (now rows))
         × (514 ≤ length (now line)) × (6 * from ≤ length (now room)) ⌝ }
-    ensures { λ r. ⌜ record { answer = r; room = now (room .exit) } ≡ stripsStored (stripsAt (now (bytes .entry)) at sheet) (now (room .entry)) from ⌝ }
+    ensures { λ r. ⌜ record { answer = r; room = now (room .exit) } ≡ stripsStored (stripsAt f (now (bytes .entry)) at sheet) (now (room .entry)) from ⌝ }
 {
-    match kinds::sets::read_set(bytes, at, points, ends) {
+    match frames::read_set(f, bytes, at, points, ends) {
         SetRead::Loops(n, m, _) => {
             shorten(ends, n, short);
             let end = 2 * m;
@@ -63,11 +66,11 @@ pub fn set_strips(
 }
 
 // The bounds of the set at a bit position; NaN where there is no set.
-pub fn set_bounds(bytes: &[u8], at: u32, points: &mut [f64], ends: &mut [usize]) -> Rect
+pub fn set_bounds(bytes: &[u8], at: u32, points: &mut [f64], ends: &mut [usize], f: Frame) -> Rect
     requires { ⌜ (1024 ≤ length (now points)) × (64 ≤ length (now ends)) ⌝ }
-    ensures { λ r. ⌜ r ≡ setBounds (setAt (now (bytes .entry)) at) ⌝ }
+    ensures { λ r. ⌜ r ≡ setBounds (framed f (setAt (now (bytes .entry)) at)) ⌝ }
 {
-    match kinds::sets::read_set(bytes, at, points, ends) {
+    match frames::read_set(f, bytes, at, points, ends) {
         SetRead::Loops(_, m, _) => {
             let end = 2 * m;
             strips::bounds(&points[..end], m)

@@ -9,6 +9,7 @@ ghost use Rattle.filling.specs.State.{boundsAt};
 ghost use Rattle.shapes.specs.slots.inner.Slots.{inUse, slotStrips, slotBounds, SlotsLaid, BoundsTo};
 ghost use Rattle.strips.specs.inner.Tables.{Stowed, stripsStored};
 use crate::set_strips;
+use frames::Frame;
 use strips::Rect;
 use strips::Stored;
 
@@ -41,12 +42,13 @@ fn slot_strips(
     line: &mut [f64],
     shapes: &mut [f64],
     from: usize,
+    f: Frame,
 ) -> Stored
     requires { ⌜ (256 ≤ length (now rows)) × (2048 ≤ length (now places)) × (which < 2) × (i < 1024) × (1024 ≤ length (now points)) × (64 ≤ length (now ends))
         × (64 ≤ length (now short)) × (3072 ≤ length (now es)) × (1536 ≤ length (now crossings)) × (514 ≤ length (now line))
         × (6 * from ≤ length (now shapes)) ⌝ }
-    ensures { λ r. ⌜ record { answer = r; room = now (shapes .exit) } ≡ stripsStored (slotStrips (now (bytes .entry)) (now (rows .entry)) (now (places .entry))
-        kinds which i) (now (shapes .entry)) from ⌝ }
+    ensures { λ r. ⌜ record { answer = r; room = now (shapes .exit) } ≡ stripsStored (slotStrips f (now (bytes .entry)) (now (rows .entry))
+        (now (places .entry)) kinds which i) (now (shapes .entry)) from ⌝ }
 {
     if in_use(rows, kinds, i) {
         let at = places[2 * i + which];
@@ -62,6 +64,7 @@ fn slot_strips(
             line,
             shapes,
             from,
+            f,
         );
     }
     Stored::Count(0)
@@ -85,11 +88,12 @@ pub fn lay_slots(
     shapes: &mut [f64],
     from: usize,
     parts: &mut [usize],
+    f: Frame,
 ) -> Stored
     requires { ⌜ (256 ≤ length (now rows)) × (2048 ≤ length (now places)) × (which < 2) × (1024 ≤ length (now points)) × (64 ≤ length (now ends))
         × (64 ≤ length (now short)) × (3072 ≤ length (now es)) × (1536 ≤ length (now crossings)) × (514 ≤ length (now line)) × (6 * from ≤ length (now shapes))
         × (4096 ≤ length (now parts)) ⌝ }
-    ensures { λ r. ⌜ SlotsLaid r which (slotStrips (now (bytes .entry)) (now (rows .entry)) (now (places .entry)) kinds which) 1024 from (now (shapes .entry))
+    ensures { λ r. ⌜ SlotsLaid r which (slotStrips f (now (bytes .entry)) (now (rows .entry)) (now (places .entry)) kinds which) 1024 from (now (shapes .entry))
         (now (shapes .exit)) (now (parts .entry)) (now (parts .exit)) ⌝ }
 {
     let mut i: usize = 0;
@@ -110,6 +114,7 @@ pub fn lay_slots(
             line,
             shapes,
             held,
+            f,
         ) {
             Stored::Count(n) => {
                 let at = 4 * i + 2 * which;
@@ -135,13 +140,14 @@ fn slot_bounds(
     i: usize,
     points: &mut [f64],
     ends: &mut [usize],
+    f: Frame,
 ) -> Rect
     requires { ⌜ (256 ≤ length (now rows)) × (2048 ≤ length (now places)) × (i < 1024) × (1024 ≤ length (now points)) × (64 ≤ length (now ends)) ⌝ }
-    ensures { λ r. ⌜ r ≡ slotBounds (now (bytes .entry)) (now (rows .entry)) (now (places .entry)) kinds i ⌝ }
+    ensures { λ r. ⌜ r ≡ slotBounds f (now (bytes .entry)) (now (rows .entry)) (now (places .entry)) kinds i ⌝ }
 {
     if in_use(rows, kinds, i) {
         let at = places[2 * i + 1];
-        return set_strips::set_bounds(bytes, at, points, ends);
+        return set_strips::set_bounds(bytes, at, points, ends, f);
     }
     Rect {
         left: 0.0,
@@ -172,15 +178,16 @@ pub fn lay_bounds(
     points: &mut [f64],
     ends: &mut [usize],
     table: &mut [f64],
+    f: Frame,
 )
     requires { ⌜ (256 ≤ length (now rows)) × (2048 ≤ length (now places)) × (1024 ≤ length (now points)) × (64 ≤ length (now ends))
         × (4096 ≤ length (now table)) ⌝ }
-    ensures { λ _. ⌜ BoundsTo (slotBounds (now (bytes .entry)) (now (rows .entry)) (now (places .entry)) kinds) 1024 (now (table .entry))
+    ensures { λ _. ⌜ BoundsTo (slotBounds f (now (bytes .entry)) (now (rows .entry)) (now (places .entry)) kinds) 1024 (now (table .entry))
         (now (table .exit)) ⌝ }
 {
     let mut i: usize = 0;
     while i < 1024 {
-        let b = slot_bounds(bytes, rows, places, kinds, i, points, ends);
+        let b = slot_bounds(bytes, rows, places, kinds, i, points, ends, f);
         put_bounds(table, i, b);
         i += 1;
     }

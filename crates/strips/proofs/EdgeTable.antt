@@ -2,10 +2,10 @@
 use Prim.Native.Nat.{ℕ, zero, suc, _+_, _-_, _*_, _≤_, _<_}
 use native.Mathlib.Omega.{arith}
 use native.Mathlib.Numerals.{add-one}
-use mathlib.Core.Path.{_≡_, refl, ap, _∙_}
+use mathlib.Core.Path.{_≡_, refl, sym, ap, _∙_}
 use mathlib.Core.List.{List, [], _∷_, _++_, append-assoc}
-use lib.ListN.{length, getD, set, drop, length-set, drop-of-length-le}
-use lib.Seq.{getD-set-same, getD-set-other, drop-cons}
+use lib.ListN.{length, getD, set, take, drop, length-set, drop-of-length-le}
+use lib.Seq.{getD-set-same, getD-set-other, drop-cons, take-suc, take-suc-set}
 use lib.Ieee.{Float, nan}
 use Rattle.slab.specs.declared.Edge.{Edge}
 use Rattle.slab.specs.Slab.{up}
@@ -114,6 +114,13 @@ module _ (ends : List ℕ) (first n i : ℕ) (h : i < length ends) where
   pub edges-next : (pts : List Float) (a b : List Edge) → b ≡ a ++ loopEdges pts first first (getD ends i 0 - first) → b ++ edges pts (getD ends i 0) (drop (i + 1) ends) ≡ a ++ edges pts first (drop i ends)
   unfolding edges
   edges-next pts a b e = rw (e, add-one i, drop-cons ends i 0 h, append-assoc)
+
+-- ---- the ends of loops, stored one after the other
+pub ends-stored : (copy ends : List ℕ) (i : ℕ) → i < length copy → i < length ends → take i copy ≡ take i ends
+    → take (i + 1) (set copy i (getD ends i 0)) ≡ take (i + 1) ends
+ends-stored copy ends i a b e =
+    let f : i + 1 ≡ suc i = add-one i in
+    rw f (take-suc-set copy i (getD ends i 0) a ∙ ap (λ (l : List ℕ). l ++ (getD ends i 0 ∷ [])) e ∙ sym (take-suc ends i 0 b))
 
 append-nil : {A : Type 0} (l : List A) → l ++ [] ≡ l
 append-nil [] = refl

@@ -1,12 +1,14 @@
-// Replays sets of loops: for each set of the input its strips and its bounds, by their bits. A set is
-// a head of 132 bytes (1 for the sheet, number of loops, number of points in two bytes, then two
-// bytes for the end of each of 64 loops), then each point's x and y by their bits, 16 bytes. The
-// stored answers are those of the lifted Rust (oracle/samples/strips.py), never of this code.
+// Replays sets of loops: for each set of the input its strips and its bounds in a frame, by their
+// bits. A set is a head of 132 bytes (1 for the sheet, plus twice the corner, plus 8 along x; number
+// of loops; number of points in two bytes; then two bytes for the end of each of 64 loops), then each
+// point's x and y by their bits, 16 bytes. The stored answers are those of the lifted Rust
+// (oracle/samples/strips.py), never of this code.
 ghost use mathlib.Core.Path.{_≡_};
 ghost use mathlib.Core.Bool.{true};
 ghost use Prim.Native.Nat.{_+_, _*_, _≤_, _<_};
-ghost use lib.ListN.{length};
+ghost use lib.ListN.{length, take};
 ghost use Rattle.strips.specs.inner.Tables.{Loops};
+use frames::Frame;
 
 fn wide(x: u8) -> u64
     ensures { λ r. ⌜ r < 256 ⌝ }
@@ -174,14 +176,46 @@ fn show_refusal() {
     io::write_all(1, b"no 20\n");
 }
 
-// The strips and bounds of what may be a set.
-fn try_set(points: &[f64], n: usize, ends: &[u16], sheet: bool)
-    requires { ⌜ (n ≤ 512) × (2 * n ≤ length (now points)) ⌝ }
+// The loop ends, as `frames` takes them.
+fn lengthen(ends: &[u16], long: &mut [usize])
+    requires { ⌜ length (now ends) ≤ length (now long) ⌝ }
+    ensures { λ _. ⌜ take (length (now (ends .entry))) (now (long .exit)) ≡ now (ends .entry) ⌝ }
+{
+    let mut i = 0;
+    while i < ends.len() {
+        long[i] = ends[i] as usize;
+        i += 1;
+    }
+}
+
+// The points of a set go through the frame.
+fn frame_points(f: Frame, points: &mut [f64], n: usize, ends: &[u16])
+    requires { ⌜ (2 * n ≤ length (now points)) × (length (now ends) ≤ 64) × Loops 0 (now ends) n ⌝ }
+{
+    let mut long = [0usize; 64];
+    let count = ends.len();
+    lengthen(ends, &mut long);
+    frames::frame_set(f, points, n, &long[..count]);
+}
+
+// The strips and bounds of what may be a set, in the frame.
+fn try_set(f: Frame, points: &mut [f64], n: usize, ends: &[u16], sheet: bool)
+    requires { ⌜ (n ≤ 512) × (2 * n ≤ length (now points)) × (length (now ends) ≤ 64) ⌝ }
 {
     if n > 0 {
         if loops_lie(ends, n) {
+            frame_points(f, points, n, ends);
             replay(points, n, ends, sheet);
         }
+    }
+}
+
+// The frame of a head's first byte.
+fn frame_of(x: u8) -> Frame {
+    let k = wide(x);
+    Frame {
+        corner: k / 2 % 4,
+        axis: 1 - k / 8 % 2,
     }
 }
 
@@ -216,8 +250,9 @@ fn turn(left: u64) -> u64
     let n = points_of(&head);
     read_points(n, &mut points);
     take_ends(&head, loops, &mut ends);
-    let sheet = head[0] == 1;
-    try_set(&points, n, &ends[..loops], sheet);
+    let sheet = head[0] % 2 == 1;
+    let f = frame_of(head[0]);
+    try_set(f, &mut points, n, &ends[..loops], sheet);
     if got < 132 { 0 } else { left - 1 }
 }
 

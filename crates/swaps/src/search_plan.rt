@@ -8,7 +8,7 @@ ghost use Prim.Native.Nat.{ℕ, _*_, _≤_, _<_};
 ghost use lib.ListN.{length, getD};
 ghost use lib.Ieee.{Float};
 ghost use Rattle.numbers.specs.Numbers.{posZero};
-ghost use Rattle.job.specs.Jobs.{Job};
+ghost use Rattle.job.specs.Jobs.{Job, frameOf};
 ghost use Rattle.filling.specs.declared.Verdict.the-variants.{Accepted};
 ghost use Rattle.filling.specs.Shapes.{plannerOf};
 ghost use Rattle.filling.specs.Rooms.{Lent, zeros};
@@ -26,8 +26,10 @@ ghost use Rattle.swaps.specs.inner.Turns.{roundsFor};
 ghost use Rattle.swaps.specs.search_plan.inner.Tabled.{givenBy};
 use better::Round;
 use filling::Tables;
+use frames::Frame;
 use index::Bucket;
 use index::Entry;
+use job::Header;
 use report::NestResult;
 
 // Two halves for tracks.
@@ -138,6 +140,7 @@ fn report_kept(
     tracks: &[usize],
     spots: &[f64],
     positions: &mut [f64],
+    f: Frame,
 ) -> NestResult
     requires { ⌜ (kinds ≤ 64) × (256 ≤ length (now rows)) × (4096 ≤ length (now parts))
         × (r .verdict ≡ Accepted → (i : ℕ) → i < length (now order) → getD (now order) i 0 < kinds)
@@ -145,7 +148,7 @@ fn report_kept(
         × (r .best .kept ≤ 1) × (2 * trackNumbers ≤ length (now tracks)) × (2 * spotNumbers ≤ length (now spots)) ⌝ }
     ensures { λ q. ⌜ ((j : Job) (areas : List Float) (l : Lent) → Tabled j (now (rows .entry)) areas → length (j .kinds) ≡ kinds
         → plannerOf j .bounds .right ≡ «sheet_right» → Parted (plannerOf j) (now (parts .entry)) (now (shapes .entry))
-        → now (positions .entry) ≡ zeros posZero (l .positions)
+        → now (positions .entry) ≡ zeros posZero (l .positions) → frameOf (j .header) ≡ f
         → reply q (now (positions .exit)) ≡ replyOf (nested j l
         (swapsIn (r .verdict) (r .best) (plannerOf j) (now (order .entry)) (now (tracks .entry)) (now (spots .entry))))) ⌝ }
 {
@@ -182,14 +185,15 @@ fn report_kept(
         sheet_right,
         best.improvements,
         positions,
+        f,
     )
 }
 
-// The swap search of a job's tables over the copies in the given order, and its plan.
+// The swap search of the tables of the job with the header h over the copies in the given order, and
+// its plan.
 pub fn search_plan(
     tables: Tables,
-    kinds: usize,
-    seed: u64,
+    h: Header,
     n: usize,
     order: &mut [usize],
     rows: &[u64],
@@ -206,13 +210,13 @@ pub fn search_plan(
     placed_firsts: &mut [Bucket],
 ) -> NestResult
     requires { ⌜ ((j : Job) × Prepared j (givenBy tables (now rows) (now areas) (now shapes) (now sheet) (now «sheet_entries») (now «sheet_starts»))
-        × (rearranged j (now order) ≡ true) × (length (j .kinds) ≡ kinds))
+        × (rearranged j (now order) ≡ true) × (length (j .kinds) ≡ h .kinds))
         × (6 * tables .«sheet_strips» ≤ length (now sheet)) × (6 * tables .«apart_strips» ≤ length (now shapes))
         × (6 * length (now order) ≤ length (now positions)) × (n < 4096)
         × SheetFirsts (givenBy tables (now rows) (now areas) (now shapes) (now sheet) (now «sheet_entries») (now «sheet_starts»)) (now «sheet_firsts») ⌝ }
     ensures { λ r. ⌜ ((j : Job) (l : Lent) → Prepared j (givenBy tables (now (rows .entry)) (now (areas .entry)) (now (shapes .entry)) (now (sheet .entry))
         (now («sheet_entries» .entry)) (now («sheet_starts» .entry)))
-        → rearranged j (now (order .entry)) ≡ true → length (j .kinds) ≡ kinds → j .header .seed ≡ seed
+        → rearranged j (now (order .entry)) ≡ true → length (j .kinds) ≡ h .kinds → j .header ≡ h
         → length (l .rooms .placed) ≡ length (now (placed .entry)) → length (l .rooms .placed-entries) ≡ length (now («placed_entries» .entry))
         → length (l .intervals) ≡ length (now (intervals .entry)) → length (l .rooms .placed-firsts) ≡ length (now («placed_firsts» .entry))
         → now (positions .entry) ≡ zeros posZero (l .positions)
@@ -225,7 +229,7 @@ pub fn search_plan(
     let bounds = tables.sheet_bounds;
     let r = search(
         tables,
-        seed,
+        h.seed,
         n,
         order,
         rows,
@@ -242,9 +246,10 @@ pub fn search_plan(
         sheet_firsts,
         placed_firsts,
     );
+    let f = job::frame_of(h);
     report_kept(
         r,
-        kinds,
+        h.kinds as usize,
         bounds.right,
         order,
         rows,
@@ -253,5 +258,6 @@ pub fn search_plan(
         &tracks,
         &spots,
         positions,
+        f,
     )
 }

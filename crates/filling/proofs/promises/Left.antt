@@ -1,7 +1,7 @@
 -- No number is left that is not finite, or minus zero: by a start, by every list of calls after it, by a filling. Assumes nothing.
 use mathlib.Core.Path.{_≡_, refl, sym, ap, subst}
 use mathlib.Core.Bool.{Bool, true, false}
-use mathlib.Core.List.{List, [], _∷_, flatMap}
+use mathlib.Core.List.{List, [], _∷_, map, flatMap}
 use Prim.Native.Nat.{ℕ, zero, suc, _+_, _*_, _≤_, _<_}
 use native.Mathlib.Nat.{le-trans}
 use native.Mathlib.Omega.{arith}
@@ -10,12 +10,14 @@ use lib.Dec.{lit≤, eqb}
 use lib.Ieee.{Float, nan, binary64, le}
 use Rattle.numbers.specs.Numbers.{_⊖_, posZero, fromInt}
 use Rattle.numbers.proofs.Ranges.{int-num}
-use Rattle.numbers.proofs.Doubles.{Number, Small}
+use Rattle.numbers.proofs.Doubles.{Number, Small, finite}
 use Rattle.trapezoid.specs.Strip.{stripAt, capacity}
 use Rattle.slab.proofs.Merging.{All, all-append}
 use Rattle.strips.specs.declared.Rect.{Rect}
 use Rattle.index.specs.Buckets.{upFrom}
-use Rattle.job.specs.Jobs.{Job, Answer, accepted, refused, readJob}
+use Rattle.frames.specs.declared.Frame.{Frame}
+use Rattle.frames.proofs.Turned.{from-number}
+use Rattle.job.specs.Jobs.{Job, frameOf, Answer, accepted, refused, readJob}
 use Rattle.job.proofs.Accepted.{job-good}
 use Rattle.filling.specs.declared.State.{State}
 use Rattle.filling.specs.declared.Plan.{Plan}
@@ -28,7 +30,8 @@ use Rattle.filling.specs.Rooms.{Rooms, Lent}
 use Rattle.filling.specs.State.{plannerAt, standsAt, standingTo, standingOf}
 use Rattle.filling.specs.Start.{firstState, firstRooms, startVerdict, noStart, goodStart, startJob, startGiven, startOf}
 use Rattle.filling.specs.NextCopy.{nextCopyOf}
-use Rattle.filling.specs.Accounts.{Position, positionsOfKind, positions, flatPositions, reachOf, notBelowZero, offcutOf, planOf, noPlan}
+use Rattle.filling.specs.Accounts.{Position, positionsOfKind, framedPositions, placeOnSheet, onSheet, positions}
+use Rattle.filling.specs.Accounts.{flatPositions, reachOf, notBelowZero, offcutOf, planOf, noPlan}
 use Rattle.filling.specs.Fill.{Filling, filled, stopped, fillOrder, Planned, notPlanned, plannedWith, plannedBy, fillJob, fillGiven, fillOf}
 use Rattle.filling.specs.Calls.{Call, afterCalls}
 use Rattle.filling.specs.Plain.{Plain, plainStart, plainCalls}
@@ -44,11 +47,19 @@ use Rattle.filling.proofs.promises.Offcut.{Reaches, reaches, left-numbe
 
 -- ---- a start
 
-start-left : (bytes order : List ℕ) (l : Lent) (j : Job) → readJob bytes ≡ accepted j → (v : Verdict) → startVerdict j order l ≡ v → StateNumbers (startJob j order l .state) × LentNumbers (startJob j order l .lent)
+start-left : (bytes order : List ℕ) (l : Lent) (j : Job) → readJob bytes ≡ accepted j → (v : Verdict) → startVerdict j order l ≡ v → StateNumbers
+    (startJob j order l .state) × LentNumbers (startJob j order l .lent)
 unfolding goodStart noStart
 start-left bytes order l j e Accepted d =
     let g = job-good bytes j e .good in
-    rw (start-good j order l d) (first-numbers j g order, record { rooms = first-rooms j g (l .rooms); intervals = all-zeros (l .intervals); positions = all-zeros (l .positions) })
+    rw (start-good j order l d) (
+      first-numbers j g order,
+      record {
+        rooms = first-rooms j g (l .rooms);
+        intervals = all-zeros (l .intervals);
+        positions = all-zeros (l .positions);
+      },
+    )
 start-left bytes order l j e (Refused k) d = rw (start-refused j order l k d) (zero-state, only-positions l [] tt)
 
 -- whatever the bytes, the order and the rooms
@@ -67,7 +78,8 @@ pub calls-numbers : (bytes order : List ℕ) (l : Lent) (j : Job) → readJob by
     → let r = afterCalls bytes calls (startOf bytes order l .state) (startOf bytes order l .lent .rooms) in StateNumbers (r .state) × RoomNumbers (r .rooms)
 calls-numbers bytes order l j e v calls =
     let a = start-accepted bytes order l j e v in
-    let h = calls-keep j (Held bytes j e order) (λ s w q h. h .own .kept .linked) (held-took bytes j e order) bytes e calls (firstState (plannerOf j) order) (firstRooms (plannerOf j) (l .rooms)) (plainStart (plannerOf j) order) (held-start bytes j e order l (a .verdict-is)) in
+    let h = calls-keep j (Held bytes j e order) (λ s w q h. h .own .kept .linked) (held-took bytes j e order) bytes e calls (firstState (plannerOf j) order)
+    (firstRooms (plannerOf j) (l .rooms)) (plainStart (plannerOf j) order) (held-start bytes j e order l (a .verdict-is)) in
     rw (a .state-is, a .rooms-is) (h .sound .numbers, h .sound .rooms)
 
 -- a single step's interval room, whatever the step
@@ -106,7 +118,8 @@ module _ (s : State) (h : StateNumbers s) (lx : length (s .layout .x) ≡ 4096) 
   standing-numbers : (n : ℕ) → n ≤ 4096 → All StandNumbers (standingTo s n)
   unfolding standingTo
   standing-numbers zero b = tt
-  standing-numbers (suc n) b = all-append StandNumbers (standingTo s n) (standsAt s n (getD (s .layout .orientation) n 0)) (standing-numbers n (omega arith)) (stands-numbers n (getD (s .layout .orientation) n 0) (omega arith) (us n))
+  standing-numbers (suc n) b = all-append StandNumbers (standingTo s n) (standsAt s n (getD (s .layout .orientation) n 0)) (standing-numbers n (omega arith))
+      (stands-numbers n (getD (s .layout .orientation) n 0) (omega arith) (us n))
 
 whole-number : (n : ℕ) → n ≤ 5000 → Number (fromInt n)
 whole-number n b = int-num binary64 n (le-trans b (lit≤ tt)) .0
@@ -126,27 +139,50 @@ of-kind k n [] b l h = tt
 of-kind k n (c ∷ cs) b l h = go (eqb (c .copy .kind) k) (of-kind k (suc n) cs b (omega arith) (h .1)) (of-kind k n cs b (omega arith) (h .1))
   where
     go : (t : Bool) → All PositionNumbers (positionsOfKind k (suc n) cs) → All PositionNumbers (positionsOfKind k n cs)
-        → All PositionNumbers (elim t [ true ↦ record { kind = k; copy = n; orientation = c .orientation; x = c .x; y = c .y; gap = c .gap } ∷ positionsOfKind k (suc n) cs | false ↦ positionsOfKind k n cs ])
+        → All PositionNumbers (elim t [
+          | true ↦ record { kind = k; copy = n; orientation = c .orientation; x = c .x; y = c .y; gap = c .gap } ∷ positionsOfKind k
+              (suc n) cs
+          | false ↦ positionsOfKind k n cs
+        ])
     go true a d =
         let f = h .0 in
         (record { kind = omega arith; copy = omega arith; orientation = le-trans (f .orientation) (lit≤ tt); x = f .x; y = f .y; gap = f .gap }, a)
     go false a d = d
 
-kinds-positions : (cs : List Standing) → length cs ≤ 5000 → All StandNumbers cs → (n c : ℕ) → c + n ≤ 64 → All PositionNumbers (flatMap (λ k. positionsOfKind k 0 cs) (upFrom n c))
+kinds-positions : (cs : List Standing) → length cs ≤ 5000 → All StandNumbers cs → (n c : ℕ) → c + n ≤ 64 → All PositionNumbers
+    (flatMap (λ k. positionsOfKind k 0 cs) (upFrom n c))
 unfolding flatMap upFrom
 kinds-positions cs l h zero c b = tt
-kinds-positions cs l h (suc n) c b = all-append PositionNumbers (positionsOfKind c 0 cs) (flatMap (λ k. positionsOfKind k 0 cs) (upFrom n (suc c))) (of-kind c 0 cs (omega arith) (omega arith) h) (kinds-positions cs l h n (suc c) (omega arith))
+kinds-positions cs l h (suc n) c b = all-append PositionNumbers (positionsOfKind c 0 cs) (flatMap (λ k. positionsOfKind k 0 cs) (upFrom n (suc c)))
+    (of-kind c 0 cs (omega arith) (omega arith) h) (kinds-positions cs l h n (suc c) (omega arith))
+
+sheet-numbers : (f : Frame) (ps : List Position) → All PositionNumbers ps → All PositionNumbers (map (onSheet f) ps)
+unfolding onSheet placeOnSheet
+sheet-numbers f [] h = tt
+sheet-numbers f (p ∷ ps) h =
+    let a = h .0 in
+    let q = from-number f (record { x = p .x; y = p .y }) (finite (a .x)) (finite (a .y)) in
+    (record { kind = a .kind; copy = a .copy; orientation = a .orientation; x = q .0; y = q .1; gap = a .gap }, sheet-numbers f ps (h .1))
 
 positions-numbers : (j : Job) (cs : List Standing) → length (j .kinds) ≤ 64 → length cs ≤ 5000 → All StandNumbers cs → All PositionNumbers (positions j cs)
-unfolding positions
-positions-numbers j cs b l h = kinds-positions cs l h (length (j .kinds)) 0 (omega arith)
+unfolding positions framedPositions
+positions-numbers j cs b l h =
+    sheet-numbers (frameOf (j .header)) (framedPositions j cs) (kinds-positions cs l h (length (j .kinds)) 0 (omega arith))
 
 flat-numbers : (ps : List Position) → All PositionNumbers ps → Numbers (flatPositions ps)
 unfolding flatPositions
 flat-numbers [] h = tt
 flat-numbers (p ∷ ps) h =
-    let f = h .0 in
-    (whole-number (p .kind) (f .kind), (whole-number (p .copy) (f .copy), (whole-number (p .orientation) (f .orientation), (f .x, (f .y, (f .gap, flat-numbers ps (h .1)))))))
+    let f = h .0 in (
+      whole-number (p .kind) (f .kind),
+      (
+        whole-number (p .copy) (f .copy),
+        (
+          whole-number (p .orientation) (f .orientation),
+          (f .x, (f .y, (f .gap, flat-numbers ps (h .1)))),
+        ),
+      ),
+    )
 
 -- ---- a filling
 
@@ -211,14 +247,17 @@ module _ (bytes : List ℕ) (j : Job) (e : readJob bytes ≡ accepted j) (order 
       let z = sized bytes j e in
       let t : s .taken ≤ 4096 = (let a = h .own .few in let b = z .few in omega arith) in
       let c : length (standingOf s) ≤ 5000 = unfold standingOf in (let a = stands-few s (s .taken) in omega arith) in
-      let d : All StandNumbers (standingOf s) = unfold standingOf in standing-numbers s N (h .own .kept .linked .xs) (h .own .kept .linked .ys) (h .own .kept .linked .gaps) (h .sound .orientations) (s .taken) t in (
+      let d : All StandNumbers (standingOf s) = unfold standingOf in standing-numbers s N (h .own .kept .linked .xs) (h .own .kept .linked .ys)
+      (h .own .kept .linked .gaps) (h .sound .orientations) (s .taken) t in (
         record { right = N .right; unplaced-area = N .unplaced-area; offcut = offcut-bounds .number; offcut-not-below = offcut-bounds .not-below },
-        only-positions l (flatPositions (positions j (standingOf s))) (flat-numbers (positions j (standingOf s)) (positions-numbers j (standingOf s) (z .kinds) c d)),
+        only-positions l (flatPositions (positions j (standingOf s))) (flat-numbers (positions j (standingOf s))
+            (positions-numbers j (standingOf s) (z .kinds) c d)),
       )
 
 -- the state at the end of a filling, with its rooms
 pub fill-held : (bytes order : List ℕ) (l : Lent) (j : Job) (e : readJob bytes ≡ accepted j) → startVerdict j order l ≡ Accepted
-    → (s : State) → fillOrder j l order ≡ filled s → (w : Rooms) × Held bytes j e order s w (plainCalls (plannerOf j) (replicate (length order) false) (plainStart (plannerOf j) order))
+    → (s : State) → fillOrder j l order ≡ filled s → (w : Rooms) × Held bytes j e order s w
+    (plainCalls (plannerOf j) (replicate (length order) false) (plainStart (plannerOf j) order))
 unfolding fillOrder
 fill-held bytes order l j e v s d =
     fill-keeps j (Held bytes j e order) (λ s w q h. h .own .kept .linked) (held-took bytes j e order) (l .intervals) (length order)
@@ -229,7 +268,8 @@ pub fill-offcut : (bytes order : List ℕ) (l : Lent) (j : Job) → readJob byte
     → (s : State) → fillOrder j l order ≡ filled s → OffcutBounds j s
 fill-offcut bytes order l j e v s d = let k = fill-held bytes order l j e v s d in offcut-bounds bytes j e order s (k .0) _ (k .1)
 
-filling-left : (bytes order : List ℕ) (l : Lent) (j : Job) → readJob bytes ≡ accepted j → startVerdict j order l ≡ Accepted → (f : Filling) → fillOrder j l order ≡ f → PlanNumbers (plannedBy j l f .plan) × LentNumbers (plannedBy j l f .lent)
+filling-left : (bytes order : List ℕ) (l : Lent) (j : Job) → readJob bytes ≡ accepted j → startVerdict j order l ≡ Accepted → (f : Filling) → fillOrder j l
+    order ≡ f → PlanNumbers (plannedBy j l f .plan) × LentNumbers (plannedBy j l f .lent)
 unfolding plannedBy
 filling-left bytes order l j e v (stopped r) d = not-planned r l
 filling-left bytes order l j e v (filled s) d = let k = fill-held bytes order l j e v s d in planned-numbers bytes j e order s (k .0) _ (k .1) l 0
@@ -239,7 +279,8 @@ pub fill-numbers : (bytes order : List ℕ) (l : Lent) → PlanNumbers (fillOf b
 unfolding fillOf
 fill-numbers bytes order l = go (readJob bytes) refl
   where
-    made : (j : Job) → readJob bytes ≡ accepted j → (v : Verdict) → startVerdict j order l ≡ v → PlanNumbers (fillJob j order l .plan) × LentNumbers (fillJob j order l .lent)
+    made : (j : Job) → readJob bytes ≡ accepted j → (v : Verdict) → startVerdict j order l ≡ v → PlanNumbers (fillJob j order l .plan) × LentNumbers
+        (fillJob j order l .lent)
     made j d Accepted a = unfold fillJob in rw (a, fillJob) (filling-left bytes order l j d a (fillOrder j l order) refl)
     made j d (Refused r) a = unfold fillJob in rw (a, fillJob) (not-planned r l)
 

@@ -13,7 +13,8 @@ use Rattle.trapezoid.proofs.Sizes.{small-more}
 use Rattle.slab.proofs.Merging.{All, all-append}
 use Rattle.strips.specs.declared.Rect.{Rect}
 use Rattle.index.specs.Buckets.{upFrom}
-use Rattle.job.specs.Jobs.{Job, accepted, readJob}
+use Rattle.frames.specs.Frames as Frames
+use Rattle.job.specs.Jobs.{Job, frameOf, accepted, readJob}
 use Rattle.job.proofs.Accepted.{GoodJob, job-good}
 use Rattle.filling.specs.declared.State.{State}
 use Rattle.filling.specs.declared.Layout.{Layout}
@@ -34,7 +35,7 @@ use Rattle.filling.specs.Plain.{Plain, plainStart, plainTake}
 use Rattle.filling.proofs.Sizes.{Sized, sized}
 use Rattle.filling.proofs.Reading.{sixteen-get}
 use Rattle.filling.proofs.Numbers31.{Good, Goods, and-good, best-good, row-good}
-use Rattle.filling.proofs.WithinBounds.{jobs-within, framed, resolution-in, shape, area, place, sums}
+use Rattle.filling.proofs.WithinBounds.{sheet-good, jobs-within, framed, resolution-in, shape, area, place, sums}
 use Rattle.filling.proofs.WithinBoundsStrips.{FineShape, all-upFrom, set-numbers}
 use Rattle.filling.proofs.Steps.{Took, ChoicesNow, TracksNow, rows-of-shapes}
 use Rattle.filling.proofs.Never31.{Own, own-took, own-start, without-few}
@@ -60,7 +61,7 @@ module _ (j : Job) (g : GoodJob j) where
 
   sheet-all : Numbers (P .sheet)
   unfolding plannerOf
-  sheet-all = set-numbers (j .sheet) (g .sheetPoints) (g .sheet) true
+  sheet-all = set-numbers (Frames.framed (frameOf (j .header)) (j .sheet)) (g .sheetPoints) (sheet-good j g) true
 
   bounds-all : Numbers (flatBounds (map (λ s. s .bounds) (bySlot (slotShape P))))
   unfolding bySlot

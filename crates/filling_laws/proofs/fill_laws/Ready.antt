@@ -25,8 +25,7 @@ use Rattle.filling.specs.Start.{partsFrom, tablesOf, firstState, firstRooms}
 use Rattle.filling.proofs.Reading.{length-bySlot, length-bounds, kinds-many, parts-length}
 use Rattle.filling.proofs.Sizes.{sized}
 use Rattle.filling.proofs.Begin.{first-linked}
-use Rattle.filling.proofs.WithinBounds.{jobs-within}
-use Rattle.filling.proofs.WithinBoundsStrips.{set-framed}
+use Rattle.filling.proofs.WithinBounds.{jobs-within, framed}
 use Rattle.filling.proofs.Never31.{own-consistent}
 use Rattle.choose.specs.inner.Choosing.{surroundings}
 use Rattle.place.specs.declared.Totals.{Totals}
@@ -90,10 +89,8 @@ module _ (j : Job) (g : Given) (h : Prepared j g) (order : List ℕ) (r : rearra
   sheet-is = ap (λ (p : Planner). p .sheet) (first-linked j (sized (h .bytes) j (h .read)) order (h .lent) .plan)
 
   bounds-fit : RectFits (P .bounds)
-  unfolding plannerOf
   bounds-fit =
-      let good = job-good (h .bytes) j (h .read) .good in
-      let f = set-framed (j .sheet) (good .sheetPoints) (good .sheet) in
+      let f = framed j (job-good (h .bytes) j (h .read) .good) in
       record { left = finite (f .left .num) .fit; bottom = finite (f .bottom .num) .fit; right = finite (f .right .num) .fit; top = finite (f .top .num) .fit }
 
   sheet-fit : AllFit (g .sheet) → AllFit (firstRooms P (h .lent) .sheet)

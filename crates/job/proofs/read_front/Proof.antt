@@ -25,7 +25,8 @@ enum-known-k c = search needs
 returns : tie.Need-returns
 returns c =
     let c5 = c .before .before .before .before .before in (
-      front-1 (c5 .args .bytes .now) (c5 .args .at) (c5 .args .version) (c .before .before .before .read-count .ensures .0 ∙ ap
+      front-1 (c5 .args .bytes .now) (c5 .args .at) (c5 .args .version) (record { corner = c5 .args .corner; axis = c5 .args .axis })
+          (c .before .before .before .read-count .ensures .0 ∙ ap
           (λ (t : Counted). counted t (c5 .args .at + 7)) (c .before .k .given .1)),
       tt,
     )
@@ -45,7 +46,8 @@ enum-told c = search needs
 returns-2 : tie.Need-returns-2
 returns-2 c =
     let c8 = c .before .before .before .before .before .before .before .before in (
-      front-2 (c8 .args .bytes .now) (c8 .args .at) (c8 .args .version) (c .before .before .before .before .before .before .read-count .ensures .0 ∙ ap
+      front-2 (c8 .args .bytes .now) (c8 .args .at) (c8 .args .version) (record { corner = c8 .args .corner; axis = c8 .args .axis })
+          (c .before .before .before .before .before .before .read-count .ensures .0 ∙ ap
           (λ (t : Counted). counted t (c8 .args .at + 7)) (c .before .before .before .before .n .given .1))
           (c .before .before .read-field .ensures ∙ ap (λ (t : Taken). taken t (c8 .args .at + 7 + 12)) (c .enum-told .given .1)),
       tt,
@@ -68,7 +70,8 @@ returns-3 c =
     let c8 = c .before .before .before .before .before .before .before .before in
     let c10 = c8 .before .before in
     let c12 = c10 .before .before in (
-      front-3 (c12 .args .bytes .now) (c12 .args .at) (c12 .args .version) (c10 .read-count .ensures .0 ∙ ap (λ (t : Counted). counted t (c12 .args .at + 7))
+      front-3 (c12 .args .bytes .now) (c12 .args .at) (c12 .args .version) (record { corner = c12 .args .corner; axis = c12 .args .axis })
+          (c10 .read-count .ensures .0 ∙ ap (λ (t : Counted). counted t (c12 .args .at + 7))
           (c8 .n .given .1)) (c .before .before .before .before .before .before .read-field .ensures ∙ ap (λ (t : Taken). taken t (c12 .args .at + 7 + 12))
           (c .before .before .before .before .rounds .given .1)) (c .before .before .read-field2 .ensures ∙ ap
           (λ (t : Taken). taken t (c12 .args .at + 7 + 12 + 64)) (c .enum-told2 .given .1)),
@@ -99,7 +102,8 @@ returns-4 c =
     let c13 = c11 .before .before in
     let c15 = c13 .before .before in
     let c17 = c15 .before .before in (
-      front-in (c17 .args .bytes .now) (c17 .args .at) (c17 .args .version) (c15 .read-count .ensures .0 ∙ ap (λ (t : Counted). counted t (c17 .args .at + 7))
+      front-in (c17 .args .bytes .now) (c17 .args .at) (c17 .args .version) (record { corner = c17 .args .corner; axis = c17 .args .axis })
+          (c15 .read-count .ensures .0 ∙ ap (λ (t : Counted). counted t (c17 .args .at + 7))
           (c13 .n .given .1)) (c11 .read-field .ensures ∙ ap (λ (t : Taken). taken t (c17 .args .at + 7 + 12)) (c9 .rounds .given .1))
           (c7 .read-field2 .ensures ∙ ap (λ (t : Taken). taken t (c17 .args .at + 7 + 12 + 64)) (c .before .before .before .before .before .seed .given .1))
           (c .before .before .before .read-number .ensures ∙ ap (λ (t : Measured). measured t (c17 .args .at + 7 + 12 + 64 + 64))
@@ -116,7 +120,8 @@ returns-5 c =
     let c13 = c11 .before .before in
     let c15 = c13 .before .before in
     let c17 = c15 .before .before in (
-      front-4 (c17 .args .bytes .now) (c17 .args .at) (c17 .args .version) (c15 .read-count .ensures .0 ∙ ap (λ (t : Counted). counted t (c17 .args .at + 7))
+      front-4 (c17 .args .bytes .now) (c17 .args .at) (c17 .args .version) (record { corner = c17 .args .corner; axis = c17 .args .axis })
+          (c15 .read-count .ensures .0 ∙ ap (λ (t : Counted). counted t (c17 .args .at + 7))
           (c13 .n .given .1)) (c11 .read-field .ensures ∙ ap (λ (t : Taken). taken t (c17 .args .at + 7 + 12)) (c9 .rounds .given .1))
           (c7 .read-field2 .ensures ∙ ap (λ (t : Taken). taken t (c17 .args .at + 7 + 12 + 64)) (c .before .before .before .before .before .seed .given .1))
           (c .before .before .before .read-number .ensures ∙ ap (λ (t : Measured). measured t (c17 .args .at + 7 + 12 + 64 + 64)) (c .before .k2 .given .1)),

@@ -5,7 +5,7 @@ use mathlib.Core.List.{List, [], _∷_, _++_}
 use lib.ListN.{take, getD}
 use lib.Ieee.{Float, nan}
 use Rattle.bits.specs.declared.Refusal.{Refusal}
-use Rattle.bits.specs.Reading.{Read, ok, bad}
+use Rattle.bits.specs.Reading.{Read, ok, bad, Reader, after, _>>=_}
 use Rattle.job.specs.declared.Header.{Header}
 use Rattle.job.specs.declared.HeaderRead.{HeaderRead}
 use Rattle.job.specs.declared.HeaderRead.the-variants.{Front, NoHeader}
@@ -14,12 +14,16 @@ use Rattle.job.specs.declared.JobRead.the-variants.{Good, NoJob}
 use Rattle.job.specs.declared.Judged.{Judged}
 use Rattle.job.specs.declared.Judged.the-variants.{Passed, Failed}
 use Rattle.kinds.specs.inner.Tables.{tabulate, kindAt}
-use Rattle.job.specs.Jobs.{Job, Answer, accepted, refused}
+use Rattle.job.specs.Jobs.{Job, aFrame, afterFrame, Answer, accepted, refused}
 use Rattle.kinds.specs.sets.inner.Answers.{setAt}
 
 abbrev pub headerRead : HeaderRead → Read Header
 headerRead (Front h q) = ok h q
 headerRead (NoHeader k) = bad k
+
+-- the frame and the fields after it
+unfoldable pub framedHeader : ℕ → Reader Header
+framedHeader v = aFrame v >>= afterFrame v
 
 -- what is answered after the last field
 abbrev pub answered : Judged → Header → ℕ → ℕ → JobRead
@@ -35,5 +39,5 @@ jobRead (NoJob k) bytes rows areas places = refused k
 -- ---- how far an answer reaches, for sums that must fit
 
 abbrev pub headerFits : HeaderRead → Type 0
-headerFits (Front h q) = (h .kinds ≤ 64) × (q ≤ 251)
+headerFits (Front h q) = (h .kinds ≤ 64) × (q ≤ 254)
 headerFits (NoHeader k) = Unit {0}

@@ -105,7 +105,7 @@ same-length-2 c =
 same-length-3 : tie.Need-same-length-3
 same-length-3 c =
     let c11 = c .before .before .before .before .before .before .before .before .before .before .before in
-    c11 .search-plan .kept .1 .1 .1 .1 .1 .1 .1 .1 .1 .1 .1 .0
+    c11 .search-plan .kept .1 .1 .1 .1 .1 .1 .1 .1 .1 .1 .0
 
 same-length-4 : tie.Need-same-length-4
 same-length-4 c =
@@ -117,17 +117,17 @@ same-length-4 c =
 same-length-5 : tie.Need-same-length-5
 same-length-5 c =
     let c11 = c .before .before .before .before .before .before .before .before .before .before .before in
-    c11 .search-plan .kept .1 .1 .1 .1 .1 .1 .1 .1 .1 .1 .1 .1 .0
+    c11 .search-plan .kept .1 .1 .1 .1 .1 .1 .1 .1 .1 .1 .1 .0
 
 same-length-6 : tie.Need-same-length-6
 same-length-6 c =
     let c11 = c .before .before .before .before .before .before .before .before .before .before .before in
-    c11 .search-plan .kept .1 .1 .1 .1 .1 .1 .1 .1 .1 .1 .1 .1 .1 .0
+    c11 .search-plan .kept .1 .1 .1 .1 .1 .1 .1 .1 .1 .1 .1 .1 .0
 
 same-length-7 : tie.Need-same-length-7
 same-length-7 c =
     let c11 = c .before .before .before .before .before .before .before .before .before .before .before in
-    c11 .search-plan .kept .1 .1 .1 .1 .1 .1 .1 .1 .1 .1 .1 .1 .1 .1 .0
+    c11 .search-plan .kept .1 .1 .1 .1 .1 .1 .1 .1 .1 .1 .1 .1 .1 .0
 
 same-length-8 : tie.Need-same-length-8
 same-length-8 c =
@@ -139,7 +139,7 @@ same-length-8 c =
 same-length-9 : tie.Need-same-length-9
 same-length-9 c =
     let c11 = c .before .before .before .before .before .before .before .before .before .before .before in
-    c11 .search-plan .kept .1 .1 .1 .1 .1 .1 .1 .1 .1 .1 .1 .1 .1 .1 .1 .1 .0
+    c11 .search-plan .kept .1 .1 .1 .1 .1 .1 .1 .1 .1 .1 .1 .1 .1 .1 .1 .0
 
 returns : tie.Need-returns
 returns c =
@@ -160,7 +160,7 @@ returns c =
     ready-reply R Z (q .result) _ _ _ _ E e (nested j l (swapSearch j l)) (s .result) _
     (λ e1 e2 e3 e4 z.
     s .ensures j l (ready-given R Z (q .result) _ _ _ _ E e) (order-arranged (copyOrder j) n _ _ D j A) (R .number)
-    (ap (λ (x : Header). x .seed) (R .header-is)) e1 e2 e3 e4 z
+    (R .header-is) e1 e2 e3 e4 z
     ∙ ap (λ (w : Swaps). replyOf (nested j l w))
     (search-whole j l _ (c55 .args .h .rounds) (order-laid (copyOrder j) n _ _ D) (ap (λ (x : Header). x .rounds) (R .header-is))))
 

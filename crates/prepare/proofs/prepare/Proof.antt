@@ -1,5 +1,6 @@
 -- `prepare::prepare` meets its contract. Assumes nothing.
-use mathlib.Core.Path.{_≡_, refl}
+use mathlib.Core.Path.{_≡_, refl, sym, ap, _∙_}
+use Rattle.job.specs.Jobs.{frameOf}
 use Prim.Native.Nat.{ℕ, zero, suc}
 use lib.ListN.{getD, replicate}
 use Rattle.prepare.proofs.Preparing.{sheet-over, entries-over, shapes-over, all-ready}
@@ -14,6 +15,9 @@ zero-at (suc n) (suc b) = zero-at n b
 
 slice-aggregate-lay-sheet : tie.Need-slice-aggregate-lay-sheet
 slice-aggregate-lay-sheet c = refl
+
+frame-of-requires : tie.Need-frame-of-requires
+frame-of-requires c κs = tt
 
 lay-sheet-requires : tie.Need-lay-sheet-requires
 lay-sheet-requires c κs = (refl, zero-at 513)
@@ -30,8 +34,8 @@ slice-aggregate-lay-shapes-2 c = refl
 lay-shapes-requires : tie.Need-lay-shapes-requires
 lay-shapes-requires c κs =
     let c16 = c .before .before .before .before .before .before .before .before .before .before .before .before .before .before .before .before in
-    let c25 = c16 .before .before .before .before .before .before .before .before .before in
-    (c25 .pre .0, c25 .pre .1, refl, refl)
+    let c26 = c16 .before .before .before .before .before .before .before .before .before .before in
+    (c26 .pre .0, c26 .pre .1, refl, refl)
 
 enum-known-apart-strips : tie.Need-enum-known-apart-strips
 enum-known-apart-strips c = search needs
@@ -82,9 +86,11 @@ returns c =
     let c7 = c .before .before .before .before .before .before .before in
     let c12 = c7 .before .before .before .before .before in
     let c21 = c12 .before .before .before .before .before .before .before .before .before in
-    let c33 = c21 .before .before .before .before .before .before .before .before .before .before .before .before in
-    let a = c33 .args in
-    λ j T H. all-ready (a .bytes .now) (a .rows .now) (a .places .now) (a .at) (a .h .kinds) j T (c21 .lay-sheet .result)
+    let c26 = c21 .before .before .before .before .before in
+    let c34 = c26 .before .before .before .before .before .before .before .before in
+    let a = c34 .args in
+    λ j T H. all-ready (a .bytes .now) (a .rows .now) (a .places .now) (a .at) (a .h .kinds) j T (c26 .frame-of .result)
+    (c26 .frame-of .ensures ∙ ap frameOf (sym H)) (c21 .lay-sheet .result)
     (a .shapes .now) _ (a .sheet .now) _ (a .sheet-entries .now) _ _ (a .sheet-firsts .now) _ (c21 .lay-sheet .ensures)
     _ _ (c12 .sheet-bounds .given .1) (c7 .lay-shapes .result) _ _ (c7 .lay-shapes .ensures) (a .h) H _ _ (c .before .apart-strips .given .1)
 
@@ -116,9 +122,11 @@ returns-2 c =
     let c7 = c .before .before .before .before .before .before .before in
     let c12 = c7 .before .before .before .before .before in
     let c21 = c12 .before .before .before .before .before .before .before .before .before in
-    let c33 = c21 .before .before .before .before .before .before .before .before .before .before .before .before in
-    let a = c33 .args in
-    λ j T H. shapes-over (a .bytes .now) (a .rows .now) (a .places .now) (a .at) (a .h .kinds) j T (c21 .lay-sheet .result)
+    let c26 = c21 .before .before .before .before .before in
+    let c34 = c26 .before .before .before .before .before .before .before .before in
+    let a = c34 .args in
+    λ j T H. shapes-over (a .bytes .now) (a .rows .now) (a .places .now) (a .at) (a .h .kinds) j T (c26 .frame-of .result)
+    (c26 .frame-of .ensures ∙ ap frameOf (sym H)) (c21 .lay-sheet .result)
     (a .shapes .now) _ (a .sheet .now) _ (a .sheet-entries .now) _ _ (a .sheet-firsts .now) _ (c21 .lay-sheet .ensures)
     _ _ (c12 .sheet-bounds .given .1) (c7 .lay-shapes .result) _ _ (c7 .lay-shapes .ensures)
     (c .refused .result) (c .before .enum-told .given .1) (c .refused .ensures)
@@ -141,9 +149,11 @@ same-length-11 c =
 returns-3 : tie.Need-returns-3
 returns-3 c =
     let c10 = c .before .before .before .before .before .before .before .before .before .before in
-    let c22 = c10 .before .before .before .before .before .before .before .before .before .before .before .before in
-    let a = c22 .args in
-    λ j T H. sheet-over (a .bytes .now) (a .rows .now) (a .places .now) (a .at) (a .h .kinds) j T (c10 .lay-sheet .result)
+    let c15 = c10 .before .before .before .before .before in
+    let c23 = c15 .before .before .before .before .before .before .before .before in
+    let a = c23 .args in
+    λ j T H. sheet-over (a .bytes .now) (a .rows .now) (a .places .now) (a .at) (a .h .kinds) j T (c15 .frame-of .result)
+    (c15 .frame-of .ensures ∙ ap frameOf (sym H)) (c10 .lay-sheet .result)
     (a .shapes .now) (a .shapes .now) (a .sheet .now) _ (a .sheet-entries .now) _ _ (a .sheet-firsts .now) _ (c10 .lay-sheet .ensures)
     (c .refused2 .result) (c .before .enum-told2 .given .1) (c .refused2 .ensures)
 
@@ -165,9 +175,11 @@ same-length-14 c =
 returns-4 : tie.Need-returns-4
 returns-4 c =
     let c10 = c .before .before .before .before .before .before .before .before .before .before in
-    let c22 = c10 .before .before .before .before .before .before .before .before .before .before .before .before in
-    let a = c22 .args in
-    λ j T H. entries-over (a .bytes .now) (a .rows .now) (a .places .now) (a .at) (a .h .kinds) j T (c10 .lay-sheet .result)
+    let c15 = c10 .before .before .before .before .before in
+    let c23 = c15 .before .before .before .before .before .before .before .before in
+    let a = c23 .args in
+    λ j T H. entries-over (a .bytes .now) (a .rows .now) (a .places .now) (a .at) (a .h .kinds) j T (c15 .frame-of .result)
+    (c15 .frame-of .ensures ∙ ap frameOf (sym H)) (c10 .lay-sheet .result)
     (a .shapes .now) (a .shapes .now) (a .sheet .now) _ (a .sheet-entries .now) _ _ (a .sheet-firsts .now) _ (c10 .lay-sheet .ensures)
     (c .refused3 .result) (c .before .enum-told3 .given .1) (c .refused3 .ensures)
 
@@ -175,6 +187,7 @@ pub prepare-spec : {M : Type 1} → statement M
 prepare-spec =
     tie.close
     (tie.spec
+    frame-of-requires
     slice-aggregate-lay-sheet
     lay-sheet-requires
     enum-known-sheet-bounds

@@ -33,6 +33,8 @@ use Rattle.shapes.proofs.set_strips.ReadSets.{laid-first, stored-number, stored
 use Rattle.prepare.specs.declared.sheet.SheetLaid.the-variants as Sheet
 use Rattle.prepare.specs.sheet.inner.SheetRoom.{SheetIs}
 use Rattle.kinds.specs.sets.inner.Answers.{setAt}
+use Rattle.frames.specs.declared.Frame.{Frame}
+use Rattle.frames.specs.Frames.{framed}
 
 -- ---- strips laid from the first on
 module _ (ss : List Trapezoid) (room₀ room : List Float) (r : Stored) (e : record { answer = r; room = room } ≡ stripsStored ss room₀ 0) where
@@ -51,31 +53,37 @@ module _ (ss : List Trapezoid) (room₀ room : List Float) (r : Stored) (e : rec
 
     pub front-is : take (6 * n) room ≡ flat ss
     unfolding laid
-    front-is = ap (take (6 * n)) room-is ∙ take-at (flat ss) (drop (length (flat ss)) room₀) (6 * n) (let c = counted in let l = length-flat ss in omega (arith, c .0))
+    front-is = ap (take (6 * n)) room-is ∙ take-at (flat ss) (drop (length (flat ss)) room₀) (6 * n)
+        (let c = counted in let l = length-flat ss in omega (arith, c .0))
 
   pub over : r ≡ NoRoom → (firsts : List ℕ) → standingCapacity room₀ firsts < capacity (flat ss)
   unfolding standingCapacity capacity
   over d firsts = let b = not-stored ss room₀ room 0 r e d in let l = length-flat ss in omega arith
 
 -- ---- their entries
-module _ (ix : Index) (s : List Float) (entries₀ starts₀ entries starts : List ℕ) (r : Bool) (e : entering r entries starts ≡ enterOf ix s (capacity s) (rooms entries₀ starts₀)) where
+module _ (ix : Index) (s : List Float) (entries₀ starts₀ entries starts : List ℕ) (r : Bool)
+    (e : entering r entries starts ≡ enterOf ix s (capacity s) (rooms entries₀ starts₀)) where
   pub entered-yes : r ≡ true → (length (entriesOf ix s (capacity s)) ≤ length entries₀) × (entries ≡ laid (entriesOf ix s (capacity s)) entries₀)
   unfolding entriesIn laid
   entered-yes d = go (below-or-not (length entries₀) (length (entriesOf ix s (capacity s))))
     where
-      go : (length entries₀ < length (entriesOf ix s (capacity s))) ⊎ (length (entriesOf ix s (capacity s)) ≤ length entries₀) → (length (entriesOf ix s (capacity s)) ≤ length entries₀) × (entries ≡ entriesOf ix s (capacity s) ++ drop (length (entriesOf ix s (capacity s))) entries₀)
+      go : (length entries₀ < length (entriesOf ix s (capacity s))) ⊎ (length (entriesOf ix s (capacity s)) ≤ length entries₀) →
+          (length (entriesOf ix s (capacity s)) ≤ length entries₀) × (entries ≡ entriesOf ix s (capacity s) ++ drop (length (entriesOf ix s (capacity s)))
+          entries₀)
       go (inl h) = absurd (true≢false (sym d ∙ ap (λ (x : Entering). x .fits) (e ∙ sym (enter-over ix s (capacity s) (rooms entries₀ starts₀) h))))
       go (inr h) = (h, ap (λ (x : Entering). x .after .entries) (e ∙ sym (enter-fits ix s (capacity s) (rooms entries₀ starts₀) h)))
 
   pub entered-no : r ≡ false → length entries₀ < length (entriesOf ix s (capacity s))
   entered-no d = go (below-or-not (length entries₀) (length (entriesOf ix s (capacity s))))
     where
-      go : (length entries₀ < length (entriesOf ix s (capacity s))) ⊎ (length (entriesOf ix s (capacity s)) ≤ length entries₀) → length entries₀ < length (entriesOf ix s (capacity s))
+      go : (length entries₀ < length (entriesOf ix s (capacity s))) ⊎ (length (entriesOf ix s (capacity s)) ≤ length entries₀) → length entries₀ < length
+          (entriesOf ix s (capacity s))
       go (inl h) = h
       go (inr h) = absurd (true≢false (sym (sym d ∙ ap (λ (x : Entering). x .fits) (e ∙ sym (enter-fits ix s (capacity s) (rooms entries₀ starts₀) h)))))
 
 -- ---- their first buckets, in front of the room
-module _ (ix : Index) (s : List Float) (n : ℕ) (before after : List ℕ) (e : length after ≡ length before) (h : n ≤ length before) (W : FirstsWritten ix s 0 n before after) where
+module _ (ix : Index) (s : List Float) (n : ℕ) (before after : List ℕ) (e : length after ≡ length before) (h : n ≤ length before)
+    (W : FirstsWritten ix s 0 n before after) where
   firsts-kept : FirstBuckets ix s n after
   firsts-kept = record { long = omega arith; right = λ i l. W .new i (omega arith) l }
 
@@ -83,36 +91,38 @@ module _ (ix : Index) (s : List Float) (n : ℕ) (before after : List ℕ) (e : 
   firsts-laid = numbers-written ix s n before after e firsts-kept (W .above)
 
 -- ---- the sheet
-pub sheet-strips : (bytes : List ℕ) (at : ℕ) → flat (stripsAt bytes at true) ≡ setStrips true (setAt bytes at)
+pub sheet-strips : (f : Frame) (bytes : List ℕ) (at : ℕ) → flat (stripsAt f bytes at true) ≡ setStrips true (framed f (setAt bytes at))
 unfolding setStrips stripsAt stripsOf
-sheet-strips bytes at = refl
+sheet-strips f bytes at = refl
 
 -- the room's length counts, not what it holds
 standing-same : (room room′ : List Float) (firsts : List ℕ) → length room ≡ length room′ → standingCapacity room firsts ≡ standingCapacity room′ firsts
 unfolding standingCapacity capacity
 standing-same room room′ firsts e = rw e
 
-module _ (bytes : List ℕ) (at : ℕ) (sheet₀ sheet : List Float) (r : Stored) (e : record { answer = r; room = sheet } ≡ stripsStored (stripsAt bytes at true) sheet₀ 0) where
+module _ (g : Frame) (bytes : List ℕ) (at : ℕ) (sheet₀ sheet : List Float) (r : Stored)
+    (e : record { answer = r; room = sheet } ≡ stripsStored (stripsAt g bytes at true) sheet₀ 0) where
   abbrev S : List Float
-  S = setStrips true (setAt bytes at)
+  S = setStrips true (framed g (setAt bytes at))
 
   abbrev B : Rect
-  B = setBounds (setAt bytes at)
+  B = setBounds (framed g (setAt bytes at))
 
-  pub no-strips : (entries₀ entries starts firsts₀ firsts : List ℕ) → r ≡ NoRoom → SheetIs Sheet.NoStrips B S sheet₀ sheet entries₀ entries starts firsts₀ firsts
+  pub no-strips : (entries₀ entries starts firsts₀ firsts : List ℕ) → r ≡ NoRoom → SheetIs Sheet.NoStrips B S sheet₀ sheet entries₀ entries starts firsts₀
+      firsts
   no-strips entries₀ entries starts firsts₀ firsts d =
-      subst (λ (l : List Float). standingCapacity sheet₀ firsts₀ < capacity l) (sheet-strips bytes at)
-      (over (stripsAt bytes at true) sheet₀ sheet r e d firsts₀)
+      subst (λ (l : List Float). standingCapacity sheet₀ firsts₀ < capacity l) (sheet-strips g bytes at)
+      (over (stripsAt g bytes at true) sheet₀ sheet r e d firsts₀)
 
   module _ (n : ℕ) (d : r ≡ Count n) where
     pub fits : 6 * n ≤ length sheet₀
-    fits = within (stripsAt bytes at true) sheet₀ sheet r e n d
+    fits = within (stripsAt g bytes at true) sheet₀ sheet r e n d
 
     n-is : n ≡ capacity S
-    n-is = number-is (stripsAt bytes at true) sheet₀ sheet r e n d ∙ ap capacity (sheet-strips bytes at)
+    n-is = number-is (stripsAt g bytes at true) sheet₀ sheet r e n d ∙ ap capacity (sheet-strips g bytes at)
 
     front : take (6 * n) sheet ≡ S
-    front = front-is (stripsAt bytes at true) sheet₀ sheet r e n d ∙ sheet-strips bytes at
+    front = front-is (stripsAt g bytes at true) sheet₀ sheet r e n d ∙ sheet-strips g bytes at
 
     -- m strips are what the rooms are used for
     module _ (k : length sheet ≡ length sheet₀) (firsts₀ : List ℕ) (m : ℕ) (q : m ≡ standingCapacity sheet firsts₀) where
@@ -149,11 +159,12 @@ module _ (bytes : List ℕ) (at : ℕ) (sheet₀ sheet : List Float) (r : Stored
               → entering t entries starts ≡ enterOf (sheetIndex B) S (capacity S) (rooms entries₀ starts₀)
           entered = own (λ i l c. entering t entries starts ≡ enterOf i l c (rooms entries₀ starts₀))
 
-          pub sheet-in : (firsts : List ℕ) → length firsts ≡ length firsts₀ → entering t entries starts ≡ enterOf ix (take (6 * n) sheet) n (rooms entries₀ starts₀)
+          pub sheet-in : (firsts : List ℕ) → length firsts ≡ length firsts₀ → entering t entries starts ≡ enterOf ix (take (6 * n) sheet) n
+              (rooms entries₀ starts₀)
               → (t ≡ true → Laid ix (take (6 * n) sheet) n entries starts) → (t ≡ true → FirstsWritten ix (take (6 * n) sheet) 0 n firsts₀ firsts)
               → t ≡ true → SheetIs (Sheet.Strips b n) B S sheet₀ sheet entries₀ entries starts firsts₀ firsts
           unfolding entriesFor firstsFor
-          sheet-in firsts w f g u y =
+          sheet-in firsts w f e′ u y =
               let h = entered-yes (sheetIndex B) S entries₀ starts₀ entries starts t (entered f) y in
               let z = own (λ i l c. FirstsWritten i l 0 c firsts₀ firsts) (u y) in (
                 bb,
@@ -161,9 +172,9 @@ module _ (bytes : List ℕ) (at : ℕ) (sheet₀ sheet : List Float) (r : Stored
                   number = n-is;
                   strips-fit = strips-in;
                   entries-fit = h .0;
-                  strips = room-is (stripsAt bytes at true) sheet₀ sheet r e n d ∙ ap (λ (l : List Float). laid l sheet₀) (sheet-strips bytes at);
+                  strips = room-is (stripsAt g bytes at true) sheet₀ sheet r e n d ∙ ap (λ (l : List Float). laid l sheet₀) (sheet-strips g bytes at);
                   entries-are = h .1;
-                  indexed = own (λ i l c. Laid i l c entries starts) (g y);
+                  indexed = own (λ i l c. Laid i l c entries starts) (e′ y);
                   firsts-are = firsts-laid (sheetIndex B) S (capacity S) firsts₀ firsts w (subst (λ (c : ℕ). c ≤ length firsts₀) n-is long) z;
                   kept = firsts-kept (sheetIndex B) S (capacity S) firsts₀ firsts w (subst (λ (c : ℕ). c ≤ length firsts₀) n-is long) z;
                 },

@@ -50,7 +50,7 @@ returns : tie.Need-returns
 returns c =
     let c12 = c .before .before .before .before .before .before .before .before .before .before .before .before in
     let c27 = c12 .before .before .before .before .before .before .before .before .before .before .before .before .before .before .before in
-    none-laid (c27 .args .bytes .now) (c27 .args .rows .now) (c27 .args .places .now) (c27 .args .kinds) (c27 .args .shapes .now)
+    none-laid (c27 .args .f) (c27 .args .bytes .now) (c27 .args .rows .now) (c27 .args .places .now) (c27 .args .kinds) (c27 .args .shapes .now)
     (c12 .lay-slots .last .1 .1 .1 .1 .1 .1 .1 .1 .1 .1 .1 .0) (c27 .args .parts .now) (c12 .lay-slots .last .1 .1 .1 .1 .1 .1 .1 .1 .1 .1 .1 .1 .1 .0)
     (c12 .lay-slots .result) (c12 .lay-slots .last .1 .1 .1 .1 .1 .1 .1 .1 .1 .1 .1 .0) (c27 .args .inset-bounds .now)
     (c12 .lay-slots .last .1 .1 .1 .1 .1 .1 .1 .1 .1 .1 .1 .1 .1 .0) (c12 .lay-slots .ensures) (c .enum-told .given .1)
@@ -78,7 +78,7 @@ lay-slots-requires-2 c κs =
     let c9 = c .before .before .before .before .before .before .before .before .before in
     let c21 = c9 .before .before .before .before .before .before .before .before .before .before .before .before in
     let c36 = c21 .before .before .before .before .before .before .before .before .before .before .before .before .before .before .before in
-    let h = first-fits (c36 .args .bytes .now) (c36 .args .rows .now) (c36 .args .places .now) (c36 .args .kinds) (c36 .args .shapes .now)
+    let h = first-fits (c36 .args .f) (c36 .args .bytes .now) (c36 .args .rows .now) (c36 .args .places .now) (c36 .args .kinds) (c36 .args .shapes .now)
     (c21 .lay-slots .last .1 .1 .1 .1 .1 .1 .1 .1 .1 .1 .1 .0) (c36 .args .parts .now) (c21 .lay-slots .last .1 .1 .1 .1 .1 .1 .1 .1 .1 .1 .1 .1 .1 .0)
     (c21 .lay-slots .result) _ (c21 .lay-slots .ensures) (c9 .n .given .1) in (
       c36 .pre .0,
@@ -115,7 +115,7 @@ returns-2 c =
     let c22 = c12 .before .before .before .before .before .before .before .before .before .before in
     let c34 = c22 .before .before .before .before .before .before .before .before .before .before .before .before in
     let c49 = c34 .before .before .before .before .before .before .before .before .before .before .before .before .before .before .before in
-    some-laid (c49 .args .bytes .now) (c49 .args .rows .now) (c49 .args .places .now) (c49 .args .kinds) (c49 .args .shapes .now)
+    some-laid (c49 .args .f) (c49 .args .bytes .now) (c49 .args .rows .now) (c49 .args .places .now) (c49 .args .kinds) (c49 .args .shapes .now)
     (c34 .lay-slots .last .1 .1 .1 .1 .1 .1 .1 .1 .1 .1 .1 .0) (c49 .args .parts .now) (c34 .lay-slots .last .1 .1 .1 .1 .1 .1 .1 .1 .1 .1 .1 .1 .1 .0)
     (c34 .lay-slots .result) (c12 .lay-slots2 .last .1 .1 .1 .1 .1 .1 .1 .1 .1 .1 .1 .0) (c49 .args .inset-bounds .now)
     (c12 .lay-slots2 .last .1 .1 .1 .1 .1 .1 .1 .1 .1 .1 .1 .1 .1 .0) _ (c34 .lay-slots .ensures) (c22 .n .given .1) (c12 .lay-slots2 .result)
@@ -132,7 +132,8 @@ lay-bounds-requires c κs =
     let c16 = c .before .before .before .before .before .before .before .before .before .before .before .before .before .before .before .before in
     let c32 = c16 .before .before .before .before .before .before .before .before .before .before .before .before .before .before .before .before in
     let c38 = c32 .before .before .before .before .before .before in
-    let c53 = c38 .before .before .before .before .before .before .before .before .before .before .before .before .before .before .before in (
+    let c53 = c38 .before .before .before .before .before .before .before .before .before .before .before .before .before .before .before in
+    let c53 = c53 in (
       c53 .pre .0,
       c53 .pre .1,
       le-of-eq (sym (c16 .lay-slots2 .kept .1 .1 .1 .1 .1 .0 ∙ c38 .lay-slots .kept .1 .1 .1 .1 .1 .0)),
@@ -168,7 +169,7 @@ returns-3 c =
     let c31 = c21 .before .before .before .before .before .before .before .before .before .before in
     let c43 = c31 .before .before .before .before .before .before .before .before .before .before .before .before in
     let c58 = c43 .before .before .before .before .before .before .before .before .before .before .before .before .before .before .before in
-    both-laid (c58 .args .bytes .now) (c58 .args .rows .now) (c58 .args .places .now) (c58 .args .kinds) (c58 .args .shapes .now)
+    both-laid (c58 .args .f) (c58 .args .bytes .now) (c58 .args .rows .now) (c58 .args .places .now) (c58 .args .kinds) (c58 .args .shapes .now)
     (c43 .lay-slots .last .1 .1 .1 .1 .1 .1 .1 .1 .1 .1 .1 .0) (c58 .args .parts .now) (c43 .lay-slots .last .1 .1 .1 .1 .1 .1 .1 .1 .1 .1 .1 .1 .1 .0)
     (c43 .lay-slots .result) (c21 .lay-slots2 .last .1 .1 .1 .1 .1 .1 .1 .1 .1 .1 .1 .0) (c4 .lay-bounds .last .1 .1 .1 .1 .1 .1 .0)
     (c21 .lay-slots2 .last .1 .1 .1 .1 .1 .1 .1 .1 .1 .1 .1 .1 .1 .0) _ (c43 .lay-slots .ensures) (c31 .n .given .1) (c21 .lay-slots2 .result)

@@ -25,6 +25,8 @@ use Rattle.shapes.specs.set_strips.inner.SetStrips.{stripsAt}
 use Rattle.shapes.proofs.set_strips.ReadSets.{laid-nothing, nothing-stored, stored-number, stored-room, not-stored}
 use Rattle.shapes.specs.slots.inner.Slots.{inUse, slotStrips, slotBounds, stripsTo, Column, SlotsLaid, BoundsTo}
 use Rattle.kinds.specs.sets.inner.Answers.{setAt}
+use Rattle.frames.specs.declared.Frame.{Frame}
+use Rattle.frames.specs.Frames.{framed}
 
 -- ---- a slot
 
@@ -36,23 +38,26 @@ pub not-in-use : (rows : List ℕ) (kinds i : ℕ) → kinds ≤ i / 16 → fals
 unfolding inUse
 not-in-use rows kinds i h = rw (le-ltb (i / 16) kinds h)
 
-module _ (bytes rows places : List ℕ) (kinds : ℕ) where
-  pub strips-used : (which i : ℕ) → inUse rows kinds i ≡ true → stripsAt bytes (getD places (2 * i + which) 0) false ≡ slotStrips bytes rows places kinds which i
+module _ (f : Frame) (bytes rows places : List ℕ) (kinds : ℕ) where
+  pub strips-used : (which i : ℕ) → inUse rows kinds i ≡ true → stripsAt f bytes (getD places (2 * i + which) 0) false ≡ slotStrips f bytes rows places kinds
+      which i
   unfolding slotStrips
   strips-used which i e = rw (e, slotStrips)
 
-  pub strips-unused : (which i : ℕ) → inUse rows kinds i ≡ false → slotStrips bytes rows places kinds which i ≡ []
+  pub strips-unused : (which i : ℕ) → inUse rows kinds i ≡ false → slotStrips f bytes rows places kinds which i ≡ []
   unfolding slotStrips
   strips-unused which i e = rw (e, slotStrips)
 
-  pub nothing-laid : (which i : ℕ) (room : List Float) (from : ℕ) → inUse rows kinds i ≡ false → 6 * from ≤ length room → record { answer = Count 0; room = room } ≡ stripsStored (slotStrips bytes rows places kinds which i) room from
+  pub nothing-laid : (which i : ℕ) (room : List Float) (from : ℕ) → inUse rows kinds i ≡ false → 6 * from ≤ length room → record
+      { answer = Count 0; room = room } ≡ stripsStored (slotStrips f bytes rows places kinds which i) room from
   nothing-laid which i room from e h = sym (nothing-stored room from h) ∙ ap (λ (l : List Trapezoid). stripsStored l room from) (sym (strips-unused which i e))
 
-  pub bounds-used : (i : ℕ) → inUse rows kinds i ≡ true → setBounds (setAt bytes (getD places (2 * i + 1) 0)) ≡ slotBounds bytes rows places kinds i
+  pub bounds-used : (i : ℕ) → inUse rows kinds i ≡ true → setBounds (framed f (setAt bytes (getD places (2 * i + 1) 0))) ≡ slotBounds f bytes rows places kinds
+      i
   unfolding slotBounds
   bounds-used i e = rw (e, slotBounds)
 
-  pub bounds-unused : (i : ℕ) → inUse rows kinds i ≡ false → noBounds ≡ slotBounds bytes rows places kinds i
+  pub bounds-unused : (i : ℕ) → inUse rows kinds i ≡ false → noBounds ≡ slotBounds f bytes rows places kinds i
   unfolding slotBounds
   bounds-unused i e = rw (e, slotBounds)
 
@@ -69,7 +74,8 @@ length-laid ss room from h =
     omega arith
 
 -- strips stripsLaid after stripsLaid strips
-pub laid-on : (ss ts : List Trapezoid) (room : List Float) (from : ℕ) → 6 * (from + length ss) ≤ length room → stripsLaid ts (stripsLaid ss room from) (from + length ss) ≡ stripsLaid (ss ++ ts) room from
+pub laid-on : (ss ts : List Trapezoid) (room : List Float) (from : ℕ) → 6 * (from + length ss) ≤ length room → stripsLaid ts (stripsLaid ss room from)
+    (from + length ss) ≡ stripsLaid (ss ++ ts) room from
 unfolding stripsLaid
 laid-on ss ts room from h =
     let R = take (6 * from) room in
@@ -84,10 +90,12 @@ laid-on ss ts room from h =
     let t : take (6 * (from + length ss)) (R ++ (F ++ D)) ≡ R ++ F = ap (take (6 * (from + length ss))) s ∙ take-at (R ++ F) D (6 * (from + length ss)) m in
     let k : 6 * (from + length ss + length ts) ≡ length (R ++ F) + 6 * length ts = omega arith in
     let l : 6 * (from + length ss) + 6 * length ts ≡ 6 * (from + length (ss ++ ts)) = omega arith in
-    let d : drop (6 * (from + length ss + length ts)) (R ++ (F ++ D)) ≡ drop (6 * (from + length (ss ++ ts))) room = ap₂ drop k s ∙ drop-append-add (R ++ F) D (6 * length ts) ∙ drop-drop (6 * length ts) (6 * (from + length ss)) room ∙ ap (λ (x : ℕ). drop x room) l in
+    let d : drop (6 * (from + length ss + length ts)) (R ++ (F ++ D)) ≡ drop (6 * (from + length (ss ++ ts))) room = ap₂ drop k s ∙ drop-append-add (R ++ F) D
+    (6 * length ts) ∙ drop-drop (6 * length ts) (6 * (from + length ss)) room ∙ ap (λ (x : ℕ). drop x room) l in
     ap₂ (λ (x y : List Float). x ++ (flat ts ++ y)) t d
     ∙ append-assoc R F (flat ts ++ drop (6 * (from + length (ss ++ ts))) room)
-    ∙ ap (λ (x : List Float). R ++ x) (sym (append-assoc F (flat ts) (drop (6 * (from + length (ss ++ ts))) room)) ∙ ap (λ (x : List Float). x ++ drop (6 * (from + length (ss ++ ts))) room) (sym (flat-append ss ts)))
+    ∙ ap (λ (x : List Float). R ++ x) (sym (append-assoc F (flat ts) (drop (6 * (from + length (ss ++ ts))) room)) ∙ ap
+    (λ (x : List Float). x ++ drop (6 * (from + length (ss ++ ts))) room) (sym (flat-append ss ts)))
 
 -- ---- the pass over the strips
 
@@ -108,7 +116,8 @@ module _ (f : ℕ → List Trapezoid) where
       rw e (omega arith)
 
 -- one slot more in the table
-column-on : (which : ℕ) (f : ℕ → List Trapezoid) (i : ℕ) (old new : List ℕ) (a n : ℕ) → which < 2 → 4 * i + 4 ≤ length old → Column which f i old new → a ≡ length (stripsTo f i) → n ≡ length (f i)
+column-on : (which : ℕ) (f : ℕ → List Trapezoid) (i : ℕ) (old new : List ℕ) (a n : ℕ) → which < 2 → 4 * i + 4 ≤ length old → Column which f i old new → a ≡
+    length (stripsTo f i) → n ≡ length (f i)
     → Column which f (i + 1) old (set (set new (4 * i + 2 * which) a) (4 * i + 2 * which + 1) n)
 column-on which f i old new a n w l C p q =
     record {
@@ -133,18 +142,21 @@ column-on which f i old new a n w l C p q =
     start k h =
         elim (below-or-not k i) [
           | inl b ↦ kept (4 * k + 2 * which) (λ e. omega arith) (λ e. omega arith) ∙ C .start k b
-          | inr b ↦ (let e : k ≡ i = omega arith in subst (λ (x : ℕ). getD (set (set new (4 * i + 2 * which) a) (4 * i + 2 * which + 1) n) (4 * x + 2 * which) 0 ≡ length (stripsTo f x)) (sym e) (start-here ∙ p))
+          | inr b ↦ (let e : k ≡ i = omega arith in subst (λ (x : ℕ). getD (set (set new (4 * i + 2 * which) a) (4 * i + 2 * which + 1) n) (4 * x + 2 * which) 0
+              ≡ length (stripsTo f x)) (sym e) (start-here ∙ p))
         ]
 
     count : (k : ℕ) → k < i + 1 → getD (set (set new (4 * i + 2 * which) a) (4 * i + 2 * which + 1) n) (4 * k + 2 * which + 1) 0 ≡ length (f k)
     count k h =
         elim (below-or-not k i) [
           | inl b ↦ kept (4 * k + 2 * which + 1) (λ e. omega arith) (λ e. omega arith) ∙ C .count k b
-          | inr b ↦ (let e : k ≡ i = omega arith in subst (λ (x : ℕ). getD (set (set new (4 * i + 2 * which) a) (4 * i + 2 * which + 1) n) (4 * x + 2 * which + 1) 0 ≡ length (f x)) (sym e) (count-here ∙ q))
+          | inr b ↦ (let e : k ≡ i = omega arith in subst (λ (x : ℕ). getD (set (set new (4 * i + 2 * which) a) (4 * i + 2 * which + 1) n)
+              (4 * x + 2 * which + 1) 0 ≡ length (f x)) (sym e) (count-here ∙ q))
         ]
 
 -- the strips of i slots lie in the room, and their numbers in the table
-pub record StripsTo (which : ℕ) (f : ℕ → List Trapezoid) (from : ℕ) (room₀ : List Float) (parts₀ : List ℕ) (room : List Float) (parts : List ℕ) (i held : ℕ) : Type 0 where
+pub record StripsTo (which : ℕ) (f : ℕ → List Trapezoid) (from : ℕ) (room₀ : List Float) (parts₀ : List ℕ) (room : List Float) (parts : List ℕ)
+    (i held : ℕ) : Type 0 where
   pub inside : i ≤ 1024
   pub number : held ≡ from + length (stripsTo f i)
   pub fits : 6 * held ≤ length room₀
@@ -169,20 +181,24 @@ module _ (which : ℕ) (f : ℕ → List Trapezoid) (from : ℕ) (room₀ : List
       none i h = omega arith
 
   module _ (room : List Float) (parts : List ℕ) (i held : ℕ) (R : StripsTo which f from room₀ parts₀ room parts i held) where
-    counted : (room′ : List Float) (n : ℕ) (r : Stored) → record { answer = r; room = room′ } ≡ stripsStored (f i) room held → r ≡ Count n → (n ≡ length (f i)) × (6 * (held + n) ≤ length room)
+    counted : (room′ : List Float) (n : ℕ) (r : Stored) → record { answer = r; room = room′ } ≡ stripsStored (f i) room held → r ≡ Count n → (n ≡ length (f i))
+        × (6 * (held + n) ≤ length room)
     counted room′ n r e d = stored-number (f i) room room′ held r e n d
 
-    pub more-fits : (room′ : List Float) (n : ℕ) (r : Stored) → record { answer = r; room = room′ } ≡ stripsStored (f i) room held → r ≡ Count n → 6 * (held + n) ≤ length room₀
+    pub more-fits : (room′ : List Float) (n : ℕ) (r : Stored) → record { answer = r; room = room′ } ≡ stripsStored (f i) room held → r ≡ Count n → 6 *
+        (held + n) ≤ length room₀
     more-fits room′ n r e d = let c = counted room′ n r e d in omega (arith, c .1, R .long)
 
-    room-on : (room′ : List Float) (n : ℕ) (r : Stored) → record { answer = r; room = room′ } ≡ stripsStored (f i) room held → r ≡ Count n → room′ ≡ stripsLaid (stripsTo f (i + 1)) room₀ from
+    room-on : (room′ : List Float) (n : ℕ) (r : Stored) → record { answer = r; room = room′ } ≡ stripsStored (f i) room held → r ≡ Count n → room′ ≡ stripsLaid
+        (stripsTo f (i + 1)) room₀ from
     room-on room′ n r e d =
         stored-room (f i) room room′ held r e n d
         ∙ ap₂ (λ (x : List Float) (y : ℕ). stripsLaid (f i) x y) (R .room-is) (R .number)
         ∙ laid-on (stripsTo f i) (f i) room₀ from (omega (arith, R .number, R .fits))
         ∙ ap (λ (l : List Trapezoid). stripsLaid l room₀ from) (sym (strips-next f i))
 
-    pub strips-on : (room′ : List Float) (n : ℕ) (r : Stored) → i < 1024 → 4096 ≤ length parts₀ → record { answer = r; room = room′ } ≡ stripsStored (f i) room held → r ≡ Count n
+    pub strips-on : (room′ : List Float) (n : ℕ) (r : Stored) → i < 1024 → 4096 ≤ length parts₀ → record { answer = r; room = room′ } ≡ stripsStored (f i) room
+        held → r ≡ Count n
         → StripsTo which f from room₀ parts₀ room′ (set (set parts (4 * i + 2 * which) (held - from)) (4 * i + 2 * which + 1) n) (i + 1) (held + n)
     strips-on room′ n r a b e d =
         let c = counted room′ n r e d in
@@ -197,20 +213,27 @@ module _ (which : ℕ) (f : ℕ → List Trapezoid) (from : ℕ) (room₀ : List
           column = column-on which f i parts₀ parts (held - from) n w (omega arith) (R .column) (omega (arith, R .number)) (c .0);
         }
 
-    pub strips-over : (room′ : List Float) (r : Stored) → i < 1024 → record { answer = r; room = room′ } ≡ stripsStored (f i) room held → r ≡ NoRoom → capacity room₀ < from + length (stripsTo f 1024)
+    pub strips-over : (room′ : List Float) (r : Stored) → i < 1024 → record { answer = r; room = room′ } ≡ stripsStored (f i) room held → r ≡ NoRoom → capacity
+        room₀ < from + length (stripsTo f 1024)
     unfolding capacity
     strips-over room′ r a e d =
         let b = not-stored (f i) room room′ held r e d in
         let m = length-next f i in
         let o : i + 1 + (1023 - i) ≡ 1024 = omega arith in
-        let k : length (stripsTo f (i + 1)) ≤ length (stripsTo f 1024) = subst (λ (x : ℕ). length (stripsTo f (i + 1)) ≤ length (stripsTo f x)) o (length-more f (i + 1) (1023 - i)) in
+        let k : length (stripsTo f (i + 1)) ≤ length (stripsTo f 1024) = subst (λ (x : ℕ). length (stripsTo f (i + 1)) ≤ length (stripsTo f x)) o
+        (length-more f (i + 1) (1023 - i)) in
         omega (arith, b, m, k, R .number, R .long)
 
     pub strips-all : 1024 ≤ i → SlotsLaid (Count (held - from)) which f 1024 from room₀ room parts₀ parts
     strips-all a =
         let e : i ≡ 1024 = omega (arith, R .inside) in
-        let n : held ≡ from + length (stripsTo f 1024) = subst (λ (x : ℕ). held ≡ from + length (stripsTo f x)) e (R .number) in
-        (omega arith, omega (arith, R .fits), subst (λ (x : ℕ). room ≡ stripsLaid (stripsTo f x) room₀ from) e (R .room-is), subst (λ (x : ℕ). Column which f x parts₀ parts) e (R .column))
+        let n : held ≡ from + length (stripsTo f 1024) = subst (λ (x : ℕ). held ≡ from + length (stripsTo f x)) e (R .number) in (
+          omega arith,
+          omega (arith, R .fits),
+          subst (λ (x : ℕ). room ≡ stripsLaid (stripsTo f x) room₀ from) e (R .room-is),
+          subst
+              (λ (x : ℕ). Column which f x parts₀ parts) e (R .column),
+        )
 
 -- ---- the pass over the bounds
 
@@ -225,7 +248,8 @@ module _ (t : List Float) (i : ℕ) (b : Rect) (l : 4 * i + 4 ≤ length t) wher
   abbrev after : List Float
   after = set (set (set (set t (4 * i) (b .left)) (4 * i + 1) (b .bottom)) (4 * i + 2) (b .right)) (4 * i + 3) (b .top)
 
-  pub stores-in : (4 * i + 1 < length (set t (4 * i) (b .left))) × (4 * i + 2 < length (set (set t (4 * i) (b .left)) (4 * i + 1) (b .bottom))) × (4 * i + 3 < length (set (set (set t (4 * i) (b .left)) (4 * i + 1) (b .bottom)) (4 * i + 2) (b .right)))
+  pub stores-in : (4 * i + 1 < length (set t (4 * i) (b .left))) × (4 * i + 2 < length (set (set t (4 * i) (b .left)) (4 * i + 1) (b .bottom))) ×
+      (4 * i + 3 < length (set (set (set t (4 * i) (b .left)) (4 * i + 1) (b .bottom)) (4 * i + 2) (b .right)))
   stores-in =
       let a = length-set t (4 * i) (b .left) in
       let c = length-set (set t (4 * i) (b .left)) (4 * i + 1) (b .bottom) in
@@ -246,7 +270,8 @@ module _ (t : List Float) (i : ℕ) (b : Rect) (l : 4 * i + 4 ≤ length t) wher
   stores-size = ap length after-is ∙ length-sets t (4 * i) four
 
   pub stores-other : (q : ℕ) → q ≢ i → boundsAt after q ≡ boundsAt t q
-  stores-other q h = bounds-same t after q (λ r k. ap (λ (l : List Float). getD l (4 * q + r) nan) after-is ∙ getD-sets-other four t (4 * i) (4 * q + r) nan (side r k (below-or-not q i) (below-or-not i q)))
+  stores-other q h = bounds-same t after q (λ r k. ap (λ (l : List Float). getD l (4 * q + r) nan) after-is ∙ getD-sets-other four t (4 * i) (4 * q + r) nan
+      (side r k (below-or-not q i) (below-or-not i q)))
     where
       side : (r : ℕ) → r < 4 → (q < i) ⊎ (i ≤ q) → (i < q) ⊎ (q ≤ i) → (4 * q + r < 4 * i) ⊎ (4 * i + 4 ≤ 4 * q + r)
       side r k (inl m) n = inl (omega arith)
@@ -268,7 +293,8 @@ bounds-start f t = record { size = refl; here = λ i b. absurd (none i b) }
     none : (i : ℕ) → i < 0 → ⊥
     none i h = omega arith
 
-pub bounds-on : (f : ℕ → Rect) (old t t′ : List Float) (i : ℕ) (b : Rect) → BoundsTo f i old t → length t′ ≡ length t → b ≡ f i → boundsAt t′ i ≡ b → ((q : ℕ) → q ≢ i → boundsAt t′ q ≡ boundsAt t q) → BoundsTo f (i + 1) old t′
+pub bounds-on : (f : ℕ → Rect) (old t t′ : List Float) (i : ℕ) (b : Rect) → BoundsTo f i old t → length t′ ≡ length t → b ≡ f i → boundsAt t′ i ≡ b →
+    ((q : ℕ) → q ≢ i → boundsAt t′ q ≡ boundsAt t q) → BoundsTo f (i + 1) old t′
 bounds-on f old t t′ i b B l e h o = record { size = l ∙ B .size; here = there }
   where
     there : (q : ℕ) → q < i + 1 → boundsAt t′ q ≡ f q

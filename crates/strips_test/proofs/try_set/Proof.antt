@@ -1,4 +1,5 @@
 -- `strips_test::try_set` meets its contract. Assumes nothing.
+use native.Mathlib.Omega.{arith}
 use borrow.Author.Needs.{needs}
 use Rattle.strips_test.proofs.try_set.Statement.{statement}
 use Rattle.strips_test.proofs.try_set.Tie as tie
@@ -6,10 +7,23 @@ use Rattle.strips_test.proofs.try_set.Tie as tie
 loops-lie-requires : tie.Need-loops-lie-requires
 loops-lie-requires c κs = search needs
 
+frame-points-requires : tie.Need-frame-points-requires
+frame-points-requires c κs =
+    let c6 = c .before .before .before .before .before .before in
+    (c6 .pre .1, c6 .pre .2, c .before .before .loops-lie .ensures (c .before .if2 .taken))
+
 replay-requires : tie.Need-replay-requires
 replay-requires c κs =
-    let p = c .before .before .before .before .before .pre in
-    (c .before .before .if1 .taken, p .0, p .1, c .before .loops-lie .ensures (c .if2 .taken))
+    let c7 = c .before .before .before .before .before .before .before in
+    let c10 = c7 .before .before .before in (
+      c7 .if1 .taken,
+      c10 .pre .0,
+      omega (arith, c10 .pre .1, c .before .before .before .frame-points .kept .1 .0),
+      c .before .before .before .before .before .before .loops-lie .ensures (c .before .before .before .before .before .if2 .taken),
+    )
+
+same-length : tie.Need-same-length
+same-length c = search needs
 
 returns : tie.Need-returns
 returns c = search needs
@@ -21,4 +35,4 @@ returns-3 : tie.Need-returns-3
 returns-3 c = search needs
 
 pub try-set-spec : {M : Type 1} → statement M
-try-set-spec = tie.close (tie.spec loops-lie-requires replay-requires returns returns-2 returns-3)
+try-set-spec = tie.close (tie.spec loops-lie-requires frame-points-requires replay-requires same-length returns returns-2 returns-3)

@@ -44,6 +44,12 @@ take-ends-requires c κs = search needs
 array-read-sheet : tie.Need-array-read-sheet
 array-read-sheet c = search needs
 
+array-read-frame-of : tie.Need-array-read-frame-of
+array-read-frame-of c = search needs
+
+frame-of-requires : tie.Need-frame-of-requires
+frame-of-requires c κs = tt
+
 slice-aggregate-try-set : tie.Need-slice-aggregate-try-set
 slice-aggregate-try-set c = search needs
 
@@ -52,12 +58,18 @@ array-share-prefix-ends c = search needs
 
 slice-aggregate-try-set-2 : tie.Need-slice-aggregate-try-set-2
 slice-aggregate-try-set-2 c =
-    let l = c .before .before .before .before .before .before .before .before .before .before .before .loops-of in
-    let g = c .before .before .before .take-ends in
+    let c12 = c .before .before .before .before .before .before .before .before .before .before .before .before in
+    let l = c12 .loops-of in
+    let g = c .before .before .before .before .take-ends in
     sym (length-take-le (l .result) (g .last .1 .1 .0) (omega (arith, l .ensures, g .kept .1 .1 .0, length-replicate {A = ℕ} 64 1)))
 
 try-set-requires : tie.Need-try-set-requires
-try-set-requires c κs = search needs
+try-set-requires c κs =
+    let c12 = c .before .before .before .before .before .before .before .before .before .before .before .before in
+    let l = c12 .loops-of in
+    let g = c .before .before .before .before .take-ends in
+    let h = length-take-le (l .result) (g .last .1 .1 .0) (omega (arith, l .ensures, g .kept .1 .1 .0, length-replicate {A = ℕ} 64 1)) in
+    (search needs, search needs, omega (arith, h, l .ensures))
 
 sub-result : tie.Need-sub-result
 sub-result c = search needs
@@ -84,6 +96,8 @@ turn-spec =
     slice-aggregate-take-ends-2
     take-ends-requires
     array-read-sheet
+    array-read-frame-of
+    frame-of-requires
     slice-aggregate-try-set
     array-share-prefix-ends
     slice-aggregate-try-set-2

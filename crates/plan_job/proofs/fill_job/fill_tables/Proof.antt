@@ -4,7 +4,6 @@ use mathlib.Core.List.{List}
 use mathlib.Core.Path.{refl, sym, ap, _∙_}
 use lib.ListN.{length}
 use denote.Ref.{now}
-use Rattle.job.specs.declared.Header.{Header}
 use Rattle.filling.specs.Fill.{plannedBy, fillOrder}
 use Rattle.report.specs.inner.Replies.{replyOf}
 use Rattle.report.proofs.readied.Preparing.{ready-given, ready-firsts, ready-sheet, ready-shapes, ready-reply, over-reply}
@@ -104,7 +103,7 @@ same-length-2 c =
 same-length-3 : tie.Need-same-length-3
 same-length-3 c =
     let c11 = c .before .before .before .before .before .before .before .before .before .before .before in
-    c11 .search-plan .kept .1 .1 .1 .1 .1 .1 .1 .1 .1 .1 .1 .0
+    c11 .search-plan .kept .1 .1 .1 .1 .1 .1 .1 .1 .1 .1 .0
 
 same-length-4 : tie.Need-same-length-4
 same-length-4 c =
@@ -116,17 +115,17 @@ same-length-4 c =
 same-length-5 : tie.Need-same-length-5
 same-length-5 c =
     let c11 = c .before .before .before .before .before .before .before .before .before .before .before in
-    c11 .search-plan .kept .1 .1 .1 .1 .1 .1 .1 .1 .1 .1 .1 .1 .0
+    c11 .search-plan .kept .1 .1 .1 .1 .1 .1 .1 .1 .1 .1 .1 .0
 
 same-length-6 : tie.Need-same-length-6
 same-length-6 c =
     let c11 = c .before .before .before .before .before .before .before .before .before .before .before in
-    c11 .search-plan .kept .1 .1 .1 .1 .1 .1 .1 .1 .1 .1 .1 .1 .1 .0
+    c11 .search-plan .kept .1 .1 .1 .1 .1 .1 .1 .1 .1 .1 .1 .1 .0
 
 same-length-7 : tie.Need-same-length-7
 same-length-7 c =
     let c11 = c .before .before .before .before .before .before .before .before .before .before .before in
-    c11 .search-plan .kept .1 .1 .1 .1 .1 .1 .1 .1 .1 .1 .1 .1 .1 .1 .0
+    c11 .search-plan .kept .1 .1 .1 .1 .1 .1 .1 .1 .1 .1 .1 .1 .1 .0
 
 same-length-8 : tie.Need-same-length-8
 same-length-8 c =
@@ -138,7 +137,7 @@ same-length-8 c =
 same-length-9 : tie.Need-same-length-9
 same-length-9 c =
     let c11 = c .before .before .before .before .before .before .before .before .before .before .before in
-    c11 .search-plan .kept .1 .1 .1 .1 .1 .1 .1 .1 .1 .1 .1 .1 .1 .1 .1 .1 .0
+    c11 .search-plan .kept .1 .1 .1 .1 .1 .1 .1 .1 .1 .1 .1 .1 .1 .1 .1 .0
 
 returns : tie.Need-returns
 returns c =
@@ -158,7 +157,7 @@ returns c =
     ready-reply R Z (q .result) _ _ _ _ E e (plannedBy j l (fillOrder j l o)) (s .result) _
     (λ e1 e2 e3 e4 z.
     s .ensures j l (ready-given R Z (q .result) _ _ _ _ E e) (order-arranged o (length o) _ _ (refl, t .ensures) j r) (R .number)
-    (ap (λ (x : Header). x .seed) (R .header-is)) e1 e2 e3 e4 z
+    (R .header-is) e1 e2 e3 e4 z
     ∙ (ap replyOf (filling-planned j l _)
     ∙ ap (λ (w : List ℕ). replyOf (plannedBy j l (fillOrder j l w))) (order-laid o (length o) (t .last .1 .0) _ (refl, t .ensures))))
 

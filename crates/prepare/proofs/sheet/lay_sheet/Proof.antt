@@ -52,7 +52,8 @@ returns : tie.Need-returns
 returns c =
     let c10 = c .before .before .before .before .before .before .before .before .before .before in
     let c23 = c10 .before .before .before .before .before .before .before .before .before .before .before .before .before in
-    no-strips (c23 .args .bytes .now) (c23 .args .at) (c23 .args .sheet .now) (c10 .set-strips .last .1 .1 .1 .1 .1 .1 .1 .1 .1 .0) (c10 .set-strips .result)
+    no-strips (c23 .args .f) (c23 .args .bytes .now) (c23 .args .at) (c23 .args .sheet .now) (c10 .set-strips .last .1 .1 .1 .1 .1 .1 .1 .1 .1 .0)
+    (c10 .set-strips .result)
     (c10 .set-strips .ensures) (c23 .args .entries .now) (c23 .args .entries .now) (c23 .args .starts .now) (c23 .args .firsts .now) (c23 .args .firsts .now)
     (c .enum-told .given .1)
 
@@ -72,7 +73,8 @@ returns-2 c =
     let c1 = c .before in
     let c15 = c1 .before .before .before .before .before .before .before .before .before .before .before .before .before .before in
     let c28 = c15 .before .before .before .before .before .before .before .before .before .before .before .before .before in
-    too-many (c28 .args .bytes .now) (c28 .args .at) (c28 .args .sheet .now) (c15 .set-strips .last .1 .1 .1 .1 .1 .1 .1 .1 .1 .0) (c15 .set-strips .result)
+    too-many (c28 .args .f) (c28 .args .bytes .now) (c28 .args .at) (c28 .args .sheet .now) (c15 .set-strips .last .1 .1 .1 .1 .1 .1 .1 .1 .1 .0)
+    (c15 .set-strips .result)
     (c15 .set-strips .ensures) _ (c .before .before .before .before .before .n .given .1) (c15 .set-strips .kept .1 .1 .1 .1 .1 .1 .1 .1 .1 .0)
     (c28 .args .firsts .now) (c1 .standing-capacity .result) (c1 .standing-capacity .ensures) (c .if1 .taken)
     (c28 .args .entries .now) (c28 .args .entries .now) (c28 .args .starts .now) (c28 .args .firsts .now)
@@ -94,7 +96,8 @@ mul-end c =
     let c11 = c .before .before .before .before .before .before .before .before .before .before .before in
     let c21 = c11 .before .before .before .before .before .before .before .before .before .before in
     let c34 = c21 .before .before .before .before .before .before .before .before .before .before .before .before .before in
-    let h = fits (c34 .args .bytes .now) (c34 .args .at) (c34 .args .sheet .now) (c21 .set-strips .last .1 .1 .1 .1 .1 .1 .1 .1 .1 .0) (c21 .set-strips .result)
+    let h = fits (c34 .args .f) (c34 .args .bytes .now) (c34 .args .at) (c34 .args .sheet .now) (c21 .set-strips .last .1 .1 .1 .1 .1 .1 .1 .1 .1 .0)
+    (c21 .set-strips .result)
     (c21 .set-strips .ensures) _ (c11 .n .given .1) in
     omega (arith, h, c34 .good .1 .1 .0)
 
@@ -103,7 +106,8 @@ slice-reshare-prefix-enter-copy c =
     let c11 = c .before .before .before .before .before .before .before .before .before .before .before in
     let c21 = c11 .before .before .before .before .before .before .before .before .before .before in
     let c34 = c21 .before .before .before .before .before .before .before .before .before .before .before .before .before in
-    let h = fits (c34 .args .bytes .now) (c34 .args .at) (c34 .args .sheet .now) (c21 .set-strips .last .1 .1 .1 .1 .1 .1 .1 .1 .1 .0) (c21 .set-strips .result)
+    let h = fits (c34 .args .f) (c34 .args .bytes .now) (c34 .args .at) (c34 .args .sheet .now) (c21 .set-strips .last .1 .1 .1 .1 .1 .1 .1 .1 .1 .0)
+    (c21 .set-strips .result)
     (c21 .set-strips .ensures) _ (c11 .n .given .1) in
     omega (arith, h, c21 .set-strips .kept .1 .1 .1 .1 .1 .1 .1 .1 .1 .0)
 
@@ -112,7 +116,8 @@ slice-aggregate-enter-copy c =
     let c12 = c .before .before .before .before .before .before .before .before .before .before .before .before in
     let c22 = c12 .before .before .before .before .before .before .before .before .before .before in
     let c35 = c22 .before .before .before .before .before .before .before .before .before .before .before .before .before in
-    let h = fits (c35 .args .bytes .now) (c35 .args .at) (c35 .args .sheet .now) (c22 .set-strips .last .1 .1 .1 .1 .1 .1 .1 .1 .1 .0) (c22 .set-strips .result)
+    let h = fits (c35 .args .f) (c35 .args .bytes .now) (c35 .args .at) (c35 .args .sheet .now) (c22 .set-strips .last .1 .1 .1 .1 .1 .1 .1 .1 .1 .0)
+    (c22 .set-strips .result)
     (c22 .set-strips .ensures) _ (c12 .n .given .1) in
     sym (length-take-le _ _ (omega (arith, h, c22 .set-strips .kept .1 .1 .1 .1 .1 .1 .1 .1 .1 .0)))
 
@@ -126,7 +131,8 @@ enter-copy-requires c κs =
     let c16 = c12 .before .before .before .before in
     let c26 = c16 .before .before .before .before .before .before .before .before .before .before in
     let c39 = c26 .before .before .before .before .before .before .before .before .before .before .before .before .before in
-    let h = fits (c39 .args .bytes .now) (c39 .args .at) (c39 .args .sheet .now) (c26 .set-strips .last .1 .1 .1 .1 .1 .1 .1 .1 .1 .0) (c26 .set-strips .result)
+    let h = fits (c39 .args .f) (c39 .args .bytes .now) (c39 .args .at) (c39 .args .sheet .now) (c26 .set-strips .last .1 .1 .1 .1 .1 .1 .1 .1 .1 .0)
+    (c26 .set-strips .result)
     (c26 .set-strips .ensures) _ (c16 .n .given .1) in
     let k = length-take-le (6 * c16 .n .given .0 .0) (c26 .set-strips .last .1 .1 .1 .1 .1 .1 .1 .1 .1 .0)
     (omega (arith, h, c26 .set-strips .kept .1 .1 .1 .1 .1 .1 .1 .1 .1 .0)) in (
@@ -134,10 +140,12 @@ enter-copy-requires c κs =
       omega (arith, k),
       refl,
       none-laid _ _ (c39 .args .entries .now) (c39 .args .starts .now) (c39 .pre .0) (c39 .pre .1),
-      nameable (c39 .args .bytes .now) (c39 .args .at) (c39 .args .sheet .now) (c26 .set-strips .last .1 .1 .1 .1 .1 .1 .1 .1 .1 .0) (c26 .set-strips .result)
+      nameable (c39 .args .f) (c39 .args .bytes .now) (c39 .args .at) (c39 .args .sheet .now) (c26 .set-strips .last .1 .1 .1 .1 .1 .1 .1 .1 .1 .0)
+          (c26 .set-strips .result)
           (c26 .set-strips .ensures) _ (c16 .n .given .1) (c26 .set-strips .kept .1 .1 .1 .1 .1 .1 .1 .1 .1 .0) (c39 .args .firsts .now)
           (c12 .standing-capacity .result) (c12 .standing-capacity .ensures) (c11 .if1 .left),
-      long (c39 .args .bytes .now) (c39 .args .at) (c39 .args .sheet .now) (c26 .set-strips .last .1 .1 .1 .1 .1 .1 .1 .1 .1 .0) (c26 .set-strips .result)
+      long (c39 .args .f) (c39 .args .bytes .now) (c39 .args .at) (c39 .args .sheet .now) (c26 .set-strips .last .1 .1 .1 .1 .1 .1 .1 .1 .1 .0)
+          (c26 .set-strips .result)
           (c26 .set-strips .ensures) _ (c16 .n .given .1) (c26 .set-strips .kept .1 .1 .1 .1 .1 .1 .1 .1 .1 .0) (c39 .args .firsts .now)
           (c12 .standing-capacity .result) (c12 .standing-capacity .ensures) (c11 .if1 .left),
     )
@@ -174,7 +182,8 @@ returns-3 c =
     let c25 = c21 .before .before .before .before in
     let c35 = c25 .before .before .before .before .before .before .before .before .before .before in
     let c48 = c35 .before .before .before .before .before .before .before .before .before .before .before .before .before in
-    sheet-in (c48 .args .bytes .now) (c48 .args .at) (c48 .args .sheet .now) (c35 .set-strips .last .1 .1 .1 .1 .1 .1 .1 .1 .1 .0) (c35 .set-strips .result)
+    sheet-in (c48 .args .f) (c48 .args .bytes .now) (c48 .args .at) (c48 .args .sheet .now) (c35 .set-strips .last .1 .1 .1 .1 .1 .1 .1 .1 .1 .0)
+    (c35 .set-strips .result)
     (c35 .set-strips .ensures) _ (c25 .n .given .1) (c35 .set-strips .kept .1 .1 .1 .1 .1 .1 .1 .1 .1 .0) (c48 .args .firsts .now)
     (c21 .standing-capacity .result) (c21 .standing-capacity .ensures) (c20 .if1 .left) (c17 .set-bounds .result) (c17 .set-bounds .ensures)
     (c14 .new .result)
@@ -214,7 +223,8 @@ returns-4 c =
     let c25 = c21 .before .before .before .before in
     let c35 = c25 .before .before .before .before .before .before .before .before .before .before in
     let c48 = c35 .before .before .before .before .before .before .before .before .before .before .before .before .before in
-    no-entries (c48 .args .bytes .now) (c48 .args .at) (c48 .args .sheet .now) (c35 .set-strips .last .1 .1 .1 .1 .1 .1 .1 .1 .1 .0) (c35 .set-strips .result)
+    no-entries (c48 .args .f) (c48 .args .bytes .now) (c48 .args .at) (c48 .args .sheet .now) (c35 .set-strips .last .1 .1 .1 .1 .1 .1 .1 .1 .1 .0)
+    (c35 .set-strips .result)
     (c35 .set-strips .ensures) _ (c25 .n .given .1) (c35 .set-strips .kept .1 .1 .1 .1 .1 .1 .1 .1 .1 .0) (c48 .args .firsts .now)
     (c21 .standing-capacity .result) (c21 .standing-capacity .ensures) (c20 .if1 .left) (c17 .set-bounds .result) (c17 .set-bounds .ensures)
     (c14 .new .result)

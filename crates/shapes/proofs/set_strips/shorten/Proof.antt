@@ -1,6 +1,6 @@
 use mathlib.Core.Path.{subst}
 use lib.ListN.{length-set}
-use Rattle.shapes.proofs.set_strips.ReadSets.{shorter-next}
+use Rattle.strips.proofs.EdgeTable.{ends-stored}
 -- `shapes::set_strips::shorten` meets its contract. Assumes nothing.
 use mathlib.Core.Path.{_≡_, refl, sym, ap, _∙_}
 use native.Mathlib.Omega.{arith}
@@ -43,7 +43,14 @@ loop-less : tie.Need-loop-less Inv-loop μ-loop
 loop-less c = search needs
 
 loop-again : tie.Need-loop-again Inv-loop μ-loop
-loop-again c = (omega arith, shorter-next (c .before .before .loop .short) (c .before .before .before .args .ends .now) (c .before .before .loop .i) (omega (arith, c .before .before .loop .inv .2, c .before .before .before .pre .1)) (omega arith) (c .before .before .loop .inv .1), length-set (c .before .before .loop .short) (c .before .before .loop .i) (getD (c .before .before .before .args .ends .now) (c .before .before .loop .i) 0) ∙ c .before .before .loop .inv .2)
+loop-again c = (
+  omega arith,
+  ends-stored (c .before .before .loop .short) (c .before .before .before .args .ends .now) (c .before .before .loop .i)
+      (omega (arith, c .before .before .loop .inv .2, c .before .before .before .pre .1)) (omega arith) (c .before .before .loop .inv .1),
+  length-set
+      (c .before .before .loop .short) (c .before .before .loop .i) (getD (c .before .before .before .args .ends .now) (c .before .before .loop .i) 0) ∙
+      c .before .before .loop .inv .2,
+)
 
 same-length : tie.Need-same-length Inv-loop μ-loop
 same-length c = c .before .loop .inv .2

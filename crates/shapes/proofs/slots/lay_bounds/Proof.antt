@@ -14,19 +14,20 @@ use Rattle.shapes.proofs.slots.put_bounds.Reads as put-bounds-reads
 use Rattle.shapes.proofs.slots.slot_bounds.Reads as slot-bounds-reads
 
 abbrev Inv-loop : tie.InvT-loop
-Inv-loop bytes rows places kinds points₀ ends₀ table₀ i₀ points ends table i =
-    (length points ≡ length points₀) × (length ends ≡ length ends₀) × (i ≤ 1024) × BoundsTo (slotBounds bytes rows places kinds) i table₀ table
+Inv-loop bytes rows places kinds points₀ ends₀ table₀ f i₀ points ends table i =
+    (length points ≡ length points₀) × (length ends ≡ length ends₀) × (i ≤ 1024) × BoundsTo (slotBounds f bytes rows places kinds) i table₀ table
 
 abbrev μ-loop : tie.MeasureT-loop
-μ-loop bytes rows places kinds points₀ ends₀ table₀ i₀ points ends table i = 1024 - i
+μ-loop bytes rows places kinds points₀ ends₀ table₀ f i₀ points ends table i = 1024 - i
 
 loop-holds : tie.Need-loop-holds Inv-loop μ-loop
 loop-holds c =
-    let c6 = c .before .before .before .before .before .before in (
+    let c6 = c .before .before .before .before .before .before in
+    let c6 = c6 in (
       refl,
       refl,
       omega arith,
-      bounds-start (slotBounds (c6 .args .bytes .now) (c6 .args .rows .now) (c6 .args .places .now) (c6 .args .kinds))
+      bounds-start (slotBounds (c6 .args .f) (c6 .args .bytes .now) (c6 .args .rows .now) (c6 .args .places .now) (c6 .args .kinds))
           (c6 .args .table .now),
     )
 
@@ -59,12 +60,13 @@ loop-again c =
     let c8 = c2 .before .before .before .before .before .before in
     let c11 = c8 .before .before .before in
     let c12 = c11 .before in
-    let c19 = c12 .before .before .before .before .before .before .before in (
+    let c19 = c12 .before .before .before .before .before .before .before in
+    let c19 = c19 in (
       c8 .slot-bounds .kept .1 .1 .1 .1 .1 .0 ∙ c12 .loop .inv .0,
       c8 .slot-bounds .kept .1 .1 .1 .1 .1 .1 .0 ∙ c12 .loop .inv .1,
       omega
           (arith, c11 .loop-test .taken),
-      bounds-on (slotBounds (c19 .args .bytes .now) (c19 .args .rows .now) (c19 .args .places .now) (c19 .args .kinds))
+      bounds-on (slotBounds (c19 .args .f) (c19 .args .bytes .now) (c19 .args .rows .now) (c19 .args .places .now) (c19 .args .kinds))
           (c19 .args .table .now) (c12 .loop .table) (c2 .put-bounds .last .0) (c12 .loop .i) (c8 .slot-bounds .result) (c12 .loop .inv .3)
           (c2 .put-bounds .kept .0) (c8 .slot-bounds .ensures) (c2 .put-bounds .ensures .0) (c2 .put-bounds .ensures .1),
     )
@@ -83,7 +85,8 @@ returns c =
     let c1 = c .before in
     let c8 = c1 .before .before .before .before .before .before .before in
     let e : c1 .loop .i ≡ 1024 = omega (arith, c1 .loop .inv .2, c .loop-test .left) in
-    subst (λ (n : ℕ). BoundsTo (slotBounds (c8 .args .bytes .now) (c8 .args .rows .now) (c8 .args .places .now) (c8 .args .kinds)) n (c8 .args .table .now)
+    subst (λ (n : ℕ). BoundsTo (slotBounds (c8 .args .f) (c8 .args .bytes .now) (c8 .args .rows .now) (c8 .args .places .now) (c8 .args .kinds)) n
+    (c8 .args .table .now)
     (c1 .loop .table)) e (c1 .loop .inv .3)
 
 pub lay-bounds-spec : {M : Type 1} → statement M

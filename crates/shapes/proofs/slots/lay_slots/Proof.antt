@@ -13,26 +13,28 @@ use Rattle.shapes.proofs.slots.lay_slots.Lts as lts
 use Rattle.shapes.proofs.slots.slot_strips.Reads as slot-strips-reads
 
 abbrev Inv-loop : tie.InvT-loop
-Inv-loop bytes rows places kinds which points₀ ends₀ short₀ es₀ crossings₀ line₀ shapes₀ from parts₀ i₀ held₀ points ends short es crossings line shapes parts i
+Inv-loop bytes rows places kinds which points₀ ends₀ short₀ es₀ crossings₀ line₀ shapes₀ from parts₀ f i₀ held₀ points ends short es crossings line shapes parts
+    i
     held =
     (length points ≡ length points₀) × (length ends ≡ length ends₀) × (length short ≡ length short₀) × (length es ≡ length es₀) ×
     (length crossings ≡ length crossings₀) × (length line ≡ length line₀)
-    × StripsTo which (slotStrips bytes rows places kinds which) from shapes₀ parts₀ shapes parts i held
+    × StripsTo which (slotStrips f bytes rows places kinds which) from shapes₀ parts₀ shapes parts i held
 
 abbrev μ-loop : tie.MeasureT-loop
-μ-loop bytes rows places kinds which points₀ ends₀ short₀ es₀ crossings₀ line₀ shapes₀ from parts₀ i₀ held₀ points ends short es crossings line shapes parts i
+μ-loop bytes rows places kinds which points₀ ends₀ short₀ es₀ crossings₀ line₀ shapes₀ from parts₀ f i₀ held₀ points ends short es crossings line shapes parts i
     held = 1024 - i
 
 loop-holds : tie.Need-loop-holds Inv-loop μ-loop
 loop-holds c =
-    let c11 = c .before .before .before .before .before .before .before .before .before .before .before in (
+    let c11 = c .before .before .before .before .before .before .before .before .before .before .before in
+    let c11 = c11 in (
       refl,
       refl,
       refl,
       refl,
       refl,
       refl,
-      strips-start (c11 .args .which) (slotStrips (c11 .args .bytes .now) (c11 .args .rows .now) (c11 .args .places .now)
+      strips-start (c11 .args .which) (slotStrips (c11 .args .f) (c11 .args .bytes .now) (c11 .args .rows .now) (c11 .args .places .now)
           (c11 .args .kinds) (c11 .args .which)) (c11 .args .from) (c11 .args .shapes .now) (c11 .args .parts .now) (c11 .pre .2) (c11 .pre .9),
     )
 
@@ -40,7 +42,8 @@ slot-strips-requires : tie.Need-slot-strips-requires Inv-loop μ-loop
 slot-strips-requires c κs =
     let c7 = c .before .before .before .before .before .before .before in
     let c8 = c7 .before in
-    let c20 = c8 .before .before .before .before .before .before .before .before .before .before .before .before in (
+    let c20 = c8 .before .before .before .before .before .before .before .before .before .before .before .before in
+    let c20 = c20 in (
       c20 .pre .0,
       c20 .pre .1,
       c20 .pre .2,
@@ -128,7 +131,7 @@ add-held c =
     let c17 = c1 .before .before .before .before .before .before .before .before .before .before .before .before .before .before .before .before in
     let c26 = c17 .before .before .before .before .before .before .before .before .before in
     let c38 = c26 .before .before .before .before .before .before .before .before .before .before .before .before in
-    let h = more-fits (c38 .args .which) (slotStrips (c38 .args .bytes .now) (c38 .args .rows .now) (c38 .args .places .now) (c38 .args .kinds)
+    let h = more-fits (c38 .args .which) (slotStrips (c38 .args .f) (c38 .args .bytes .now) (c38 .args .rows .now) (c38 .args .places .now) (c38 .args .kinds)
     (c38 .args .which)) (c38 .args .from) (c38 .args .shapes .now) (c38 .args .parts .now) (c38 .pre .2) (c38 .pre .9) (c26 .loop .shapes)
     (c26 .loop .parts) (c26 .loop .i) (c26 .loop .held) (c26 .loop .inv .6) (c17 .slot-strips .last .1 .1 .1 .1 .1 .1 .1 .1 .1 .1 .1 .1 .0)
     (c1 .n .given .0 .0) (c17 .slot-strips .result) (c17 .slot-strips .ensures) (c1 .n .given .1) in
@@ -192,7 +195,8 @@ returns c =
     let c24 = c16 .before .before .before .before .before .before .before .before in
     let c25 = c24 .before in
     let c37 = c25 .before .before .before .before .before .before .before .before .before .before .before .before in
-    strips-over (c37 .args .which) (slotStrips (c37 .args .bytes .now) (c37 .args .rows .now) (c37 .args .places .now) (c37 .args .kinds) (c37 .args .which))
+    strips-over (c37 .args .which) (slotStrips (c37 .args .f) (c37 .args .bytes .now) (c37 .args .rows .now) (c37 .args .places .now) (c37 .args .kinds)
+    (c37 .args .which))
     (c37 .args .from) (c37 .args .shapes .now) (c37 .args .parts .now) (c37 .pre .2) (c37 .pre .9) (c25 .loop .shapes) (c25 .loop .parts) (c25 .loop .i)
     (c25 .loop .held) (c25 .loop .inv .6) (c16 .slot-strips .last .1 .1 .1 .1 .1 .1 .1 .1 .1 .1 .1 .1 .0) (c16 .slot-strips .result) (c24 .loop-test .taken)
     (c16 .slot-strips .ensures) (c .enum-told .given .1)
@@ -215,7 +219,8 @@ loop-again c =
     let c17 = c1 .before .before .before .before .before .before .before .before .before .before .before .before .before .before .before .before in
     let c25 = c17 .before .before .before .before .before .before .before .before in
     let c26 = c25 .before in
-    let c38 = c26 .before .before .before .before .before .before .before .before .before .before .before .before in (
+    let c38 = c26 .before .before .before .before .before .before .before .before .before .before .before .before in
+    let c38 = c38 in (
       c17 .slot-strips .kept .1 .1 .1 .1 .1 .1 .0 ∙ c26 .loop .inv .0,
       c17 .slot-strips .kept .1 .1 .1 .1 .1 .1 .1 .0 ∙ c26 .loop .inv .1,
       c17 .slot-strips .kept .1 .1 .1 .1 .1 .1 .1 .1 .0 ∙ c26 .loop .inv .2,
@@ -223,14 +228,14 @@ loop-again c =
       c17 .slot-strips .kept .1 .1 .1 .1 .1 .1 .1 .1 .1 .1 .0 ∙ c26 .loop .inv .4,
       c17 .slot-strips .kept .1 .1 .1 .1 .1 .1 .1 .1 .1 .1 .1 .0 ∙
           c26 .loop .inv .5,
-      strips-on (c38 .args .which) (slotStrips (c38 .args .bytes .now) (c38 .args .rows .now) (c38 .args .places .now) (c38 .args .kinds)
+      strips-on (c38 .args .which) (slotStrips (c38 .args .f) (c38 .args .bytes .now) (c38 .args .rows .now) (c38 .args .places .now) (c38 .args .kinds)
           (c38 .args .which)) (c38 .args .from) (c38 .args .shapes .now) (c38 .args .parts .now) (c38 .pre .2) (c38 .pre .9) (c26 .loop .shapes)
           (c26 .loop .parts) (c26 .loop .i) (c26 .loop .held) (c26 .loop .inv .6) (c17 .slot-strips .last .1 .1 .1 .1 .1 .1 .1 .1 .1 .1 .1 .1 .0)
           (c1 .n .given .0 .0) (c17 .slot-strips .result) (c25 .loop-test .taken) (c38 .pre .10) (c17 .slot-strips .ensures) (c1 .n .given .1),
     )
 
-sub-t39 : tie.Need-sub-t39 Inv-loop μ-loop
-sub-t39 c = omega (arith, c .before .loop .inv .6 .number)
+sub-t40 : tie.Need-sub-t40 Inv-loop μ-loop
+sub-t40 c = omega (arith, c .before .loop .inv .6 .number)
 
 same-length-9 : tie.Need-same-length-9 Inv-loop μ-loop
 same-length-9 c = c .before .loop .inv .0
@@ -260,7 +265,8 @@ returns-2 : tie.Need-returns-2 Inv-loop μ-loop
 returns-2 c =
     let c1 = c .before in
     let c13 = c1 .before .before .before .before .before .before .before .before .before .before .before .before in
-    strips-all (c13 .args .which) (slotStrips (c13 .args .bytes .now) (c13 .args .rows .now) (c13 .args .places .now) (c13 .args .kinds) (c13 .args .which))
+    strips-all (c13 .args .which) (slotStrips (c13 .args .f) (c13 .args .bytes .now) (c13 .args .rows .now) (c13 .args .places .now) (c13 .args .kinds)
+    (c13 .args .which))
     (c13 .args .from) (c13 .args .shapes .now) (c13 .args .parts .now) (c13 .pre .2) (c13 .pre .9) (c1 .loop .shapes) (c1 .loop .parts) (c1 .loop .i)
     (c1 .loop .held) (c1 .loop .inv .6) (c .loop-test .left)
 
@@ -296,7 +302,7 @@ lay-slots-spec =
     add-i
     loop-less
     loop-again
-    sub-t39
+    sub-t40
     same-length-9
     same-length-10
     same-length-11

@@ -39,14 +39,14 @@ returns c =
     let c8 = c .before .before .before .before .before .before .before .before in
     let c9 = c8 .before in
     let c15 = c9 .before .before .before .before .before .before in
-    c .before .before .before .before .set-bounds .ensures ∙ bounds-used (c15 .args .bytes .now) (c15 .args .rows .now) (c15 .args .places .now)
+    c .before .before .before .before .set-bounds .ensures ∙ bounds-used (c15 .args .f) (c15 .args .bytes .now) (c15 .args .rows .now) (c15 .args .places .now)
     (c15 .args .kinds) (c15 .args .i) (sym (c9 .in-use .ensures) ∙ c8 .if1 .taken)
 
 returns-2 : tie.Need-returns-2
 unfolding noBounds lib.Ieee.ofBits
 returns-2 c =
     let c7 = c .before .before .before .before .before .before .before in
-    bounds-unused (c7 .args .bytes .now) (c7 .args .rows .now) (c7 .args .places .now) (c7 .args .kinds) (c7 .args .i)
+    bounds-unused (c7 .args .f) (c7 .args .bytes .now) (c7 .args .rows .now) (c7 .args .places .now) (c7 .args .kinds) (c7 .args .i)
     (sym (c .before .in-use .ensures) ∙ c .if1 .left)
 
 pub slot-bounds-spec : {M : Type 1} → statement M

@@ -58,13 +58,13 @@ returns c =
     let c24 = c23 .before in
     let c35 = c24 .before .before .before .before .before .before .before .before .before .before .before in
     c14 .set-strips .ensures ∙ ap (λ (l : List Trapezoid). stripsStored l (c35 .args .shapes .now) (c35 .args .from))
-    (strips-used (c35 .args .bytes .now) (c35 .args .rows .now) (c35 .args .places .now) (c35 .args .kinds) (c35 .args .which) (c35 .args .i)
+    (strips-used (c35 .args .f) (c35 .args .bytes .now) (c35 .args .rows .now) (c35 .args .places .now) (c35 .args .kinds) (c35 .args .which) (c35 .args .i)
     (sym (c24 .in-use .ensures) ∙ c23 .if1 .taken))
 
 returns-2 : tie.Need-returns-2
 returns-2 c =
     let c12 = c .before .before .before .before .before .before .before .before .before .before .before .before in
-    nothing-laid (c12 .args .bytes .now) (c12 .args .rows .now) (c12 .args .places .now) (c12 .args .kinds) (c12 .args .which) (c12 .args .i)
+    nothing-laid (c12 .args .f) (c12 .args .bytes .now) (c12 .args .rows .now) (c12 .args .places .now) (c12 .args .kinds) (c12 .args .which) (c12 .args .i)
     (c12 .args .shapes .now) (c12 .args .from) (sym (c .before .in-use .ensures) ∙ c .if1 .left) (c12 .pre .10)
 
 pub slot-strips-spec : {M : Type 1} → statement M

@@ -1,4 +1,4 @@
--- For inner functions' contracts only: the shapes by slot, as the job's tables tell them. `rows` has four numbers to a kind, the last its
+-- For inner functions' contracts only: the shapes by slot in the job's frame, as its tables tell them. `rows` has four numbers to a kind, the last its
 -- orientations; `places` has two to a slot, where its apart set begins and where its inset set begins. Definitions only. Assumes nothing.
 use Prim.Native.Nat.{ℕ, zero, suc, _+_, _*_, _/_, _%_, _≤_, _<_}
 use mathlib.Core.Path.{_≡_}
@@ -17,6 +17,8 @@ use Rattle.strips.specs.inner.Tables as Tables
 use Rattle.filling.specs.Shapes.{Shape, setBounds, noBounds}
 use Rattle.filling.specs.State.{boundsAt}
 use Rattle.shapes.specs.set_strips.inner.SetStrips.{stripsAt}
+use Rattle.frames.specs.declared.Frame.{Frame}
+use Rattle.frames.specs.Frames.{framed}
 use Rattle.kinds.specs.sets.inner.Answers.{setAt}
 
 -- whether the job has slot i
@@ -24,20 +26,20 @@ unfoldable pub inUse : List ℕ → ℕ → ℕ → Bool
 inUse rows kinds i = ltb (i / 16) kinds && ltb (i % 16) (getD rows (4 * (i / 16) + 3) 0)
 
 -- the strips of slot i: of its apart set (0) or its inset set (1)
-unfoldable pub slotStrips : List ℕ → List ℕ → List ℕ → ℕ → ℕ → ℕ → List Trapezoid
-slotStrips bytes rows places kinds which i = elim (inUse rows kinds i) [ true ↦ stripsAt bytes (getD places (2 * i + which) 0) false | false ↦ [] ]
+unfoldable pub slotStrips : Frame → List ℕ → List ℕ → List ℕ → ℕ → ℕ → ℕ → List Trapezoid
+slotStrips f bytes rows places kinds which i = elim (inUse rows kinds i) [ true ↦ stripsAt f bytes (getD places (2 * i + which) 0) false | false ↦ [] ]
 
 -- the inset bounds of slot i
-unfoldable pub slotBounds : List ℕ → List ℕ → List ℕ → ℕ → ℕ → Rect
-slotBounds bytes rows places kinds i = elim (inUse rows kinds i) [ true ↦ setBounds (setAt bytes (getD places (2 * i + 1) 0)) | false ↦ noBounds ]
+unfoldable pub slotBounds : Frame → List ℕ → List ℕ → List ℕ → ℕ → ℕ → Rect
+slotBounds f bytes rows places kinds i = elim (inUse rows kinds i) [ true ↦ setBounds (framed f (setAt bytes (getD places (2 * i + 1) 0))) | false ↦ noBounds ]
 
 -- the shape of slot i
-unfoldable pub slotOf : List ℕ → List ℕ → List ℕ → ℕ → ℕ → Shape
-slotOf bytes rows places kinds i =
+unfoldable pub slotOf : Frame → List ℕ → List ℕ → List ℕ → ℕ → ℕ → Shape
+slotOf f bytes rows places kinds i =
     record {
-      apart = flat (slotStrips bytes rows places kinds 0 i);
-      inset = flat (slotStrips bytes rows places kinds 1 i);
-      bounds = slotBounds bytes rows places kinds i;
+      apart = flat (slotStrips f bytes rows places kinds 0 i);
+      inset = flat (slotStrips f bytes rows places kinds 1 i);
+      bounds = slotBounds f bytes rows places kinds i;
     }
 
 -- ---- one pass over the slots

@@ -261,7 +261,7 @@ returns c =
     let b = a .r .best in
     let tracks = now (a .tracks) in
     let spots = now (a .spots) in
-    λ j areas l t n e d z.
+    λ j areas l t n e d z f.
     kept-reply (a .r .verdict) b j l (plannerOf j) (now (a .order)) tracks spots
     (c26 .read-numbers .last .1 .1 .1 .0) (c22 .read-numbers2 .last .1 .1 .1 .0) (c18 .read-doubles .last .1 .1 .1 .0) (c14 .read-doubles2 .last .1 .1 .1 .0)
     (c10 .read-doubles3 .last .1 .1 .1 .0)
@@ -270,7 +270,7 @@ returns c =
     (field-half nan 3 0 _ 4096 spotNumbers (b .kept) spots (c18 .read-doubles .last .1 .1 .1 .0) (c18 .read-doubles .ensures) (c31 .copy-doubles .ensures))
     (field-half nan 3 1 _ 4096 spotNumbers (b .kept) spots (c14 .read-doubles2 .last .1 .1 .1 .0) (c14 .read-doubles2 .ensures) (c30 .copy-doubles2 .ensures))
     (field-half nan 3 2 _ 4096 spotNumbers (b .kept) spots (c10 .read-doubles3 .last .1 .1 .1 .0) (c10 .read-doubles3 .ensures) (c29 .copy-doubles3 .ensures))
-    _ (c .before .before .report .ensures j areas (plannerOf j) (nextColumns (keptTracks b tracks)) l t n e d z)
+    _ (c .before .before .report .ensures j areas (plannerOf j) (nextColumns (keptTracks b tracks)) l t n e d z f)
 
 pub report-kept-spec : {M : Type 1} → statement M
 report-kept-spec =

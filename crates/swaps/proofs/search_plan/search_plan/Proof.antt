@@ -5,6 +5,8 @@ use native.Mathlib.Omega.{arith}
 use lib.ListN.{length}
 use denote.Ref.{now}
 use Rattle.strips.specs.declared.Rect.{Rect}
+use Rattle.job.specs.declared.Header.{Header}
+use Rattle.job.specs.Jobs.{frameOf}
 use Rattle.nesting.specs.Rounds.{Swaps}
 use Rattle.nesting.specs.Nest.{nested}
 use Rattle.report.specs.inner.Replies.{replyOf}
@@ -53,37 +55,41 @@ search-requires c κs =
       p .5,
     )
 
+frame-of-requires : tie.Need-frame-of-requires
+frame-of-requires c κs = tt
+
 slice-aggregate-report-kept : tie.Need-slice-aggregate-report-kept
 slice-aggregate-report-kept c =
     let c16 = c .before .before .before .before .before .before .before .before .before .before .before .before .before .before .before .before in
     let c32 = c16 .before .before .before .before .before .before .before .before .before .before .before .before .before .before .before .before in
-    let c39 = c32 .before .before .before .before .before .before .before in
-    sym (length-unmapped _ (c39 .args .tables .parts) 4096 (c39 .good .0 .1 .1 .1 .1 .1 .1 .1 .0 .1 .0 .1))
+    let c40 = c32 .before .before .before .before .before .before .before .before in
+    sym (length-unmapped _ (c40 .args .tables .parts) 4096 (c40 .good .0 .1 .1 .1 .1 .1 .1 .1 .0 .1 .0 .1))
 
 slice-aggregate-report-kept-2 : tie.Need-slice-aggregate-report-kept-2
 slice-aggregate-report-kept-2 c =
-    let c15 = c .before .before .before .before .before .before .before .before .before .before .before .before .before .before .before in
-    let c26 = c15 .before .before .before .before .before .before .before .before .before .before .before in
-    sym (c15 .search .kept .1 .1 .1 .1 .1 .1 .1 .1 .1 .1 .1 .1 .1 .0 ∙ c26 .two-tracks .ensures)
+    let c16 = c .before .before .before .before .before .before .before .before .before .before .before .before .before .before .before .before in
+    let c27 = c16 .before .before .before .before .before .before .before .before .before .before .before in
+    sym (c16 .search .kept .1 .1 .1 .1 .1 .1 .1 .1 .1 .1 .1 .1 .1 .0 ∙ c27 .two-tracks .ensures)
 
 slice-aggregate-report-kept-3 : tie.Need-slice-aggregate-report-kept-3
 slice-aggregate-report-kept-3 c =
     let c16 = c .before .before .before .before .before .before .before .before .before .before .before .before .before .before .before .before in
-    let c26 = c16 .before .before .before .before .before .before .before .before .before .before in
-    sym (c16 .search .kept .1 .1 .1 .1 .1 .1 .1 .1 .1 .1 .1 .1 .1 .1 .0 ∙ c26 .two-spots .ensures)
+    let c17 = c16 .before in
+    let c27 = c17 .before .before .before .before .before .before .before .before .before .before in
+    sym (c17 .search .kept .1 .1 .1 .1 .1 .1 .1 .1 .1 .1 .1 .1 .1 .1 .0 ∙ c27 .two-spots .ensures)
 
 report-kept-requires : tie.Need-report-kept-requires
 report-kept-requires c κs =
     let c16 = c .before .before .before .before .before .before .before .before .before .before .before .before .before .before .before .before in
-    let c17 = c16 .before in
-    let c27 = c17 .before .before .before .before .before .before .before .before .before .before in
-    let c28 = c27 .before in
-    let c42 = c28 .before .before .before .before .before .before .before .before .before .before .before .before .before .before in
-    let a = c42 .args in
-    let p = c42 .pre in
-    let s = c17 .search in
+    let c18 = c16 .before .before in
+    let c28 = c18 .before .before .before .before .before .before .before .before .before .before in
+    let c29 = c28 .before in
+    let c43 = c29 .before .before .before .before .before .before .before .before .before .before .before .before .before .before in
+    let a = c43 .args in
+    let p = c43 .pre in
+    let s = c18 .search in
     let few = order-few (p .0 .0) _ (p .0 .1) (now (a .order)) (p .0 .2) in
-    let q = report-ready (p .0 .0) _ (p .0 .1) (s .last .1 .1 .1 .0) (as-few (s .kept .1 .1 .1 .0) few) (a .kinds) (p .0 .3) (s .result .verdict)
+    let q = report-ready (p .0 .0) _ (p .0 .1) (s .last .1 .1 .1 .0) (as-few (s .kept .1 .1 .1 .0) few) (a .h .kinds) (p .0 .3) (s .result .verdict)
     (λ _. s .ensures .1 (p .0 .0) (p .0 .2)) 4096 4096 4096 4096 1024 (length (now (a .positions))) refl refl refl refl refl
     (as-many (s .kept .1 .1 .1 .0) (p .3)) in (
       q .0,
@@ -93,35 +99,35 @@ report-kept-requires c κs =
       q .8,
       q .9,
       s .ensures .2,
-      two-of 6144 (length (s .last .1 .1 .1 .1 .1 .1 .1 .1 .1 .1 .1 .1 .1 .0)) (length (c28 .two-tracks .result))
-          (s .kept .1 .1 .1 .1 .1 .1 .1 .1 .1 .1 .1 .1 .1 .0) (c28 .two-tracks .ensures),
-      two-of 12288 (length (s .last .1 .1 .1 .1 .1 .1 .1 .1 .1 .1 .1 .1 .1 .1 .0)) (length (c27 .two-spots .result))
-          (s .kept .1 .1 .1 .1 .1 .1 .1 .1 .1 .1 .1 .1 .1 .1 .0) (c27 .two-spots .ensures),
+      two-of 6144 (length (s .last .1 .1 .1 .1 .1 .1 .1 .1 .1 .1 .1 .1 .1 .0)) (length (c29 .two-tracks .result))
+          (s .kept .1 .1 .1 .1 .1 .1 .1 .1 .1 .1 .1 .1 .1 .0) (c29 .two-tracks .ensures),
+      two-of 12288 (length (s .last .1 .1 .1 .1 .1 .1 .1 .1 .1 .1 .1 .1 .1 .1 .0)) (length (c28 .two-spots .result))
+          (s .kept .1 .1 .1 .1 .1 .1 .1 .1 .1 .1 .1 .1 .1 .1 .0) (c28 .two-spots .ensures),
     )
 
 same-length : tie.Need-same-length
 same-length c =
     let c16 = c .before .before .before .before .before .before .before .before .before .before .before .before .before .before .before .before in
-    let c20 = c16 .before .before .before .before in
-    c20 .search .kept .1 .1 .1 .0
+    let c21 = c16 .before .before .before .before .before in
+    c21 .search .kept .1 .1 .1 .0
 
 same-length-2 : tie.Need-same-length-2
 same-length-2 c =
     let c16 = c .before .before .before .before .before .before .before .before .before .before .before .before .before .before .before .before in
-    let c20 = c16 .before .before .before .before in
-    c20 .search .kept .1 .1 .1 .1 .1 .1 .1 .1 .1 .1 .0
+    let c21 = c16 .before .before .before .before .before in
+    c21 .search .kept .1 .1 .1 .1 .1 .1 .1 .1 .1 .1 .0
 
 same-length-3 : tie.Need-same-length-3
 same-length-3 c =
     let c16 = c .before .before .before .before .before .before .before .before .before .before .before .before .before .before .before .before in
-    let c20 = c16 .before .before .before .before in
-    c20 .search .kept .1 .1 .1 .1 .1 .1 .1 .1 .1 .1 .1 .0
+    let c21 = c16 .before .before .before .before .before in
+    c21 .search .kept .1 .1 .1 .1 .1 .1 .1 .1 .1 .1 .1 .0
 
 same-length-4 : tie.Need-same-length-4
 same-length-4 c =
     let c16 = c .before .before .before .before .before .before .before .before .before .before .before .before .before .before .before .before in
-    let c20 = c16 .before .before .before .before in
-    c20 .search .kept .1 .1 .1 .1 .1 .1 .1 .1 .1 .1 .1 .1 .0
+    let c21 = c16 .before .before .before .before .before in
+    c21 .search .kept .1 .1 .1 .1 .1 .1 .1 .1 .1 .1 .1 .1 .0
 
 same-length-5 : tie.Need-same-length-5
 same-length-5 c = c .before .before .report-kept .kept .1 .1 .1 .1 .1 .1 .1 .1 .1 .0
@@ -129,20 +135,20 @@ same-length-5 c = c .before .before .report-kept .kept .1 .1 .1 .1 .1 .1 .1 .1 .
 same-length-6 : tie.Need-same-length-6
 same-length-6 c =
     let c16 = c .before .before .before .before .before .before .before .before .before .before .before .before .before .before .before .before in
-    let c20 = c16 .before .before .before .before in
-    c20 .search .kept .1 .1 .1 .1 .1 .1 .1 .1 .1 .1 .1 .1 .1 .1 .1 .1 .0
+    let c21 = c16 .before .before .before .before .before in
+    c21 .search .kept .1 .1 .1 .1 .1 .1 .1 .1 .1 .1 .1 .1 .1 .1 .1 .1 .0
 
 returns : tie.Need-returns
 returns c =
-    let c16 = c .before .before .before .before .before .before .before .before .before .before .before .before .before .before .before .before in
-    let c20 = c16 .before .before .before .before in
-    let c36 = c20 .before .before .before .before .before .before .before .before .before .before .before .before .before .before .before .before in
-    let c45 = c36 .before .before .before .before .before .before .before .before .before in
-    let a = c45 .args in
+    let c8 = c .before .before .before .before .before .before .before .before in
+    let c21 = c8 .before .before .before .before .before .before .before .before .before .before .before .before .before in
+    let c37 = c21 .before .before .before .before .before .before .before .before .before .before .before .before .before .before .before .before in
+    let c46 = c37 .before .before .before .before .before .before .before .before .before in
+    let a = c46 .args in
     λ j l P r n es d e f k z.
     c .before .before .report-kept .ensures j (now (a .areas)) l (P .tabled) n (sym (ap (λ (b : Rect). b .right) (P .bounds)))
-    (parted j _ P (now (a .shapes)) (6 * a .tables .«apart_strips») refl) z
-    ∙ ap (λ (s : Swaps). replyOf (nested j l s)) (c20 .search .ensures .0 j P r l d e f k es)
+    (parted j _ P (now (a .shapes)) (6 * a .tables .«apart_strips») refl) z (sym (c8 .frame-of .ensures ∙ ap frameOf (sym es)))
+    ∙ ap (λ (s : Swaps). replyOf (nested j l s)) (c21 .search .ensures .0 j P r l d e f k (ap (λ (x : Header). x .seed) es))
 
 pub search-plan-spec : {M : Type 1} → statement M
 search-plan-spec =
@@ -153,6 +159,7 @@ search-plan-spec =
     slice-aggregate-search
     slice-aggregate-search-2
     search-requires
+    frame-of-requires
     slice-aggregate-report-kept
     slice-aggregate-report-kept-2
     slice-aggregate-report-kept-3

@@ -1,0 +1,4 @@
+pub mod Computing
+pub mod Turned
+pub mod Framing
+pub mod Zeros
