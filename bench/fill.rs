@@ -14,7 +14,7 @@ mod timing;
 
 use job::Job;
 use std::hint::black_box;
-use timed::lifted::reach::{Filled, Lifted};
+use timed::lifted::reach::{Filled, Framing, Lifted};
 
 extern "C" {
     fn panel_fill(
@@ -74,12 +74,15 @@ fn copy_order(job: &Job) -> Vec<usize> {
     kinds.iter().flat_map(|&k| vec![k; job.parts[k].quantity as usize]).collect()
 }
 
-/// The lifted places as they lie in the position room, by kind, then copy: five numbers of its six.
-fn positions(order: &[usize], filled: &Filled) -> Vec<[f64; 5]> {
+/// The lifted places, out of the job's frame, as they lie in the position room, by kind, then copy: five
+/// numbers of its six.
+fn positions(job: &Job, order: &[usize], filled: &Filled) -> Vec<[f64; 5]> {
+    let frame = Framing::of(job);
     let mut list: Vec<(usize, usize, [f64; 3])> = vec![];
     let mut copies = vec![0; 64];
     for (&kind, place) in order.iter().zip(&filled.placed) {
         if let Some((o, x, y)) = *place {
+            let [x, y] = frame.from([x, y]);
             list.push((kind, copies[kind], [o as f64, x, y]));
             copies[kind] += 1;
         }
@@ -123,7 +126,7 @@ fn main() {
         let filled = lifted_fill(&job, &order);
         let number = rooms.fill(bytes, &order);
         assert_eq!(number, 0, "{label}: refused");
-        let right = positions(&order, &filled);
+        let right = positions(&job, &order, &filled);
         assert!(holds(&rooms.positions, &right), "{label}: positions differ");
         let [lifted, ours] = timing::alternating(
             runs,

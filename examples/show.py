@@ -1,5 +1,6 @@
 #!/usr/bin/env python3
-"""Prints a plan from standard input with its doubles as decimal numbers, and of each panel how much air is above it."""
+"""Prints a plan from standard input with its doubles as decimal numbers, and of each panel how much air is above it,
+which is in the direction in which the job stacks panels (README, "Other corners")."""
 import re
 import struct
 import sys

@@ -21,14 +21,15 @@ from jobs import wide
 from jobs.bits import read_container
 from jobs.oracle import BUILD, HERE, ROOT
 from jobs.script import CALLS
-from wrong import changes, planner
-from wrong.changes import SCRIPT, WIDE
+from wrong import changes, frames, planner
+from wrong.changes import WIDE
 
 WORK = os.path.join(BUILD, "mutants")
 CRATES = os.path.join(ROOT, "crates")
 # First words of a script's answers; no title begins so.
 ANSWERS = [*CALLS, "room", "rooms"]
-MUTANTS = planner.MUTANTS + changes.MUTANTS
+MUTANTS = planner.MUTANTS + changes.MUTANTS + frames.MUTANTS
+SCRIPT = changes.SCRIPT + frames.SCRIPT
 EQUAL = planner.EQUAL + changes.EQUAL
 
 

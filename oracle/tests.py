@@ -1,13 +1,15 @@
 #!/usr/bin/env python3
-"""Tests of the oracle itself: the starred cases of document 01, the offcuts and gaps of document 02, the order
+"""Tests of the oracle itself: the starred cases of document 01, the offcuts, gaps and frames of document 02, the order
 of refusals where two hold, and every room exact and one short by --rooms."""
 import re
 import subprocess
 import sys
 
-from jobs.bits import bits, double, fields, pack, pack_fields, set_fields
+from jobs.bits import answer, bits, double, fields, pack, pack_fields, set_fields
 from jobs.cases import CLOCKWISE, TRIANGLE, case4, gap_cases, grid, job, offcut_cases, part, rect, run_cases, starred
-from jobs.oracle import ORACLE, without_gaps
+from jobs.frame_cases import edge_order, frame_cases, frame_jobs, tied, version_jobs, widths
+from jobs.frames import FRAMES, LOWER_LEFT, back, name, unframed, unframed_set
+from jobs.oracle import ORACLE, answers, without_gaps
 from jobs.script import RECORD, ROOMS
 
 CASE4 = """plan 4 1 0
@@ -57,8 +59,8 @@ def columns(text):
     return [double(int(p[3], 16)) for p in lines]
 
 
-def strips(s, which):
-    return oracle(pack_fields(set_fields(s, which)), "--strips", which)
+def strips(s, which, *options):
+    return oracle(pack_fields(set_fields(s, which)), "--strips", which, *options)
 
 
 def test_starred():
@@ -92,10 +94,13 @@ OFFCUTS = {
 }
 
 
+def last(text):
+    """Right and offcut."""
+    lines = [line.split() for line in text.splitlines()]
+    return tuple(double(int(p[1], 16)) for p in lines if p[0] in ("right", "offcut"))
+
+
 def test_offcut():
-    def last(text):
-        lines = [line.split() for line in text.splitlines()]
-        return tuple(double(int(p[1], 16)) for p in lines if p[0] in ("right", "offcut"))
     for label, j in offcut_cases():
         expect(label, last(oracle(j)), OFFCUTS[label])
         expect(label + ", lifted", last(oracle(j, "--lifted-only")), OFFCUTS[label])
@@ -135,6 +140,87 @@ def test_gap():
     expect("gaps of the kept filling", [p[5] for p in puts(oracle(kept))], [2, 1, 1])
 
 
+# Case 4 in each frame (document 02, W1), worked out on paper: where its four plates lie on the sheet, right and offcut.
+# Along y a column holds two plates: in the frame x runs from s0 - b0 in steps of 1 and plates stand at the first and the
+# fifth, y at the lowest and 3 higher; the framed sheet's right edge is 10 where x is not turned and 0 where it is. Along x
+# the frame is 6 wide and 10 high: a plate is 3 wide there, columns are the first and the fourth, and a row holds two.
+CASE4_FRAMES = {
+    (0, 1): ([(0, 0), (0, 3), (4, 0), (4, 3)], (8, 2)), (1, 1): ([(6, 0), (6, 3), (2, 0), (2, 3)], (-2, 2)),
+    (2, 1): ([(0, 3), (0, 0), (4, 3), (4, 0)], (8, 2)), (3, 1): ([(6, 3), (6, 0), (2, 3), (2, 0)], (-2, 2)),
+    (0, 0): ([(0, 0), (4, 0), (0, 3), (4, 3)], (6, 0)), (1, 0): ([(6, 0), (2, 0), (6, 3), (2, 3)], (6, 0)),
+    (2, 0): ([(0, 3), (4, 3), (0, 0), (4, 0)], (0, 0)), (3, 0): ([(6, 3), (2, 3), (6, 0), (2, 0)], (0, 0)),
+}
+
+
+def test_case4_frames():
+    for frame in FRAMES:
+        text, gaps = oracle(dict(case4(), frame=frame)), [3, 0, 3, 0] if frame[1] else [6, 2, 6, 2]
+        places, ends = CASE4_FRAMES[frame]
+        expect("case 4, " + name(frame), (puts(text), last(text)),
+               ([(0, i, 0, *p, gap) for i, (p, gap) in enumerate(zip(places, gaps))], ends))
+        # Along y 6 + 1 + 4 as ever; along x 1 + 1 in the first column, 4 to the fourth, 1, and 1 that finds nothing.
+        expect("looks, " + name(frame), f"look 0 0 {11 if frame[1] else 8}\n" in text, True)
+        rest = [line for line in without_gaps(text).splitlines() if not line.startswith("look ")]
+        expect(f"case 4, {name(frame)}, lifted", oracle(dict(case4(), frame=frame), "--lifted-only").splitlines(), rest)
+    expect("version 2 of the frame of version 1", oracle(dict(case4(), frame=LOWER_LEFT)), CASE4)
+    lines = oracle(dict(case4(), frame=(1, 1)), "--trace").splitlines()
+    places = [line.split()[2:] for line in lines if line.startswith("place ")][-5:]
+    expect("the state's places are in the frame", [p[1:3] for p in places[:4]],
+           [hexes(x, y).split() for x, y in ((-6, 0), (-6, 3), (-2, 0), (-2, 3))])
+    expect("and its sheet", lines[4], "sheet " + hexes(-10, 0, 0, 6))
+    room = oracle(dict(case4(), frame=(1, 1)), "--after").splitlines()[-1].split()
+    expect("positions are not", room[7:9] + room[25:27], hexes(6, 0, 2, 3).split())
+
+
+def out_of(frame, text):
+    """A plan with its positions taken out of a frame."""
+    def put(m):
+        x, y = back(frame, [double(int(w, 16)) for w in m[2].split()])
+        return f"{m[1]} {hexes(x + 0.0, y + 0.0)}"
+    return re.sub(r"^(put \S+ \S+ \S+) (\S+ \S+)", put, text, flags=re.M)
+
+
+def test_frames():
+    """A job whose framed sets are another's has that one's plan, but for positions."""
+    jobs = starred() + offcut_cases() + gap_cases() + [("order of edges", edge_order())]
+    plans = answers([(label, pack(j)) for label, j in jobs])
+    for frame in FRAMES:
+        turned = answers([(label, pack(unframed(j, frame))) for label, j in jobs])
+        wrong = [label for (label, _), a, b in zip(jobs, plans, turned) if out_of(frame, a) != b]
+        expect("plans in the frame " + name(frame), wrong, [])
+        option = ("--frame", ",".join(map(str, frame)))
+        for label, s in [("triangle", TRIANGLE), *tied().items()]:
+            told = strips(s, "part")
+            expect(f"{label}, {name(frame)}", strips(unframed_set(s, frame), "part", *option), told)
+            others = {"closing edge tied": [loop[-1:] + loop[:-1] for loop in s],
+                      "first edge tied": [loop[1:] + loop[:1] for loop in s], "loops tied": s[::-1]}
+            for which, other in others.items():
+                differ = strips(unframed_set(other, frame), "part", *option) != told
+                expect(f"{label}, {name(frame)}, changed so that it shows: {which}", differ, label == which)
+    text = "".join(answers([(label, pack(j)) for label, j in frame_cases()]))
+    expect("no minus zero", "8000000000000000" in text, False)
+    done = subprocess.run([ORACLE, "--frames", "100000", "7"], capture_output=True)
+    lines = done.stdout.decode().splitlines()
+    expect("the lifted frame and that by hand", (done.returncode, lines[-1]), (0, "800000 points, 0 mismatches"))
+    expect("frames that reverse", [line[:3] for line in lines if "reversing true" in line], ["0 0", "1 1", "2 1", "3 0"])
+    expect("none", [line[:3] for line in lines if "identity true" in line], ["0 1"])
+
+
+def test_versions():
+    for label, data in version_jobs():
+        n = int(label.split()[1])
+        expect(label, number(oracle(data)), "no 3" if n not in (1, 2) else "no 5")
+    for label, j in widths():
+        refused = ".0625" in label and ("width" in label) == ("along y" in label)
+        expect(label, number(oracle(j)), "no 8" if refused else "plan")
+    expect("1 after corner and axis", [oracle(bytes([b])) for b in range(0x20, 0x30)], ["no 1\n"] * 16)
+    turned = dict(case4(), frame=(3, 0))
+    expect("6 after corner and axis", oracle(upto("kinds", 0, turned)), "no 6\n")
+    expect("2 of version 2", oracle(pack(turned) + b"\0"), "no 2\n")
+    told = [text.strip() for text in answers(frame_jobs(), "--answer")]
+    expect("both readers", [answer(data) for _, data in frame_jobs()], told)
+
+
 def changed(name, value, j=None, nth=0):
     """A job's bytes with one field changed."""
     list_ = fields(j or case4())
@@ -155,7 +241,7 @@ def test_reader_order():
     many = job([part([rect(4, 3)], 4095), part([rect(4, 3)], 2)])
     wide = dict(many, sheet=rect(1e5, 6), resolution=0.001)
     expect("nothing", oracle(b""), "no 1\n")
-    expect("3 in one byte", oracle(b"\x20"), "no 3\n")
+    expect("3 in one byte", oracle(b"\x30"), "no 3\n")
     expect("1 inside kinds", oracle(b"\x10"), "no 1\n")
     expect("6 where the bytes then end", oracle(upto("kinds", 0)), "no 6\n")
     expect("6 at loops, then end", oracle(upto("sheet loops", 65)), "no 6\n")
@@ -269,7 +355,8 @@ def test_trace():
 
 
 def main():
-    for test in (test_starred, test_offcut, test_gap, test_reader_order, test_refusal_order, test_rooms_exact, test_trace):
+    for test in (test_starred, test_offcut, test_gap, test_case4_frames, test_frames, test_versions, test_reader_order,
+                 test_refusal_order, test_rooms_exact, test_trace):
         test()
     print(f"{tried} tests, {len(failed)} failed")
     sys.exit(len(failed) > 0)

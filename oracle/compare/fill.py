@@ -7,6 +7,7 @@ import sys
 
 from jobs.bits import answer, pack, write_container
 from jobs.draws import Draws
+from jobs.frames import frame_draws, framed
 from jobs.oracle import BUILD, ORACLE
 from jobs.random_jobs import random_job
 from jobs.script import PLAN, Script
@@ -15,11 +16,11 @@ BATCH = 500
 
 
 def jobs(n, seed):
-    """n accepted jobs, each with an order of its copies."""
-    r = Draws(seed)
+    """n accepted jobs, one in three of version 2, each with an order of its copies."""
+    r, f = Draws(seed), frame_draws(seed)
     made = 0
     while made < n:
-        j = random_job(r)
+        j = framed(random_job(r), f)
         data = pack(j)
         if len(data) > 65536 or answer(data) != "ok":
             continue

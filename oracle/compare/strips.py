@@ -2,7 +2,7 @@
 import subprocess
 import sys
 
-from jobs.strip_sets import answers, record, sets
+from jobs.strip_sets import answers, framed_sets, record
 
 BATCH = 500
 
@@ -20,7 +20,7 @@ def split(text):
 
 def main():
     program, n, seed = sys.argv[1], int(sys.argv[2]), int(sys.argv[3])
-    list_ = sets(n, seed)
+    list_ = framed_sets(n, seed)
     wrong = strips = refused = points = 0
     for at in range(0, n, BATCH):
         part = list_[at : at + BATCH]

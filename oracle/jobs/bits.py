@@ -1,7 +1,8 @@
 """Jobs as Python values, packed to document 01's bits and read back.
 
-A job is a dict: rounds, seed, resolution, sheet, parts. A part is a dict:
-quantity, fill, priority, area, orientations, each a pair of sets (apart,
+A job is a dict: rounds, seed, resolution, sheet, parts, and in version 2
+(document 02, W1) frame, a pair of the numbers of corner and axis. A part is a
+dict: quantity, fill, priority, area, orientations, each a pair of sets (apart,
 inset). A set is a list of loops, a loop a list of (x, y).
 """
 import math
@@ -30,9 +31,16 @@ def set_fields(s, name):
     return out
 
 
+def version(job):
+    """The version, and in version 2 corner and axis."""
+    if "frame" not in job:
+        return [("version", 4, 1)]
+    corner, axis = job["frame"]
+    return [("version", 4, 2), ("corner", 2, corner), ("axis", 1, axis)]
+
+
 def fields(job):
-    out = [
-        ("version", 4, 1),
+    out = version(job) + [
         ("kinds", 7, len(job["parts"])),
         ("rounds", 12, job["rounds"]),
         ("seed", 64, job["seed"]),
@@ -98,24 +106,30 @@ class Reader:
         return x
 
     def set(self):
-        total, xs = 0, []
+        total, points = 0, []
         for _ in range(self.count(7, 1, 64)):
             n = self.count(10, 3, 512)
             total += n
             if total > 512:
                 raise Refused(6)
             for _ in range(n):
-                xs.append(self.number(-1e5, 1e5))
-                self.number(-1e5, 1e5)
-        return xs
+                points.append((self.number(-1e5, 1e5), self.number(-1e5, 1e5)))
+        return points
+
+    def axis(self):
+        """The axis that the version gives: 0 for x, 1 for y."""
+        version = self.take(4)
+        if version not in (1, 2):
+            raise Refused(3)
+        return self.take(3) % 2 if version == 2 else 1
 
     def judge(self):
-        if self.take(4) != 1:
-            raise Refused(3)
+        axis = self.axis()
         kinds = self.count(7, 1, 64)
         self.take(12 + 64)
         resolution = self.number(0.001, 10000.0)
-        xs = self.set()
+        # Along x columns advance in y.
+        ends = [p[1 - axis] for p in self.set()]
         copies = 0
         for _ in range(kinds):
             copies += self.count(12, 1, 4095)
@@ -129,7 +143,7 @@ class Reader:
             raise Refused(2)
         if copies > 4096:
             raise Refused(7)
-        if (max(xs) - min(xs)) / resolution > 1e6:
+        if (max(ends) - min(ends)) / resolution > 1e6:
             raise Refused(8)
 
 

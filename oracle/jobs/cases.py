@@ -245,24 +245,24 @@ def rooms_cases():
     ]
 
 
-def cut_jobs():
-    """Every byte prefix of case 4's job, a further byte, filling bits."""
-    data = pack(case4())
-    out = [(f"case4 cut at {n}", data[:n]) for n in range(len(data))]
-    out += [("case4 and a byte", data + b"\0"), ("case4 and two", data + b"\0\0")]
-    for bit in range(-sum(w for _, w, _ in fields(case4())) % 8):
-        out.append((f"case4 filling bit {bit}", data[:-1] + bytes([data[-1] | 1 << bit])))
+def cut_jobs(j, label="case4"):
+    """Every byte prefix of a job, a further byte, filling bits."""
+    data = pack(j)
+    out = [(f"{label} cut at {n}", data[:n]) for n in range(len(data))]
+    out += [(f"{label} and a byte", data + b"\0"), (f"{label} and two", data + b"\0\0")]
+    for bit in range(-sum(w for _, w, _ in fields(j)) % 8):
+        out.append((f"{label} filling bit {bit}", data[:-1] + bytes([data[-1] | 1 << bit])))
     return out
 
 
-def one_bit_changes():
-    """Every one-bit change of case 4's job."""
-    data = pack(case4())
+def one_bit_changes(j, label="case4"):
+    """Every one-bit change of a job."""
+    data = pack(j)
     whole = int.from_bytes(data, "big")
     size = 8 * len(data)
     for bit in range(size):
         changed = whole ^ 1 << (size - 1 - bit)
-        yield f"case4 bit {bit}", changed.to_bytes(len(data), "big")
+        yield f"{label} bit {bit}", changed.to_bytes(len(data), "big")
 
 
 def length_cases():
@@ -299,4 +299,4 @@ def sized(size):
 def fixed():
     """All fixed jobs but the one-bit changes."""
     out = [(label, pack(j)) for label, j in starred() + run_cases() + rooms_cases() + offcut_cases() + gap_cases()]
-    return out + length_cases() + cut_jobs()
+    return out + length_cases() + cut_jobs(case4())

@@ -2,6 +2,7 @@
 import math
 
 from jobs.bits import bits, fields, pack_fields
+from jobs.frames import LOWER_LEFT, framed
 from jobs.random_jobs import valid
 
 COUNTS = {
@@ -12,6 +13,8 @@ COUNTS = {
     "quantity": [0, 1, 4095],
     "orientations": [0, 15, 16, 17, 31],
 }
+# In place of version 2.
+OTHER_VERSIONS = [0, 1, *range(3, 16)]
 
 
 def up(x):
@@ -38,6 +41,13 @@ def short(name):
     return name.split()[-1]
 
 
+def counts(list_, name):
+    """The strange values of a count."""
+    if name == "version" and list_[1][0] == "corner":
+        return OTHER_VERSIONS
+    return COUNTS.get(short(name), [])
+
+
 def fault(r, list_, names=None):
     """Changes one field in place; its label."""
     known = [i for i, f in enumerate(list_)
@@ -47,7 +57,7 @@ def fault(r, list_, names=None):
     name = r.choice(sorted({list_[i][0] for i in known}))
     i = r.choice([i for i in known if list_[i][0] == name])
     if short(name) in COUNTS:
-        value = r.choice(COUNTS[short(name)])
+        value = r.choice(counts(list_, name))
     elif r.random() < 0.5:
         value = r.choice(STRANGE)
     else:
@@ -61,7 +71,7 @@ def every_fault(job):
     list_ = fields(job)
     names = [f[0] for f in list_]
     for name in sorted(set(names)):
-        values = COUNTS.get(short(name), [])
+        values = counts(list_, name)
         if short(name) in DOUBLES:
             values = STRANGE + [bits(x) for x in DOUBLES[short(name)]]
         at = names.index(name)
@@ -107,12 +117,13 @@ def copies(r, job):
 
 
 def columns(r, job):
-    """A sheet of about a million columns; an end past it."""
+    """A sheet of about a million columns; an end past it. Along x it is high."""
     job["resolution"] = r.choice([0.001, 0.01, 0.0625, 0.1])
     width = job["resolution"] * 1e6
     width = r.choice([width, up(width), down(width), up(up(width)), width * 1.0001, width * 2])
-    job["sheet"] = [[(0.0, 0.0), (width, 0.0), (width, 1.0), (0.0, 1.0)]]
-    wide = [[(0.0, 0.0), (width * 0.999, 0.0), (width * 0.999, 1.0), (0.0, 1.0)]]
+    step = 1 if job.get("frame", LOWER_LEFT)[1] else -1
+    long = lambda w: [[p[::step] for p in ((0.0, 0.0), (w, 0.0), (w, 1.0), (0.0, 1.0))[::step]]]
+    job["sheet"], wide = long(width), long(width * 0.999)
     for p in job["parts"]:
         p["orientations"] = [(wide, wide)]
     job["rounds"] = 0
@@ -127,12 +138,12 @@ def tail(r, data, list_):
     return "further bytes", data + bytes(r.randrange(256) for _ in range(r.randint(1, 3)))
 
 
-def damaged(r):
-    """(label, bytes)."""
+def damaged(r, frames=None):
+    """(label, bytes); some in version 2 where there are draws of frames."""
     pick = r.random()
     if pick < 0.04:
         return "noise", bytes(r.randrange(256) for _ in range(r.choice([1, 3, 20, 400])))
-    job = valid(r)
+    job = framed(valid(r), frames)
     label = ""
     if pick < 0.16:
         label = r.choice([copies, columns])(r, job) + ", "

@@ -29,5 +29,10 @@ def nan_corner():
     return job([part([hatch], 1, 12, priority=1), part([rect(2, 2)], 1, 4)])
 
 
+def second_table():
+    """Case 4's plates on the table with its stop at the lower right, which advances upward: rows along x."""
+    return dict(case4(), frame=(1, 0))
+
+
 def examples():
-    return [("case4", case4()), ("holes", holes()), ("swaps", swaps()), ("nan-corner", nan_corner())]
+    return [("case4", case4()), ("second-table", second_table()), ("holes", holes()), ("swaps", swaps()), ("nan-corner", nan_corner())]

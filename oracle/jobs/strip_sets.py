@@ -1,12 +1,13 @@
 """Sets of loops for the strips, drawn by draws.py, and their two forms: the bits
 of a job for the oracle, and the records that the program strips_test reads; the
-lifted Rust's strips and bounds of them, by the oracle's option --strips."""
+lifted Rust's strips and bounds of them in a frame, by the oracle's option --strips."""
 import struct
 import subprocess
 from concurrent.futures import ThreadPoolExecutor
 
 from jobs.bits import pack_fields, set_fields
 from jobs.draws import Draws
+from jobs.frames import FRAMES, drawn_frame, frame_draws, unframed_set
 from jobs.oracle import ORACLE
 from jobs.shapes import finish, moved, outline, sheet, turn
 
@@ -47,6 +48,16 @@ def near(r):
         e = r.randint(1, 5) * 1e-13
         loops.append([(0, y), (x, e), (x, 70000 + r.randint(0, 3))])
     return loops
+
+
+def tied(r, at):
+    """As `near` in one loop: one of these edges closes it where it begins at point 0, and begins it
+    where it begins at 2. Where it is turned round, the point that it then begins with decides."""
+    x, y = r.randint(1, 9), float(r.choice([4096, 65536, -65536]))
+    loop = []
+    for k in r.sample(range(1, 5), r.randint(2, 4)):
+        loop += [(x, k * 1e-13), (x, 70000 + r.randint(0, 3)), (0, y)]
+    return finish(r, [loop[at:] + loop[:at]], "none")
 
 
 def many(r):
@@ -119,17 +130,47 @@ def sets(n, seed):
     return out
 
 
+# The share of tied sets.
+TIED = 0.1
+
+
+def framed_sets(n, seed):
+    """n sets, each with whether it is a sheet's and a frame, one after the other: the sets above, and in between tied
+    ones, by draws of their own."""
+    f = frame_draws(seed)
+    out = []
+    for is_sheet, loops in sets(n, seed):
+        frame = drawn_frame(f)
+        if f.random() < TIED:
+            loops = unframed_set(tied(f, f.randint(0, 2)), frame)
+        out.append((is_sheet, loops, frame))
+    return out
+
+
+def every_frame(n, seed):
+    """n sets of each frame, the last two of them tied."""
+    r = frame_draws(seed)
+    for i, frame in enumerate(FRAMES):
+        for is_sheet, loops in sets(n - 2, seed + i):
+            yield is_sheet, loops, frame
+        for at in (0, 2):
+            yield False, unframed_set(tied(r, at), frame), frame
+
+
 def job_bits(loops):
     return pack_fields(set_fields(loops, "set"))
 
 
-def record(is_sheet, loops):
+def record(is_sheet, loops, frame):
+    """The first byte: 1 for a sheet, 2 times the corner, 8 for the axis x."""
+    corner, axis = frame
     ends, n = [], 0
     for loop in loops:
         n += len(loop)
         ends.append(n)
     ends += [0] * (LOOPS - len(ends))
-    head = struct.pack(">BBH64H", int(is_sheet), len(loops), n, *ends)
+    first = int(is_sheet) + 2 * corner + 8 * (axis == 0)
+    head = struct.pack(">BBH64H", first, len(loops), n, *ends)
     return head + b"".join(struct.pack(">dd", x, y) for loop in loops for x, y in loop)
 
 
@@ -143,8 +184,8 @@ def program_text(oracle_text):
 
 
 def answer(one):
-    is_sheet, loops = one
-    command = [ORACLE, "--strips", "sheet" if is_sheet else "part"]
+    is_sheet, loops, (corner, axis) = one
+    command = [ORACLE, "--strips", "sheet" if is_sheet else "part", "--frame", f"{corner},{axis}"]
     done = subprocess.run(command, input=job_bits(loops), capture_output=True, check=True)
     return program_text(done.stdout.decode())
 

@@ -4,7 +4,7 @@ import subprocess
 
 from jobs.bits import pack, pack_fields, set_fields
 from jobs.cases import case4, grid, job, part, rect
-from jobs.examples import nan_corner
+from jobs.examples import nan_corner, second_table
 from jobs.oracle import ORACLE
 from jobs.script import PLAN, POSITIONS, Script, answers
 
@@ -107,6 +107,8 @@ def fillings():
         ("filling of nine plates in room for eight", 8, 1000, job([part([rect(4, 3)], 9, 12)])),
         ("filling of five plates without entries", 5, 0, case4()),
         ("filling of a hatch with a corner not a number", 1, 1000, nan_corner()),
+        ("filling of five plates on the second table", 5, 2000, second_table()),
+        ("filling of five plates, upper right along y", 5, 2000, dict(case4(), frame=(3, 1))),
     ]
 
 

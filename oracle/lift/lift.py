@@ -10,6 +10,10 @@ import sys
 # Whole items, by the start of their first line, in the order of nesting.rs.
 ITEMS = [
     "type P2 =",
+    "pub enum StartCorner {",
+    "pub enum FillAxis {",
+    "struct Frame {",
+    "impl Frame {",
     "fn bounds(",
     "struct Trapezoid {",
     "impl Trapezoid {",
@@ -40,8 +44,14 @@ HEAD = """// Made by oracle/lift/lift.py. Never committed. Text between "lifted"
 use super::*;
 """
 
-# What stands round a range of lines, so that it compiles unchanged.
+# Items without what stands above them: it derives traits of serde. Ours stands in its place.
+BARE = "pub enum "
+DERIVED = "#[derive(Clone, Copy, Default)]\n"
+
+# What stands round an item or a range of lines, so that it compiles unchanged.
 AROUND = {
+    "pub enum StartCorner": (DERIVED, ""),
+    "pub enum FillAxis": (DERIVED, ""),
     "look": ("""impl Planner<'_, Signal> {
     fn look(
         &self,
@@ -80,12 +90,12 @@ pub mod reach;
 
 def item_range(lines, start):
     """First and last line (from 0) of the item that starts so, with its
-    comments and attributes."""
+    comments and attributes where it is not one of BARE."""
     found = [i for i, line in enumerate(lines) if line.startswith(start)]
     if len(found) != 1:
         sys.exit(f"lift.py: {len(found)} lines start with {start!r}")
     first = last = found[0]
-    while re.match(r"(///|#\[)", lines[first - 1]):
+    while not start.startswith(BARE) and re.match(r"(///|#\[)", lines[first - 1]):
         first -= 1
     depth = 0
     while True:

@@ -1,11 +1,12 @@
 //! The lifted planner, the planner with rooms and the plain planner on one
 //! job: an answer, or a message where two of them differ.
 use crate::filling::Stop;
-use crate::job::Job;
+use crate::frame::Frame;
+use crate::job::{Job, Loops};
 use crate::nesting::{fill_order, nest, Plan};
 use crate::plain::plain;
 use crate::print::{offcut, positions};
-use crate::probed::lifted::reach::{set_bounds, strips, Filled, Lifted, Nested};
+use crate::probed::lifted::reach::{set_bounds, strips, Filled, Framing, Lifted, Nested};
 use crate::probed::{Search, Signal};
 use crate::rooms::{Rooms, Sizes};
 use crate::strips::{bounds, trapezoids};
@@ -35,26 +36,41 @@ fn same_bits(a: &[f64], b: &[f64]) -> bool {
     a.len() == b.len() && a.iter().zip(b).all(|(a, b)| a.to_bits() == b.to_bits())
 }
 
-/// `trapezoids` and `bounds`, lifted and by hand, of one set.
-pub fn same_strips(set: &crate::job::Loops, sheet: bool) -> Result<(), String> {
-    let (hand, lifted) = (trapezoids(set, sheet), strips(set, sheet));
-    if !same_bits(&hand.concat(), &lifted.concat()) {
+/// `loops` of a frame, `trapezoids` and `bounds`, lifted and by hand, of one set.
+pub fn same_strips(frames: (Frame, Framing), set: &Loops, sheet: bool) -> Result<(), String> {
+    let (hand, lifted) = (frames.0.loops(set), frames.1.loops(set));
+    let points = |set: &Loops| set.concat().concat();
+    let ends = |set: &Loops| set.iter().map(Vec::len).collect::<Vec<_>>();
+    if !same_bits(&points(&hand), &points(&lifted)) || ends(&hand) != ends(&lifted) {
+        return Err("framed loops differ".into());
+    }
+    if !same_bits(&trapezoids(&hand, sheet).concat(), &strips(&lifted, sheet).concat()) {
         return Err("strips differ".into());
     }
-    if !same_bits(&bounds(set), &set_bounds(set)) {
+    if !same_bits(&bounds(&hand), &set_bounds(&lifted)) {
         return Err("bounds differ".into());
     }
     Ok(())
 }
 
 fn all_strips(job: &Job) -> Result<(), String> {
-    same_strips(&job.sheet, true)?;
+    let frames = (Frame::of(job), Framing::of(job));
+    same_strips(frames, &job.sheet, true)?;
     for (kind, part) in job.parts.iter().enumerate() {
         for (o, orientation) in part.orientations.iter().enumerate() {
             for set in [&orientation.apart, &orientation.inset] {
-                same_strips(set, false).map_err(|e| format!("kind {kind} {o}: {e}"))?;
+                same_strips(frames, set, false).map_err(|e| format!("kind {kind} {o}: {e}"))?;
             }
         }
+    }
+    Ok(())
+}
+
+/// An accepted job's framed sheet is at most a million columns wide, by the lifted bounds.
+fn same_width(job: &Job, lifted: &Lifted) -> Result<(), String> {
+    let b = lifted.sheet_bounds();
+    if (b[2] - b[0]) / job.resolution > 1e6 {
+        return Err("accepted, and wider than 8 allows".into());
     }
     Ok(())
 }
@@ -138,7 +154,7 @@ fn same_looks(
 fn same_offcut(job: &Job, plan: &Plan, ends: &[Option<f64>]) -> Result<(), String> {
     let right = plan.layout.right;
     let reach = ends[plan.kept].map_or(right, |end| end.max(right));
-    let left = (set_bounds(&job.sheet)[2] - reach).max(0.0);
+    let left = (set_bounds(&Framing::of(job).loops(&job.sheet))[2] - reach).max(0.0);
     let printed = offcut(job, plan);
     if !same_bits(&[left], &[printed]) {
         return Err(format!("offcut: from the places {printed:?}, from the strips {left:?}"));
@@ -167,6 +183,7 @@ pub fn run(job: &Job, ask: &Ask) -> Result<Answer, String> {
     all_strips(job)?;
     let signal = Signal::default();
     let mut lifted = Lifted::new(job, &signal);
+    same_width(job, &lifted)?;
     let mut rooms = Rooms::new(&ask.sizes);
     let looks = ask.looks.then(Vec::new);
     let mut watch = Watch { lifted: Some(&mut lifted), looks, ..Default::default() };

@@ -1,5 +1,7 @@
 //! The planner with rooms, by hand from document 01, "Filling" and "Refused
-//! because of the state": start, next copy and a filling.
+//! because of the state": start, next copy and a filling. Sets are framed
+//! before their strips are made; nothing here leaves the frame.
+use crate::frame::Frame;
 use crate::index::{gap, height, Index};
 use crate::job::Job;
 use crate::rooms::{capacity, load, standing, store, Rooms, ENTRY, POSITION, STRIP};
@@ -115,18 +117,18 @@ fn keep(
 /// The shapes' strips: all apart strips by kind and orientation, then all
 /// inset strips.
 fn shapes(job: &Job, room: &mut [f64]) -> Result<Vec<Slot>, Stop> {
-    let mut slots = vec![];
+    let (frame, mut slots) = (Frame::of(job), vec![]);
     let (most, mut at) = (capacity(room.len(), STRIP), 0);
     for (kind, part) in job.parts.iter().enumerate() {
         for (orientation, o) in part.orientations.iter().enumerate() {
-            let apart = keep(room, most, &mut at, &trapezoids(&o.apart, false))?;
-            let (bounds, inset) = (bounds(&o.inset), 0..0);
+            let apart = keep(room, most, &mut at, &trapezoids(&frame.loops(&o.apart), false))?;
+            let (bounds, inset) = (bounds(&frame.loops(&o.inset)), 0..0);
             slots.push(Slot { kind, orientation, bounds, apart, inset, column: Some(0), looks: 0 });
         }
     }
     for slot in &mut slots {
         let o = &job.parts[slot.kind].orientations[slot.orientation];
-        slot.inset = keep(room, most, &mut at, &trapezoids(&o.inset, false))?;
+        slot.inset = keep(room, most, &mut at, &trapezoids(&frame.loops(&o.inset), false))?;
     }
     Ok(slots)
 }
@@ -139,8 +141,8 @@ pub fn start(job: &Job, order: &[usize], rooms: &mut Rooms) -> Result<State, Sto
     if !rearrangement(job, order) {
         return Err(Stop::Refused(10));
     }
-    let sheet = bounds(&job.sheet);
-    let strips = trapezoids(&job.sheet, true);
+    let loops = Frame::of(job).loops(&job.sheet);
+    let (sheet, strips) = (bounds(&loops), trapezoids(&loops, true));
     let mut sheet_strips = 0;
     let most = standing(rooms.sheet.len(), rooms.sheet_firsts.len());
     keep(&mut rooms.sheet, most, &mut sheet_strips, &strips)?;

@@ -1,4 +1,4 @@
-//! The job (document 01, "The job's bits") and the refusals 1 to 8.
+//! The job (document 01, "The job's bits"; version 2 is document 02's, W1) and the refusals 1 to 8.
 //! Names are those of nesting.rs where it has one.
 
 /// A set: loops of points.
@@ -21,10 +21,14 @@ pub struct Part {
 }
 
 pub struct Job {
+    /// By their places in the lists of nesting.rs: LowerLeft, LowerRight, UpperLeft, UpperRight; X, Y.
+    pub start_corner: u8,
+    pub fill_axis: u8,
     /// Swap rounds.
     pub search_iterations: u32,
     pub seed: u64,
     pub resolution: f64,
+    /// The sheet's and the parts' sets as they are read: not framed.
     pub sheet: Loops,
     pub parts: Vec<Part>,
 }
@@ -140,12 +144,14 @@ impl<'a> BitReader<'a> {
     }
 }
 
-/// The smallest and largest x of a set.
-fn width(set: &Loops) -> f64 {
-    let (mut low, mut high) = (set[0][0][0], set[0][0][0]);
-    for p in set.iter().flatten() {
-        low = if p[0] < low { p[0] } else { low };
-        high = if p[0] > high { p[0] } else { high };
+/// The sheet's extent along which columns advance: its width in the frame.
+fn width(job: &Job) -> f64 {
+    let i = if job.fill_axis == 0 { 1 } else { 0 };
+    let first = job.sheet[0][0][i];
+    let (mut low, mut high) = (first, first);
+    for p in job.sheet.iter().flatten() {
+        low = if p[i] < low { p[i] } else { low };
+        high = if p[i] > high { p[i] } else { high };
     }
     high - low
 }
@@ -153,9 +159,11 @@ fn width(set: &Loops) -> f64 {
 /// Bytes to a job, or the number of its refusal.
 pub fn read(bytes: &[u8]) -> Result<Job, Refusal> {
     let mut reader = BitReader::new(bytes);
-    if reader.field(4)? != 1 {
-        return Err(3);
-    }
+    let (start_corner, fill_axis) = match reader.field(4)? {
+        1 => (0, 1),
+        2 => (reader.field(2)? as u8, reader.field(1)? as u8),
+        _ => return Err(3),
+    };
     let kinds = reader.count(7, 1, 64)?;
     let search_iterations = reader.field(12)? as u32;
     let seed = reader.field(64)?;
@@ -166,11 +174,11 @@ pub fn read(bytes: &[u8]) -> Result<Job, Refusal> {
         parts.push(reader.part()?);
     }
     reader.end()?;
-    let job = Job { search_iterations, seed, resolution, sheet, parts };
+    let job = Job { start_corner, fill_axis, search_iterations, seed, resolution, sheet, parts };
     if job.copies() > 4096 {
         return Err(7);
     }
-    if width(&job.sheet) / resolution > 1e6 {
+    if width(&job) / resolution > 1e6 {
         return Err(8);
     }
     Ok(job)

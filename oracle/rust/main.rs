@@ -6,6 +6,7 @@ mod batch;
 mod compare;
 mod filling;
 mod flat;
+mod frame;
 mod hash;
 mod index;
 mod job;
@@ -32,6 +33,7 @@ const LONGEST: usize = 65_536;
 #[derive(Default)]
 pub struct Options {
     strips: Option<String>,
+    frame: Option<String>,
     looks: bool,
     order: Option<String>,
     shuffle: Option<u64>,
@@ -52,6 +54,7 @@ pub struct Options {
     plain_work: Option<u64>,
     nan_hatch: bool,
     draw_list: Option<u64>,
+    frames: Option<u64>,
     seed: Option<u64>,
 }
 
@@ -70,6 +73,7 @@ fn parse(args: &[String]) -> Result<Options, String> {
             |text: String| text.parse::<u64>().map_err(|_| format!("not a number: {text}"));
         match name.as_str() {
             "--strips" => o.strips = Some(value()?),
+            "--frame" => o.frame = Some(value()?),
             "--looks" => o.looks = true,
             "--order" => o.order = Some(value()?),
             "--shuffle" => o.shuffle = Some(number(value()?)?),
@@ -89,8 +93,9 @@ fn parse(args: &[String]) -> Result<Options, String> {
             "--time" => o.time = Some(number(value()?)? as u32),
             "--plain-work" => o.plain_work = Some(number(value()?)?),
             "--nan-hatch" => o.nan_hatch = true,
-            "--draw-list" => {
-                o.draw_list = Some(number(value()?)?);
+            "--draw-list" | "--frames" => {
+                let count = if name == "--frames" { &mut o.frames } else { &mut o.draw_list };
+                *count = Some(number(value()?)?);
                 o.seed = Some(number(value()?)?);
             }
             _ => return Err(format!("no option {name}")),
@@ -111,6 +116,17 @@ impl Options {
             None => Ok(Sizes::plan()),
             Some("ample") => Ok(Sizes::ample()),
             Some(text) => Sizes::parse(text).ok_or("--rooms needs nine numbers".into()),
+        }
+    }
+
+    /// Corner and axis of `--frame`; else lower left, along y.
+    fn frame(&self) -> Result<(u8, u8), String> {
+        let Some(text) = &self.frame else {
+            return Ok((0, 1));
+        };
+        match numbers(text)?[..] {
+            [corner @ 0..=3, axis @ 0..=1] => Ok((corner as u8, axis as u8)),
+            _ => Err("--frame CORNER,AXIS".into()),
         }
     }
 
@@ -172,8 +188,8 @@ pub fn answer_text(
 fn other_text(bytes: &[u8], o: &Options) -> Result<Option<String>, String> {
     if let Some(which) = &o.strips {
         return match which.as_str() {
-            "part" => modes::strips_text(bytes, false).map(Some),
-            "sheet" => modes::strips_text(bytes, true).map(Some),
+            "part" => modes::strips_text(bytes, false, o.frame()?).map(Some),
+            "sheet" => modes::strips_text(bytes, true, o.frame()?).map(Some),
             _ => Err("--strips part or --strips sheet".into()),
         };
     }
@@ -217,8 +233,13 @@ fn draw_list(n: u64, seed: u64) -> String {
 fn oracle() -> Result<bool, String> {
     let args: Vec<String> = std::env::args().skip(1).collect();
     let options = parse(&args)?;
+    let mut agree = true;
     let text = if options.nan_hatch {
         modes::nan_hatch()
+    } else if let Some(n) = options.frames {
+        let (text, same) = modes::frames_text(n, options.seed.unwrap_or(0));
+        agree = same;
+        text
     } else if let Some(n) = options.draw_list {
         draw_list(n, options.seed.unwrap_or(0))
     } else if let Some(file) = &options.batch {
@@ -234,7 +255,7 @@ fn oracle() -> Result<bool, String> {
         }
     };
     std::io::stdout().write_all(text.as_bytes()).map_err(|e| e.to_string())?;
-    Ok(true)
+    Ok(agree)
 }
 
 fn main() {

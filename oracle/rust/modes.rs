@@ -1,23 +1,62 @@
-//! The smaller questions: strips of a set, the not-a-number hatch, timing.
+//! The smaller questions: strips of a set, the frames, the not-a-number hatch, timing.
 use crate::compare::same_strips;
 use crate::filling::Stop;
+use crate::frame::Frame;
 use crate::job::{read_set, Job, Loops, Orientation, Part};
-use crate::nesting::{nest, Layout, Plan};
+use crate::nesting::{nest, next_random, Layout, Plan};
 use crate::print::{self, hexes, refusal};
-use crate::probed::lifted::reach::{set_bounds, strips};
+use crate::probed::lifted::reach::{set_bounds, strips, Framing};
 use crate::rooms::{Rooms, Sizes};
+use crate::surroundings::Placement;
 use crate::timed;
 use crate::watch::Watch;
 use std::time::Instant;
 
-/// `--strips`: the lifted strips of a set, and its bounds.
-pub fn strips_text(bytes: &[u8], sheet: bool) -> Result<String, String> {
+/// `--strips`: the lifted strips of a set in a frame, and its bounds there.
+pub fn strips_text(bytes: &[u8], sheet: bool, (corner, axis): (u8, u8)) -> Result<String, String> {
     let set = match read_set(bytes) {
         Err(n) => return Ok(refusal(n)),
         Ok(set) => set,
     };
-    same_strips(&set, sheet)?;
-    Ok(set_text(&set, sheet))
+    let lifted = Framing::new(corner, axis);
+    same_strips((Frame::new(corner, axis), lifted), &set, sheet)?;
+    Ok(set_text(&lifted.loops(&set), sheet))
+}
+
+/// A finite double: a zero, a limit, a whole number, a denormal, or any.
+fn drawn(state: &mut u64) -> f64 {
+    let draw = next_random(state);
+    let sign = if draw & 8 == 0 { 1.0 } else { -1.0 };
+    let any = f64::from_bits(next_random(state));
+    sign * match draw % 8 {
+        0 => 0.0,
+        1 => 100_000.0,
+        2 => (draw >> 44) as f64,
+        3 => f64::from_bits(draw >> 12),
+        4 => f64::MAX,
+        _ if any.is_finite() => any,
+        _ => f64::MIN_POSITIVE,
+    }
+}
+
+/// `--frames N SEED`: of each frame whether it reverses and whether it is none, and N points through its
+/// `to` and `from`, lifted and by hand; how many differ, and whether none does.
+pub fn frames_text(n: u64, seed: u64) -> (String, bool) {
+    let (mut out, mut differ, mut state) = (String::new(), 0, seed);
+    let bits = |p: [f64; 2]| p.map(f64::to_bits);
+    for (corner, axis) in (0..4).flat_map(|corner| [(corner, 0), (corner, 1)]) {
+        let (hand, lifted) = (Frame::new(corner, axis), Framing::new(corner, axis));
+        let marks = (hand.reversing(), hand.identity());
+        let mut wrong = (marks != lifted.marks()) as u64;
+        for _ in 0..n {
+            let p = [drawn(&mut state), drawn(&mut state)];
+            let same = bits(hand.to(p)) == bits(lifted.to(p));
+            wrong += !(same && bits(hand.from(p)) == bits(lifted.from(p))) as u64;
+        }
+        out += &format!("{corner} {axis} reversing {} identity {}\n", marks.0, marks.1);
+        differ += wrong;
+    }
+    (out + &format!("{} points, {differ} mismatches\n", 8 * n), differ == 0)
 }
 
 fn set_text(set: &Loops, sheet: bool) -> String {
@@ -55,13 +94,19 @@ pub fn time(job: &Job, runs: u32) -> String {
 /// rooms or comparison. A put line has five fields, since the Rust has no gap.
 pub fn lifted_text(job: &Job) -> String {
     let nested = timed::lifted::reach::Lifted::new(job, &timed::Signal).nest(job);
+    let put = |p: &Placement| {
+        let [x, y] = p.translation_mm;
+        (p.part, p.copy, p.rotation_deg as usize, x, y, 0.0)
+    };
+    let positions = (nested.placements.iter().map(put).collect(), nested.copies);
     let filled = nested.filled;
     let looks = vec![];
     let (placed, right, unplaced_area) = (filled.placed, filled.right, filled.unplaced_area);
     let gaps = vec![0.0; placed.len()];
     let layout = Layout { placed, gaps, unplaced_area, right, looks };
     let (order, improvements, state) = (nested.order, nested.improvements, nested.state);
-    let text = print::plan(job, &Plan { order, layout, improvements, state, kept: 0 });
+    let plan = Plan { order, layout, improvements, state, kept: 0 };
+    let text = print::plan_with(job, &plan, positions);
     text.lines().map(|line| without_gap(line).to_string() + "\n").collect()
 }
 
@@ -125,7 +170,9 @@ pub fn nan_hatch() -> String {
 fn plate(hatch: Loops) -> String {
     let parts = vec![kind(hatch, 12.0, 1), kind(rectangle(2.0, 2.0), 4.0, 0)];
     let sheet = rectangle(10.0, 6.0);
-    let job = Job { search_iterations: 0, seed: 0, resolution: 1.0, sheet, parts };
+    let (start_corner, fill_axis) = (0, 1);
+    let (search_iterations, seed, resolution) = (0, 0, 1.0);
+    let job = Job { start_corner, fill_axis, search_iterations, seed, resolution, sheet, parts };
     let nested = timed::lifted::reach::Lifted::new(&job, &timed::Signal).nest(&job);
     let mut out = String::new();
     for p in nested.placements {

@@ -1,7 +1,8 @@
 //! The plain planner by hand from document 01: every search begins at column
 //! zero and holds the copy against every standing strip. No index, no rooms.
 use crate::filling::{ranges, Place, Ranges};
-use crate::job::Job;
+use crate::frame::Frame;
+use crate::job::{Job, Orientation};
 use crate::strips::{bounds, forbidden, moved, trapezoids, Strip};
 
 /// Pairs of strips that it may take, unless another limit is asked for.
@@ -124,22 +125,26 @@ impl Sheet {
 }
 
 fn slots(job: &Job, s: &[f64; 4]) -> Vec<Vec<Slot>> {
-    let slot = |o: &crate::job::Orientation| Slot {
-        bounds: bounds(&o.inset),
-        apart: trapezoids(&o.apart, false),
-        inset: trapezoids(&o.inset, false),
-        ranges: ranges(s, &bounds(&o.inset), job.resolution),
-        found: None,
-        finds: 0,
-        none: false,
+    let frame = Frame::of(job);
+    let slot = |o: &Orientation| {
+        let inset = frame.loops(&o.inset);
+        Slot {
+            bounds: bounds(&inset),
+            apart: trapezoids(&frame.loops(&o.apart), false),
+            inset: trapezoids(&inset, false),
+            ranges: ranges(s, &bounds(&inset), job.resolution),
+            found: None,
+            finds: 0,
+            none: false,
+        }
     };
     job.parts.iter().map(|p| p.orientations.iter().map(slot).collect()).collect()
 }
 
 /// The filling in an order; nothing where it takes more than `work` pairs.
 pub fn plain(job: &Job, order: &[usize], work: u64) -> Option<Plain> {
-    let s = bounds(&job.sheet);
-    let strips = trapezoids(&job.sheet, true);
+    let loops = Frame::of(job).loops(&job.sheet);
+    let (s, strips) = (bounds(&loops), trapezoids(&loops, true));
     let mut sheet = Sheet { resolution: job.resolution, strips, standing: vec![], work };
     let mut slots = slots(job, &s);
     let (placed, gaps, looks) = (vec![], vec![], vec![]);

@@ -1,4 +1,5 @@
-//! The printed plan (document 01), its offcut and gaps those of document 02, W2 and W7.
+//! The printed plan (document 01), its offcut, gaps and positions those of document 02, W2, W7 and W1.
+use crate::frame::Frame;
 use crate::job::Job;
 use crate::nesting::Plan;
 use crate::rooms::POSITION;
@@ -16,17 +17,22 @@ pub fn refusal(number: u32) -> String {
     format!("no {number}\n")
 }
 
-/// A placed copy: kind, copy, orientation, x, y, gap.
+/// A placed copy: kind, copy, orientation, x and y on the sheet, gap.
 pub type Position = (usize, u32, usize, f64, f64, f64);
 
 /// Placed copies numbered in the order, by kind, then copy; how many of each
 /// kind are placed.
-pub fn positions(job: &Job, plan: &Plan) -> (Vec<Position>, Vec<u32>) {
+pub type Positions = (Vec<Position>, Vec<u32>);
+
+/// Out of the places, which are in the frame.
+pub fn positions(job: &Job, plan: &Plan) -> Positions {
+    let frame = Frame::of(job);
     let mut copies = vec![0; job.parts.len()];
     let mut list = vec![];
     let places = plan.layout.placed.iter().zip(&plan.layout.gaps);
     for (&kind, (place, &gap)) in plan.order.iter().zip(places) {
         if let Some((o, x, y)) = *place {
+            let [x, y] = frame.from([x, y]);
             list.push((kind, copies[kind], o, x, y, gap));
             copies[kind] += 1;
         }
@@ -38,20 +44,24 @@ pub fn positions(job: &Job, plan: &Plan) -> (Vec<Position>, Vec<u32>) {
 /// Document 02, W2: the sheet's right edge minus the larger of right and the largest x1 of a placed
 /// apart strip, zero if that is below zero. `same_offcut` in compare.rs works it out another way.
 pub fn offcut(job: &Job, plan: &Plan) -> f64 {
-    let mut reach = plan.layout.right;
+    let (frame, mut reach) = (Frame::of(job), plan.layout.right);
     for (&kind, place) in plan.order.iter().zip(&plan.layout.placed) {
         if let Some((o, x, _)) = *place {
-            for s in trapezoids(&job.parts[kind].orientations[o].apart, false) {
+            for s in trapezoids(&frame.loops(&job.parts[kind].orientations[o].apart), false) {
                 reach = larger(reach, s[1] + x);
             }
         }
     }
-    let left = bounds(&job.sheet)[2] - reach;
+    let left = bounds(&frame.loops(&job.sheet))[2] - reach;
     if left < 0.0 { 0.0 } else { left }
 }
 
 pub fn plan(job: &Job, plan: &Plan) -> String {
-    let (list, copies) = positions(job, plan);
+    plan_with(job, plan, positions(job, plan))
+}
+
+/// The same with these positions.
+pub fn plan_with(job: &Job, plan: &Plan, (list, copies): Positions) -> String {
     let without = plan.order.len() - list.len();
     let mut out = format!("plan {} {} {}\n", list.len(), without, plan.improvements);
     for (kind, copy, o, x, y, gap) in list {

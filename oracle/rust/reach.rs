@@ -22,6 +22,43 @@ pub fn set_bounds(loops: &Loops) -> [f64; 4] {
     bounds(loops)
 }
 
+/// The lifted `Frame`, every minus zero made plus zero.
+#[derive(Clone, Copy)]
+pub struct Framing(Frame);
+
+fn plus_zero([x, y]: P2) -> P2 {
+    [x + 0.0, y + 0.0]
+}
+
+impl Framing {
+    /// Of a corner and an axis, by their places in the lifted lists.
+    pub fn new(corner: u8, axis: u8) -> Self {
+        use StartCorner::*;
+        let mut corners = [UpperRight, UpperLeft, LowerRight, LowerLeft].into_iter();
+        let mut axes = [FillAxis::Y, FillAxis::X].into_iter();
+        let corner = corners.find(|&c| c as u8 == corner).expect("a corner");
+        let axis = axes.find(|&a| a as u8 == axis).expect("an axis");
+        Self(Frame::new(corner, axis))
+    }
+    pub fn of(job: &Job) -> Self {
+        Self::new(job.start_corner, job.fill_axis)
+    }
+    pub fn loops(&self, set: &Loops) -> Loops {
+        let loops = self.0.loops(set.clone());
+        loops.into_iter().map(|points| points.into_iter().map(plus_zero).collect()).collect()
+    }
+    pub fn to(&self, p: P2) -> P2 {
+        plus_zero(self.0.to(p))
+    }
+    pub fn from(&self, p: P2) -> P2 {
+        plus_zero(self.0.from(p))
+    }
+    /// Whether it reverses, and whether it is none.
+    pub fn marks(&self) -> (bool, bool) {
+        (self.0.reversing(), self.0.identity())
+    }
+}
+
 /// The lifted `next_random`.
 pub fn next(state: &mut u64) -> u64 {
     next_random(state)
@@ -55,6 +92,7 @@ fn filled(layout: Layout) -> Filled {
 
 /// The lifted planner of a job, and an index of its own for single looks.
 pub struct Lifted<'a> {
+    frame: Framing,
     planner: Planner<'a, Signal>,
     placed_parts: Index,
     intervals: Vec<(f64, f64)>,
@@ -63,21 +101,24 @@ pub struct Lifted<'a> {
 impl<'a> Lifted<'a> {
     /// Shapes, sheet and bounds as `nest` prepares them, from ready loops.
     pub fn new(job: &Job, cancel: &'a Signal) -> Self {
-        let sheet_bounds = bounds(&job.sheet);
+        let frame = Framing::of(job);
+        let sheet_loops = frame.loops(&job.sheet);
+        let sheet_bounds = bounds(&sheet_loops);
         let mut sheet = Index::new(sheet_bounds[0], sheet_bounds[2]);
-        for piece in trapezoids(&job.sheet, Some(sheet_bounds)) {
+        for piece in trapezoids(&sheet_loops, Some(sheet_bounds)) {
             sheet.add(piece);
         }
         let mut shapes = vec![];
         for (kind, part) in job.parts.iter().enumerate() {
             let mut list = vec![];
             for (o, orientation) in part.orientations.iter().enumerate() {
+                let inset = frame.loops(&orientation.inset);
                 list.push(Shape {
                     rotation_deg: o as f64,
                     mirrored: false,
-                    apart: trapezoids(&orientation.apart, None),
-                    inset_bounds: bounds(&orientation.inset),
-                    inset: trapezoids(&orientation.inset, None),
+                    apart: trapezoids(&frame.loops(&orientation.apart), None),
+                    inset_bounds: bounds(&inset),
+                    inset: trapezoids(&inset, None),
                 });
             }
             shapes.push(orientations(kind, list, cancel));
@@ -91,12 +132,15 @@ impl<'a> Lifted<'a> {
             cancel,
         };
         let placed_parts = Index::new(sheet_bounds[0], sheet_bounds[2]);
-        Self { planner, placed_parts, intervals: vec![] }
+        Self { frame, planner, placed_parts, intervals: vec![] }
     }
 
     /// The lifted lines of `nest`.
     pub fn nest(&self, job: &Job) -> Nested {
-        let p = planned(job, &self.planner, &Frame).expect("never cancelled");
+        let mut p = planned(job, &self.planner, &self.frame.0).expect("never cancelled");
+        for placement in &mut p.placements {
+            placement.translation_mm = plus_zero(placement.translation_mm);
+        }
         Nested {
             order: p.order,
             filled: filled(p.best),
@@ -108,7 +152,12 @@ impl<'a> Lifted<'a> {
         }
     }
 
-    /// The lifted `fill`.
+    /// The bounds of the framed sheet.
+    pub fn sheet_bounds(&self) -> [f64; 4] {
+        self.planner.sheet_bounds
+    }
+
+    /// The lifted `fill`: its places are in the frame.
     pub fn fill(&self, order: &[usize]) -> Filled {
         filled(self.planner.fill(order).expect("never cancelled"))
     }

@@ -73,7 +73,7 @@ pub struct Script {
     rooms: [Vec<u64>; ROOMS],
     lengths: [usize; ROOMS],
     state: Flat,
-    /// Whether state or rooms were changed by hand since the start.
+    /// Whether job, state or rooms were changed by hand since the start.
     edited: bool,
     /// Whether nothing is compared.
     by_hand: bool,
@@ -324,7 +324,10 @@ impl Script {
     fn obey(&mut self, c: Command, data: &mut Reader) -> Result<(), String> {
         match c.letter {
             b'T' => self.out += &format!("{}\n", String::from_utf8_lossy(data.take(c.n)?)),
-            b'J' => self.job = data.take(c.n)?.to_vec(),
+            b'J' => {
+                self.job = data.take(c.n)?.to_vec();
+                self.edited = true;
+            }
             b'O' => {
                 let list = data.take(2 * c.n)?.chunks(2);
                 self.order = list.map(|b| (b[0] as usize) << 8 | b[1] as usize).collect();

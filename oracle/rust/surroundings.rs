@@ -6,18 +6,6 @@ pub trait CancelSignal {
     fn is_cancelled(&self) -> bool;
 }
 
-/// The planning frame: always the sheet's own.
-pub struct Frame;
-
-impl Frame {
-    pub fn identity(&self) -> bool {
-        true
-    }
-    pub fn from(&self, p: [f64; 2]) -> [f64; 2] {
-        p
-    }
-}
-
 /// A placed copy. `rotation_deg` carries the number of the orientation.
 #[derive(Clone, Copy)]
 pub struct Placement {

@@ -7,6 +7,9 @@ from jobs.double_faults import double_faults
 from jobs.draws import Draws
 from jobs.examples import nan_corner
 from jobs.faults import clauses
+from jobs.frame_calls import SECOND, frame_calls
+from jobs.frame_cases import mixed
+from jobs.frames import FRAMES, frame_draws, name
 from jobs.gap_faults import gap_faults
 from jobs.random_jobs import random_job
 from jobs.script import (INTERVALS, PLACED, PLACED_ENTRIES, PLACED_FIRSTS, POSITIONS, RECORD, ROOMS,
@@ -14,6 +17,7 @@ from jobs.script import (INTERVALS, PLACED, PLACED_ENTRIES, PLACED_FIRSTS, POSIT
 
 SEED = 11
 FILLINGS = 330
+FRAMED = 48
 LONGEST = 620
 # What each room refuses with.
 SHORT = [20, 20, 20, 21, 21, 20, 20, 22, 30]
@@ -188,15 +192,14 @@ def shuffled(r, list_):
     return r.sample(list_, len(list_))
 
 
-def fillings(s):
-    """Random jobs in random orders."""
-    r = Draws(SEED)
-    s.title("fillings")
+def fillings(s, title, r, count, frames=None):
+    """Random jobs in random orders, of version 2 where there are frames: in one after the other."""
+    s.title(title)
     s.rooms([903, 604, 1805, 9001, 16384, 100, 300, 701, 242])
     made = 0
-    while made < FILLINGS:
+    while made < count:
         j = random_job(r)
-        data = pack(j)
+        data = pack(dict(j, frame=frames[made % len(frames)]) if frames else j)
         copies = sum(p["quantity"] for p in j["parts"])
         order = shuffled(r, [k for k, p in enumerate(j["parts"]) for _ in range(p["quantity"])])
         if len(data) > LONGEST or copies > 40 or copies < 2 or answer(data) != "ok":
@@ -218,10 +221,18 @@ def refused_leaves(s):
     s.rooms([n + record for n, record in zip(needs(trace(j, [0] * 5), 5), RECORD)])
     s.start(0)
     s.leaf(0, 0, False, 0)
-    for other, number in ((b"", 1), (data[:-1], 1), (data + b"\0", 2), (bytes([data[0] + 16]) + data[1:], 3), (nan_corner(), 4)):
+    for other, number in ((b"", 1), (data[:-1], 1), (data + b"\0", 2), (bytes([data[0] + 32]) + data[1:], 3), (nan_corner(), 4)):
         s.job(other)
         s.leaf(0, 0, False, number)
         s.leaf(0, 1, True, number)
+
+
+def version_2(s):
+    """Calls in frames (document 02, W1)."""
+    frame_calls(s)
+    order = [1, 0, 2, 0, 1, 2, 0, 0, 1, 1, 1, 2, 2, 2, 2]
+    steps(s, "an angle, " + name(SECOND), dict(mixed(), frame=SECOND), order)
+    fillings(s, "fillings in frames", frame_draws(SEED), FRAMED, FRAMES)
 
 
 def script():
@@ -232,12 +243,13 @@ def script():
     for one in step_jobs():
         whole(s, *one)
     limits(s)
-    mixed = [1, 1, 0, 1, 0, 1, 1, 0, 1, 1]
-    clauses(s, holed(), mixed)
+    order = [1, 1, 0, 1, 0, 1, 1, 0, 1, 1]
+    clauses(s, holed(), order)
     double_faults(s)
-    fillings(s)
+    fillings(s, "fillings", Draws(SEED), FILLINGS)
     refused_leaves(s)
-    gap_faults(s, holed(), mixed)
+    gap_faults(s, holed(), order)
+    version_2(s)
     return s
 
 

@@ -1,17 +1,22 @@
 """The stored jobs of the crate job_test, a container as oracle/README.md says, and the oracle's
 answers: a line `ok` or `no N` for each."""
-import collections
-
-from gen import generated
+from gen import TURNED, generated
 from jobs.bits import fields, pack, pack_fields
-from jobs.cases import case4, gap_cases, job, offcut_cases, part, rect
+from jobs.cases import case4, cut_jobs, gap_cases, job, offcut_cases, one_bit_changes, part, rect
+from jobs.damage import damaged, every_fault
+from jobs.draws import Draws
+from jobs.frame_cases import version_jobs, widths
+from jobs.frames import FRAMES, frame_draws, name
 from jobs.oracle import answers
-from samples.stored import files_of
+from samples.stored import files_of, some
 
 SEED = 5
 GENERATED = 12000
 LONGEST = 1200
 OF_EACH = 70
+# In version 2.
+DAMAGED = 900
+OF_EACH_DAMAGED = 6
 
 
 def case4_changes():
@@ -57,25 +62,42 @@ def minus_zeros():
         yield f"minus zero {name}", pack_fields(list_)
 
 
+def version_2():
+    """Case 4 in every frame, all versions, the framed sheet's width; case 4 cut at every eighth byte, with each bit of its
+    first four bytes and every 61st after them changed, and with a third of the strange values."""
+    yield from ((f"case4, {name(frame)}", pack(dict(case4(), frame=frame))) for frame in FRAMES)
+    yield from version_jobs()
+    yield from ((label, pack(j)) for label, j in widths())
+    cuts = cut_jobs(TURNED, "turned case4")
+    yield from cuts[:-5:8] + cuts[-5:]
+    changes = list(one_bit_changes(TURNED, "turned case4"))
+    yield from changes[:32] + changes[32::61]
+    yield from ((f"turned case4 {label}", data) for label, data in list(every_fault(TURNED))[::3])
+
+
+def damaged_2():
+    """Random damaged jobs, those of version 2."""
+    r, f = Draws(SEED), frame_draws(SEED)
+    for _ in range(DAMAGED):
+        label, data = damaged(r, f)
+        if data[:1] and data[0] >> 4 == 2 and len(data) <= LONGEST:
+            yield label, data
+
+
 def judged(list_):
     """Each job with the oracle's answer."""
     return list(zip(list_, [text.strip() for text in answers(list_, "--answer")]))
 
 
 def sample():
-    """The jobs above, then of each answer so many generated ones, without those of offcut and gap, which are no matter of
-    reading."""
+    """The first jobs above, then of each answer so many generated ones, without those of offcut and gap, which are no matter
+    of reading; then those of version 2."""
     first = list(case4_changes()) + list(limits()) + list(minus_zeros())
     first = [(label, data) for label, data in first if len(data) <= 20000]
     others = {label for label, _ in offcut_cases() + gap_cases()}
-    rest = [one for one in generated(GENERATED, SEED) if len(one[1]) <= LONGEST and one[0] not in others]
-    out = judged(first)
-    count = collections.Counter()
-    for one, text in judged(rest):
-        count[text] += 1
-        if count[text] <= OF_EACH:
-            out.append((one, text))
-    return out
+    rest = [one for one in generated(GENERATED, SEED, frames=False) if len(one[1]) <= LONGEST and one[0] not in others]
+    out = judged(first) + list(some(judged(rest), str, OF_EACH))
+    return out + judged(list(version_2())) + list(some(judged(list(damaged_2())), str, OF_EACH_DAMAGED))
 
 
 def made():

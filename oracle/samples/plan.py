@@ -1,17 +1,17 @@
 """The stored jobs of the crate plan_test, small ones in a container as oracle/README.md says, and for
 each a line `job` with its label, then what the oracle prints."""
-import collections
-
 from jobs.bits import fields, pack, pack_fields
 from jobs.cases import (CLOCKWISE, case4, gap_cases, grid, job, length_cases, offcut_cases, part, rect, rooms_cases,
                         run_cases, starred)
 from jobs.damage import damaged
 from jobs.draws import Draws
 from jobs.examples import nan_corner
+from jobs.frame_cases import frame_cases, version_jobs
+from jobs.frames import FRAMES, frame_draws
 from jobs.oracle import answers, without_gaps
 from jobs.random_jobs import ties, valid
 from jobs.shapes import ell, finish, rectangle, slanted, triangle
-from samples.stored import files_of, with_label
+from samples.stored import files_of, some, with_label
 
 SEED = 8
 LONGEST = 560  # bytes of a generated job
@@ -22,6 +22,10 @@ SWAPS = 1500   # tried
 IMPROVED = 120 # of them kept, those with an improvement
 FILLED = 40    # and those with a fill kind
 OF_EACH = 12   # damaged jobs for each number
+# In version 2: tried, and of them kept with swaps and for each number.
+FRAMED = 1000
+FRAMED_SWAPS = 16
+OF_EACH_FRAMED = 5
 LARGE = ["copies 4096 with a place"]
 LENGTHS = ["length 65536", "length 65537"]
 
@@ -91,6 +95,15 @@ def generated(r):
             yield f"{i}", data
 
 
+def framed(r):
+    """Small jobs of version 2, in one frame after the other: of four one is full of ties and one has swaps."""
+    for i in range(FRAMED):
+        j = ties(r) if i % 4 == 0 else swap_job(r) if i % 4 == 1 else valid(r)
+        data = pack(dict(j, frame=FRAMES[i // 4 % 8]))
+        if len(data) <= LONGEST:
+            yield f"frame swaps {i}" if i % 4 == 1 else f"frame {i}", data
+
+
 def swap_job(r):
     """A few kinds that compete for a small sheet, and a few rounds."""
     parts = []
@@ -113,11 +126,11 @@ def improved(text):
     return text.startswith("plan ") and text.split("\n")[0].split()[3] != "0"
 
 
-def faults(r):
+def faults(r, frames=None):
     for i in range(DAMAGED):
-        label, data = damaged(r)
-        if len(data) <= LONGEST:
-            yield f"damaged {i} {label}", data
+        label, data = damaged(r, frames)
+        if len(data) <= LONGEST and (not frames or data[:1] and data[0] >> 4 == 2):
+            yield f"{'frame ' if frames else ''}damaged {i} {label}", data
 
 
 def told(jobs):
@@ -126,12 +139,24 @@ def told(jobs):
     return list(zip(list_, answers(list_)))
 
 
-def short(text):
-    return len(without_gaps(text)) <= LONGEST_TEXT
+def shortened(pairs):
+    """Those with a short text."""
+    return [(one, text) for one, text in pairs if len(without_gaps(text)) <= LONGEST_TEXT]
 
 
 def number(text):
     return text.strip() if text.startswith("no ") else "plan"
+
+
+def version_2():
+    """The cases of frames, and random jobs in all of them."""
+    out = told([(label, pack(j)) for label, j in frame_cases()] + version_jobs())
+    r = frame_draws(SEED)
+    rest = shortened(told(framed(r)))
+    swaps = [pair for pair in rest if pair[0][0].startswith("frame swaps")]
+    out += [pair for pair in rest if pair not in swaps]
+    out += [pair for pair in swaps if improved(pair[1])][:FRAMED_SWAPS]
+    return out + shortened(some(told(faults(r, r)), number, OF_EACH_FRAMED))
 
 
 def sample():
@@ -142,16 +167,12 @@ def sample():
     first += list(numbers()) + [one for one in length_cases() if one[0] in LENGTHS]
     out = told(first)
     r = Draws(SEED)
-    out += [(one, text) for one, text in told(generated(r)) if short(text)]
-    rest = [(one, text) for one, text in told(swap_jobs(r)) if short(text)]
+    out += shortened(told(generated(r)))
+    rest = shortened(told(swap_jobs(r)))
     out += [pair for pair in rest if improved(pair[1])][:IMPROVED]
     out += [pair for pair in rest if "\nfill " in pair[1] and not improved(pair[1])][:FILLED]
-    count = collections.Counter()
-    for one, text in told(faults(r)):
-        count[number(text)] += 1
-        if count[number(text)] <= OF_EACH and short(text):
-            out.append((one, text))
-    return out + told([(label, pack(j)) for label, j in offcut_cases() + gap_cases()])
+    out += shortened(some(told(faults(r)), number, OF_EACH))
+    return out + told([(label, pack(j)) for label, j in offcut_cases() + gap_cases()]) + version_2()
 
 
 def made():

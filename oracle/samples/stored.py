@@ -16,5 +16,14 @@ def files_of(pairs, line, key):
     return files, f"{told}; {len(pairs)} jobs"
 
 
+def some(pairs, key, most):
+    """Of each `key` of the answers the first so many."""
+    count = collections.Counter()
+    for one, text in pairs:
+        count[key(text)] += 1
+        if count[key(text)] <= most:
+            yield one, text
+
+
 def with_label(label, text):
     return f"job {label}\n{text}"

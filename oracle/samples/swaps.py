@@ -14,7 +14,8 @@ LABELS = ("case4", "case11")
 
 
 def stored():
-    """A few jobs: with draws and without, kinds that may not be swapped, improvements, a refusal in a round."""
+    """A few jobs: with draws and without, kinds that may not be swapped, improvements, a refusal in a round; one
+    in every frame."""
     yield from ((label, pack(j)) for label, j in starred() if label in LABELS)
     yield "one copy", pack(job([part([rect(4, 3)], 1, 12)], rounds=9, seed=5))
     mixed = [part([rect(4, 3)], 2, 12), part([rect(3, 5)], 2, 15, fill=True), part([rect(2, 2)], 3, 4, priority=1)]
@@ -23,8 +24,9 @@ def stored():
     yield "nothing", b""
     with open(os.path.join(ROOT, "examples", "swaps.job"), "rb") as f:
         yield "improved", f.read()
-    with_swaps = [one for one in read_container(PLANS) if one[0].startswith("swaps ")]
-    yield from with_swaps[:FROM_PLANS]
+    plans = list(read_container(PLANS))
+    yield from [one for one in plans if one[0].startswith("swaps ")][:FROM_PLANS]
+    yield from (one for one in plans if one[0].startswith("rounds, "))
 
 
 def last_lines(text):

@@ -3,7 +3,9 @@ from wrong.planner import BETTER, LAST, LEFT, MET, SWAPPED_BACK, WINS
 
 FIRST = "firsts[first + i] = self.bucket(s[0]) as Bucket;"
 ENTER = "    state.placed_index.enter(entries, firsts, &strips, state.placed_strips);\n"
-PLACED = """    let mut reach = plan.layout.right;
+REACH = "(Frame::of(job), plan.layout.right);"
+APART = "orientations[o].apart), false)"
+PLACED = """plan.layout.right);
     for (&kind, place) in plan.order.iter().zip(&plan.layout.placed) {"""
 MOVED = "            for s in trapezoids("
 PLACE = "    keep(&mut rooms.placed, most, &mut state.placed_strips, &strips)?;\n"
@@ -32,14 +34,14 @@ def gap_of(part):
 # Held against the stored jobs of plan_test.
 MUTANTS = [
     # document 02, W2
-    ("W2", "offcut by right alone", [("print", LEFT, "let left = bounds(&job.sheet)[2] - plan.layout.right;")]),
+    ("W2", "offcut by right alone", [("print", LEFT, LEFT.replace("reach", "plan.layout.right"))]),
     ("W2", "offcut below zero printed", [("print", "if left < 0.0 { 0.0 } else { left }", "left")]),
-    ("W2", "offcut by the strips alone", [("print", "let mut reach = plan.layout.right;", "let mut reach = bounds(&job.sheet)[0];")]),
+    ("W2", "offcut by the strips alone", [("print", REACH, REACH.replace("plan.layout.right", "bounds(&job.sheet)[0]"))]),
     ("W2", "reach of the first copy alone", [("print", PLACED, PLACED.replace("&plan.layout.placed)", "&plan.layout.placed).take(1)"))]),
     ("W2", "reach of the last copy alone", [("print", MOVED, "            reach = plan.layout.right;\n" + MOVED)]),
-    ("W2", "reach of the first strip alone", [("print", "orientations[o].apart, false)", "orientations[o].apart, false).into_iter().take(1)")]),
-    ("W2", "reach of the first orientation", [("print", "orientations[o].apart, false)", "orientations[0].apart, false)")]),
-    ("W2", "reach of the inset strips", [("print", "orientations[o].apart, false)", "orientations[o].inset, false)")]),
+    ("W2", "reach of the first strip alone", [("print", APART, APART + ".into_iter().take(1)")]),
+    ("W2", "reach of the first orientation", [("print", APART, APART.replace("[o]", "[0]"))]),
+    ("W2", "reach of the inset strips", [("print", APART, APART.replace("apart", "inset"))]),
     ("W2", "reach of strips not moved", [("print", "s[1] + x", "s[1]")]),
     ("W2", "reach of x0", [("print", "s[1] + x", "s[0] + x")]),
     ("W2", "right by the apart strips", [("filling", PLACE, PLACE + "    state.right = strips.iter().fold(state.right, |a, s| a.max(s[1]));\n")]),

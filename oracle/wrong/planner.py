@@ -32,7 +32,9 @@ SHEET21 = """    if sheet_index.needed(&strips) > capacity(rooms.sheet_entries.l
         return Err(Stop::Refused(21));
     }
 """
-LEFT = "let left = bounds(&job.sheet)[2] - reach;"
+LEFT = "let left = bounds(&frame.loops(&job.sheet))[2] - reach;"
+SHEET_SETS = "    let (sheet, strips) = (bounds(&loops), trapezoids(&loops, true));\n"
+INSET_BOUNDS = "(bounds(&frame.loops(&o.inset)), 0..0)"
 FILLED = "    watch.filled(state, rooms).map_err(Stop::Differ)"
 # How far the strips of the last filling reach.
 LAST = [("filling", FILLED, "    LAST.set((0..state.placed_strips).fold(state.right, |a, i| a.max(load(&rooms.placed, i)[1])));\n" + FILLED),
@@ -51,7 +53,7 @@ FILLS = """    for (kind, p) in job.parts.iter().enumerate() {
     }
 """
 END7 = "    if job.copies() > 4096 {\n        return Err(7);\n    }\n"
-END8 = "    if width(&job.sheet) / resolution > 1e6 {\n        return Err(8);\n    }\n"
+END8 = "    if width(&job) / resolution > 1e6 {\n        return Err(8);\n    }\n"
 
 # group, name, edits: (file, what stands there once, what stands there instead)
 MUTANTS = [
@@ -114,7 +116,7 @@ MUTANTS = [
     ("swaps", "larger kind number first", [("nesting", KINDS, KINDS.replace("a.cmp(&b)", "b.cmp(&a)"))]),
     ("swaps", "rejected filling's look counts",
      [("nesting", SWAPPED_BACK, SWAPPED_BACK.replace("order.swap(i, j);", "order.swap(i, j);\n            best.looks = layout.looks;"))]),
-    ("swaps", "offcut from the rejected layout", [*LAST, ("print", LEFT, "let left = bounds(&job.sheet)[2] - crate::filling::LAST.get();")]),
+    ("swaps", "offcut from the rejected layout", [*LAST, ("print", LEFT, LEFT.replace("reach", "crate::filling::LAST.get()"))]),
     ("swaps", "refusal of a round passed over", [
         ("nesting", "        again(&mut state, &order);\n        fill(job, &mut state, rooms, watch)?;\n",
          "        again(&mut state, &order);\n"
@@ -125,7 +127,7 @@ MUTANTS = [
     ]),
     # filling
     ("filling", "y before x", [("filling", WINS, "Some((r, t, ..)) => top < t || (top == t && right < r),")]),
-    ("filling", "bounds of the apart set", [("filling", "let (bounds, inset) = (bounds(&o.inset), 0..0);", "let (bounds, inset) = (bounds(&o.apart), 0..0);")]),
+    ("filling", "bounds of the apart set", [("filling", INSET_BOUNDS, INSET_BOUNDS.replace("inset", "apart"))]),
     ("filling", "inset strips against copies", [
         ("filling", "let (mut n, inset, apart) = (0, slot.inset.clone(), slot.apart.clone());",
          "let (mut n, inset, apart) = (0, slot.inset.clone(), slot.inset.clone());"),
@@ -134,7 +136,7 @@ MUTANTS = [
         ("filling", "let (mut n, inset, apart) = (0, slot.inset.clone(), slot.apart.clone());",
          "let (mut n, inset, apart) = (0, slot.apart.clone(), slot.apart.clone());"),
     ]),
-    ("filling", "holes of the sheet unseen", [("filling", "    let strips = trapezoids(&job.sheet, true);\n", "    let strips = vec![];\n")]),
+    ("filling", "holes of the sheet unseen", [("filling", SHEET_SETS, SHEET_SETS.replace("trapezoids(&loops, true)", "vec![]"))]),
     ("filling", "no look where it fits exactly", [("filling", "if xs.1 < xs.0 || ys.1 < ys.0 {", "if xs.1 <= xs.0 || ys.1 < ys.0 {")]),
     ("filling", "highest height not free", [("filling", "let free = y <= r.ys.1;", "let free = y < r.ys.1;")]),
     ("filling", "none forgotten",
@@ -186,9 +188,8 @@ MUTANTS = [
     ]),
     ("refusals", "21 before 20 of the sheet", [("filling", SHEET20, ""), ("filling", SHEET21, SHEET21 + SHEET20)]),
     ("refusals", "shapes before the sheet's 21", [
-        ("filling", "    let strips = trapezoids(&job.sheet, true);\n",
-         "    let strips = trapezoids(&job.sheet, true);\n"
-         "    if capacity(rooms.sheet.len(), STRIP) >= strips.len() {\n"
+        ("filling", SHEET_SETS,
+         SHEET_SETS + "    if capacity(rooms.sheet.len(), STRIP) >= strips.len() {\n"
          "        shapes(job, &mut rooms.shapes)?;\n"
          "    }\n"),
     ]),
@@ -216,7 +217,7 @@ MUTANTS = [
     ("printing", "positions in the order's order", [("print", "    list.sort_by_key(|p| (p.0, p.1));\n", "")]),
     ("printing", "copies numbered from 1",
      [("print", '"put {kind} {copy} {o} {}\\n", hexes', '"put {kind} {} {o} {}\\n", copy + 1, hexes')]),
-    ("printing", "offcut by the sheet's width", [("print", LEFT, "let left = bounds(&job.sheet)[2] - bounds(&job.sheet)[0] - reach;")]),
+    ("printing", "offcut by the sheet's width", [("print", LEFT, LEFT.replace("reach", "bounds(&frame.loops(&job.sheet))[0] - reach"))]),
 ]
 
 # No text can tell these from the right planner.
