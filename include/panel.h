@@ -13,7 +13,9 @@
             the job's order.
 
    THE JOB  Packed bits, most significant first, without gaps; zero bits fill the last byte. A double is its 64 bits.
-              version 4 bits (is 1), kinds 7 (1 to 64), rounds of swaps 12, seed 64, resolution 64 (a double), the sheet's set;
+              version 4 bits (1 or 2); in version 2 the start corner 2 (0 lower left, 1 lower right, 2 upper left, 3 upper right)
+                and the fill axis 1 (0 along x, 1 along y), in version 1 it is the lower left, along y;
+              kinds 7 (1 to 64), rounds of swaps 12, seed 64, resolution 64 (a double), the sheet's set;
               for each kind: quantity 12 (1 to 4,095), fill 1, priority 32 (two's complement), area 64 (a double),
                 orientations 5 (1 to 16); for each orientation its apart set (held against placed copies: the outline with its
                 spacing), then its inset set (held against the sheet);
@@ -49,12 +51,12 @@
             shapes; then the copies. The first that is met is given.
                1  the bytes end inside a field
                2  a filling bit is set, or a further byte follows
-               3  the version is not 1
+               3  the version is neither 1 nor 2
                4  the resolution, a coordinate or an area is not finite
                5  a coordinate beyond +-100,000 mm, an area outside 0 to 1e12 mm2, a resolution outside 0.001 to 10,000 mm
                6  a count or quantity is outside its range
                7  more than 4,096 copies in all
-               8  the sheet's width / resolution is above 1,000,000
+               8  the sheet's width, along x its height, / resolution is above 1,000,000
               10  panel_fill alone: the order is not a rearrangement of the job's copies
               20  shapes, sheet, placed, sheet_firsts or placed_firsts is too short for the strips, or a strip of the sheet or of
                   the placed copies would be the 65,537th
@@ -94,11 +96,14 @@ extern "C" {
      left KIND COPIES                        for each ordinary kind that lacks copies
      fill KIND COPIES                        for each fill kind, its placed copies
      look KIND ORIENTATION COLUMNS           for each orientation, columns looked at
-     right X                                 where the placed copies end
+     right X                                 where the placed copies end (see below)
      area A                                  the area of the copies without a place
      offcut W                                the sheet's width that is left, right of all copies and of the spacing around them
 
-   Counts are decimal; X, Y, GAP, A and W are a double's bits as 16 hex digits. GAP is 0 or more, and never minus zero. In
+   Counts are decimal; X, Y, GAP, A and W are a double's bits as 16 hex digits. GAP is 0 or more, and never minus zero. A job
+   of version 2 that begins at another corner, or stacks along x, is planned on the sheet as it is seen from there: X and Y of
+   `put` are the sheet's own; GAP is in the direction in which copies are stacked, right and offcut in that in which the nest
+   advances (right is minus the coordinate where that direction is left or down). In
    `positions` lie the `put` lines as doubles (kind, copy, orientation, x, y, gap: PLACED records of six), with zeros after
    them. The other rooms are left zero; where the job is refused, all of them are, positions too.
 

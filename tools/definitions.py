@@ -2,10 +2,12 @@
 import pathlib
 import re
 import sys
+import textwrap
 
 ROOT = pathlib.Path(__file__).resolve().parent.parent
-# The public operations: each is one public function with an `ensures` and no `requires`; the last may lack. Then their exports for C.
-OPERATIONS = "judge strips_by_kind shape_verdict start next_copy fill nest plan_text program_text".split()
+# The public operations, methods first: each is one public function with an `ensures` and no `requires`; the last may lack. Then their exports for C.
+METHODS = "to from".split()
+OPERATIONS = METHODS + "judge strips_by_kind shape_verdict start next_copy fill nest plan_text program_text".split()
 EXPORTS = "panel_nest panel_fill".split()
 # What the claims speak of beside that: file and definition. The names that a file Claims.antt of proofs/ uses count too.
 CLAIMED = [("Calls", n) for n in "afterCalls refusals stateOutcome plainAfter".split()] + [("Cases", "starred")]
@@ -100,7 +102,9 @@ def found(module, text):
 def contracts(names):
     """The public functions of these names with their contracts: module and text up to the body."""
     for name in names:
-        heads = [(m, h) for m in types.values() for h in re.findall(rf'^pub (?:extern "C" )?fn {name}\b.*?(?=\n\{{)', m.source, re.M | re.S)]
+        inner = " {4}" if name in METHODS else ""
+        pattern = rf'^{inner}pub (?:extern "C" )?fn {name}\b.*?(?=\n{inner}\{{)'
+        heads = [(m, textwrap.dedent(h)) for m in types.values() for h in re.findall(pattern, m.source, re.M | re.S)]
         heads = [(m, h) for m, h in heads if "ensures" in h and "requires" not in h]
         if len(heads) > 1 or (name in OPERATIONS[:-1] and not heads):
             die(f"{len(heads)} public functions `{name}` with an `ensures` and no `requires`")

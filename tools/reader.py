@@ -15,6 +15,7 @@ PARTS = [
     ("Draws", "SplitMix64"),
     ("Strips", "Strip Slab Strips"),
     ("Index", "Buckets Intervals"),
+    ("Other corners", "Frames"),
     ("The job's bits", "Bits Reading Fields Sets Kinds Jobs Meaning"),
     ("Filling: shapes and copies", "Shapes"),
     ("Filling: columns, looks, searches, the choice", "Columns Smallest Looking Search Choice"),
@@ -26,9 +27,10 @@ PARTS = [
     ("The plain planner, and calls", "Plain Calls"),
     ("Order and swaps", "CopyOrder Rounds"),
     ("The whole plan", "Nest"),
+    ("Other corners: one argument for all eight frames", "FramedJobs"),
     ("The printed plan", "Text Printed Told"),
     ("The program", "Program"),
-    ("Sheets tried by hand", "Case4 Cases"),
+    ("Sheets tried by hand", "Case4 Sheets Cases"),
 ]
 HEAD = """# What a reader must believe
 
