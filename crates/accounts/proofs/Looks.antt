@@ -50,7 +50,7 @@ table-end f t e u = sym (upFrom-list f t 1024 0 e (λ q h. sym (u q h)))
 
 -- ---- what the definition says of a slot
 
-row-at : {A : Type 0} (f : ℕ → A) (c : ℕ) (ns : List ℕ) (k : ℕ) → getD (slotRows f c ns) k [] ≡ map (λ o. f (16 * (c + k) + o)) (upFrom (getD ns k 0) 0)
+pub row-at : {A : Type 0} (f : ℕ → A) (c : ℕ) (ns : List ℕ) (k : ℕ) → getD (slotRows f c ns) k [] ≡ map (λ o. f (16 * (c + k) + o)) (upFrom (getD ns k 0) 0)
 unfolding slotRows upFrom
 row-at f c [] k = refl
 row-at f c (n ∷ ns) zero = let e : c + 0 ≡ c = omega arith in rw e

@@ -15,6 +15,7 @@ pub fn refusal_number(r: Refusal) -> u64
         Refusal::EntryRoom => 21,
         Refusal::IntervalRoom => 22,
         Refusal::OrderUsedUp => 23,
+        Refusal::NotStanding => 24,
         Refusal::PositionRoom => 30,
         Refusal::Inconsistent => 31,
     }

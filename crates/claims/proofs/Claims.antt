@@ -4,14 +4,15 @@ use Prim.Native.Nat.{ℕ, _+_, _*_, _≤_, _<_}
 use mathlib.Core.Path.{_≡_}
 use mathlib.Core.Logic.{_⊎_}
 use mathlib.Core.Bool.{true, false, not, _&&_}
-use mathlib.Core.List.{List, [], _∷_, map, List·Memᴰ}
+use mathlib.Core.List.{List, [], _∷_, _++_, map, List·Memᴰ}
 use lib.ListN.{length, getD, replicate}
+use lib.Dec.{ltb}
 use lib.Ieee.{Float, binary64, le, lt, ofBits}
 use lib.Ieee.Scale.{finite}
 use Rattle.numbers.specs.Numbers.{_⊖_, _⊘_, fromInt, plusZero, posZero}
 use Rattle.trapezoid.specs.Strip.{stripAt, capacity}
 use Rattle.index.specs.declared.Interval.{Interval}
-use Rattle.index.specs.Buckets.{bucketIn}
+use Rattle.index.specs.Buckets.{bucketIn, standingCapacity}
 use Rattle.look.specs.declared.height.Look.the-variants.{Free}
 use Rattle.look.specs.height.Smallest.{outside, nextBottom, heightOf}
 use Rattle.bits.specs.declared.Refusal as Input
@@ -25,22 +26,28 @@ use Rattle.filling.specs.declared.Refusal.{Refusal}
 use Rattle.filling.specs.declared.Refusal.the-variants as Why
 use Rattle.filling.specs.declared.Verdict.the-variants.{Accepted, Refused}
 use Rattle.filling.specs.Refusals.{numberOf, verdictNumber}
-use Rattle.filling.specs.RefusalLines.{Line, firstMet, givenLines, startLines, stepLines, fillLines}
-use Rattle.filling.specs.Shapes.{plannerOf, standingStrips}
+use Rattle.filling.specs.RefusalLines.{Line, firstMet, givenLines, startLines, stepLines, withdrawLines, fillLines}
+use Rattle.filling.specs.Shapes.{Planner, plannerOf, standingStrips}
+use Rattle.filling.specs.Choice.{Choice}
 use Rattle.filling.specs.Rooms.{Rooms, Lent, laid, zeros}
 use Rattle.filling.specs.Order.{rearranged}
-use Rattle.filling.specs.State.{standingOf}
+use Rattle.filling.specs.State.{plannerAt, standingOf}
 use Rattle.filling.specs.Consistent.{every, bounded, plannerFits, gapsFit, sheetIndex, sheetStrips, placedStrips, firstsFor, firstsFit}
+use Rattle.filling.specs.Consistent.{copiesFit, consistent}
 use Rattle.filling.specs.Start.{startVerdict, noStart, goodStart, startJob, startOf}
-use Rattle.filling.specs.NextCopy.{noStep, stepJob, nextCopyOf}
+use Rattle.filling.specs.NextCopy.{newStrips, noStep, stepJob, nextCopyOf}
+use Rattle.filling.specs.Withdraw.{rightOf, noWithdrawal, withdrawJob, withdrawOf}
+use Rattle.filling.specs.Plain.{takeNext}
 use Rattle.filling.specs.Accounts.{reachOf, notBelowZero, offcutOf}
 use Rattle.filling.specs.Fill.{filled, fillOrder, notPlanned, plannedWith, fillJob, fillOf}
-use Rattle.filling.specs.Calls.{Call, afterCalls, refusals, stateOutcome, plainAfter}
+use Rattle.filling.specs.Calls.{Call, requestOf, afterCalls, refusals, stateOutcome, plainAfter}
 use Rattle.filling.specs.Reports.{Reports}
 use Rattle.filling.proofs.Demand3 as Proved3
 use Rattle.filling.proofs.Never31 as ProvedNever
 use Rattle.filling.proofs.Refused as ProvedRefused
+use Rattle.filling.proofs.RightFound as ProvedRight
 use Rattle.filling.proofs.FirstBuckets as ProvedFirsts
+use Rattle.filling.proofs.FirstsKept as KeptFirsts
 use Rattle.filling.proofs.WithinBounds.{jobs-within}
 use Rattle.nesting.specs.CopyOrder.{copyOrder}
 use Rattle.nesting.specs.Rounds.{Kept, kept, swapSearch}
@@ -64,6 +71,7 @@ use Rattle.claims.specs.FramedJobs.{framedJob, plannedOnSheet}
 use Rattle.claims.proofs.FramedPlan as ProvedFrames
 use Rattle.claims.specs.LookNumbers.{isFinite, endsFinite}
 use Rattle.claims.proofs.Gaps as ProvedGaps
+use Rattle.claims.proofs.Copies as ProvedCopies
 use Rattle.claims.proofs.ExactLines as ProvedLines
 use Rattle.claims.proofs.Reader as ProvedReader
 
@@ -123,7 +131,12 @@ pub next-copy-refused : (bytes : List ℕ) (s : State) (w : Rooms) (iv : List Fl
     → nextCopyOf bytes s w iv .verdict ≡ firstMet (givenLines (readJob bytes) (λ j. stepLines j s w iv))
 next-copy-refused = ProvedRefused.next-copy-refused
 
--- after an accepted start no call is refused with 31, whatever the list of calls and their interval rooms
+-- document 02, W4: "It refuses with 31 .., then a copy that is not standing with 24"
+pub withdraw-refused : (bytes : List ℕ) (s : State) (w : Rooms) (n : ℕ)
+    → withdrawOf bytes s w n .verdict ≡ firstMet (givenLines (readJob bytes) (λ j. withdrawLines j s w n))
+withdraw-refused = ProvedRefused.withdraw-refused
+
+-- after an accepted start no call is refused with 31, whatever the list of next copies and withdrawals and whatever interval rooms
 pub never-31 : (bytes order : List ℕ) (l : Lent) → startOf bytes order l .verdict ≡ Accepted → (calls : List Call)
     → List·Memᴰ (Refused Why.Inconsistent) (afterCalls bytes calls (startOf bytes order l .state) (startOf bytes order l .lent .rooms) .verdicts) → ⊥
 never-31 = ProvedNever.never-31
@@ -154,6 +167,11 @@ pub next-copy-leaves : (bytes : List ℕ) (s : State) (w : Rooms) (iv : List Flo
     → (nextCopyOf bytes s w iv .intervals ≡ zeros posZero iv)
     × ((k : Refusal) → nextCopyOf bytes s w iv .verdict ≡ Refused k → (nextCopyOf bytes s w iv .state ≡ s) × (nextCopyOf bytes s w iv .rooms ≡ w))
 next-copy-leaves = ProvedRefused.next-copy-leaves
+
+-- document 02, W4: a refused withdrawal leaves "state and rooms unchanged"
+pub withdraw-rests : (bytes : List ℕ) (s : State) (w : Rooms) (n : ℕ) (k : Refusal) → withdrawOf bytes s w n .verdict ≡ Refused k
+    → (withdrawOf bytes s w n .state ≡ s) × (withdrawOf bytes s w n .rooms ≡ w)
+withdraw-rests = ProvedRefused.withdraw-rests
 
 -- ---- "with no number left non-finite", and none minus zero; of states that no start gave, `step-makes` of step_promises
 
@@ -198,27 +216,58 @@ plan-offcut bytes l j e v q d = let h = Proved1.nest-offcut bytes j e l v q d in
 -- ---- Demand 3. "take every list of next-copy calls, refused ones included .. After it the copies standing, with orientation, x and y, and those without
 -- ---- a place are exactly those of document 01's plain planner .. Each orientation's look count equals its last found column plus its finds .. For one
 -- ---- filling in a given order that is not refused, all this holds as after one call for every copy of that order, none refused." Gaps (W7) are compared too.
+-- ---- Document 02, W4: "Demand 3 then takes lists of both calls, and the plain planner moves an accepted withdrawal's copy from those standing to the end
+-- ---- of those to come and forgets all searches and finds; the look equation speaks of those since."
 pub demand-3 : (bytes order : List ℕ) (l : Lent) (j : Job) → readJob bytes ≡ accepted j
     → (startOf bytes order l .verdict ≡ Accepted
     → (calls : List Call)
     → let r = afterCalls bytes calls (startOf bytes order l .state) (startOf bytes order l .lent .rooms) in
-    stateOutcome j (r .state) ≡ plainAfter j order (refusals (r .verdicts)))
-    × (fillOf bytes order l .verdict ≡ Accepted → Reports j l (fillOf bytes order l) (plainAfter j order (replicate (length order) false)))
+    stateOutcome j (r .state) ≡ plainAfter j order (map requestOf calls) (refusals (r .verdicts)))
+    × (fillOf bytes order l .verdict ≡ Accepted
+    → Reports j l (fillOf bytes order l) (plainAfter j order (replicate (length order) takeNext) (replicate (length order) false)))
 demand-3 = Proved3.demand-3
+
+-- ---- Document 02, W4
+
+-- "31, which now covers a standing copy with an orientation its kind lacks, a position .., or strips that are not its orientation's moved to its position":
+-- one test for both calls, of every accepted job, state and rooms unchanged
+pub copies-refused : (bytes : List ℕ) (j : Job) → readJob bytes ≡ accepted j → (s : State) (w : Rooms)
+    → copiesFit j (plannerAt j (s .tables) w) (standingOf s) (placedStrips s w) ≡ false
+    → ((iv : List Float) → nextCopyOf bytes s w iv ≡ noStep Why.Inconsistent s w iv) × ((n : ℕ) → withdrawOf bytes s w n ≡ noWithdrawal Why.Inconsistent s w)
+copies-refused bytes j e s w f = (ProvedCopies.step-refused j s w f bytes e, ProvedCopies.back-refused j s w f bytes e)
+
+-- "right is found anew from the standing copies": after an accepted start, whatever the calls, it is the largest x + b2 of the standing copies, from s0
+pub right-found : (bytes order : List ℕ) (l : Lent) (j : Job) → readJob bytes ≡ accepted j → startOf bytes order l .verdict ≡ Accepted → (calls : List Call)
+    → let s = afterCalls bytes calls (startOf bytes order l .state) (startOf bytes order l .lent .rooms) .state in
+    s .layout .right ≡ rightOf (plannerOf j) (plannerOf j .bounds .left) (standingOf s)
+right-found = ProvedRight.right-found
+
+-- "Strip room is short exactly when standing plus new strips exceed it": what the next copy's 20 tests, of every state and rooms that 31 lets pass
+pub strips-together : (j : Job) (s : State) (w : Rooms) → consistent j s w ≡ true → (p : Planner) (k : ℕ) (c : Choice)
+    → let room = standingCapacity (w .placed) (w .placed-firsts) in
+    ltb room (capacity (placedStrips s w ++ newStrips p k c)) ≡ ltb room (s .«placed_strips» + capacity (newStrips p k c))
+strips-together = ProvedRefused.strips-together
 
 -- ---- Document 02, W1: "Loops go through `to`, reversed where the frame reverses, positions back through `from` .. "Left" and "lower" in the placement
 -- ---- rule are meant in the framed sheet, as are right and offcut, and what is proved speaks of all eight frames by one argument."
 
--- the argument, of every job: planner, start and single step are those of the job with its sets in its frame, planned at the lower left; a filling and the
--- whole plan are that job's, counts, looks, right, area, offcut and refusals too, with the positions back through `from`
+-- the argument, of every job: planner, start, next copy and withdrawal are those of the job with its sets in its frame, planned at the lower left; a
+-- filling and the whole plan are that job's, counts, looks, right, area, offcut and refusals too, with the positions back through `from`
 pub framed-plan : (j : Job)
     → (plannerOf j ≡ plannerOf (framedJob j))
     × ((order : List ℕ) (l : Lent) → startJob j order l ≡ startJob (framedJob j) order l)
     × ((s : State) (w : Rooms) (iv : List Float) → stepJob j s w iv ≡ stepJob (framedJob j) s w iv)
+    × ((s : State) (w : Rooms) (n : ℕ) → withdrawJob j s w n ≡ withdrawJob (framedJob j) s w n)
     × ((order : List ℕ) (l : Lent) → fillJob j order l ≡ plannedOnSheet (frameOf (j .header)) (fillJob (framedJob j) order l))
     × ((l : Lent) → nestJob j l ≡ plannedOnSheet (frameOf (j .header)) (nestJob (framedJob j) l))
-framed-plan j =
-    (ProvedFrames.planner-framed j, ProvedFrames.start-framed j, ProvedFrames.step-framed j, ProvedFrames.fill-framed j, ProvedFrames.nest-framed j)
+framed-plan j = (
+  ProvedFrames.planner-framed j,
+  ProvedFrames.start-framed j,
+  ProvedFrames.step-framed j,
+  ProvedFrames.withdraw-framed j,
+  ProvedFrames.fill-framed j,
+  ProvedFrames.nest-framed j,
+)
 
 -- ---- Document 02, W3: "The strip record gets that bucket number, beside the doubles in a lent room of 16-bit numbers, worked out on entry and true for
 -- ---- every standing strip after every operation that is given true ones. Sheet and placed strips share the record. .. a false bucket number is 31."
@@ -240,8 +289,8 @@ firsts-mean s w =
       λ a b. h .1 (record { long = a .0; right = a .1 }) (record { long = b .0; right = b .1 }),
     )
 
--- the claim, whatever else an operation is given and whatever it answers: a start, a next copy, every list of calls, with a start before them or not;
--- a filling and a whole plan leave no standing strip, and zeros in both rooms
+-- the claim, whatever else an operation is given and whatever it answers: a start, a next copy, every list of next copies and withdrawals, with a start
+-- before them or not; a filling and a whole plan leave no standing strip, and zeros in both rooms
 pub firsts-true : (bytes : List ℕ)
     → ((order : List ℕ) (l : Lent) → firstsFit (startOf bytes order l .state) (startOf bytes order l .lent .rooms) ≡ true)
     × ((s : State) (w : Rooms) (iv : List Float) → firstsFit s w ≡ true → firstsFit (nextCopyOf bytes s w iv .state) (nextCopyOf bytes s w iv .rooms) ≡ true)
@@ -257,9 +306,9 @@ pub firsts-true : (bytes : List ℕ)
     × (nestOf bytes l .lent .rooms .placed-firsts ≡ zeros 0 (l .rooms .placed-firsts)))
 firsts-true bytes = (
   ProvedFirsts.start-firsts bytes,
-  ProvedFirsts.next-copy-firsts bytes,
-  ProvedFirsts.calls-firsts bytes,
-  λ calls order l. ProvedFirsts.calls-after-start bytes order l calls,
+  KeptFirsts.next-copy-firsts bytes,
+  KeptFirsts.calls-firsts bytes,
+  λ calls order l. KeptFirsts.calls-after-start bytes order l calls,
   ProvedFirsts.fill-firsts bytes,
   ProvedReplies.nest-firsts bytes,
 )
@@ -272,7 +321,7 @@ firsts-started = ProvedFirsts.accepted-start-firsts
 -- "a false bucket number is 31": of every accepted job, state and rooms unchanged
 pub false-first-refused : (bytes : List ℕ) (j : Job) → readJob bytes ≡ accepted j → (s : State) (w : Rooms) (iv : List Float) → firstsFit s w ≡ false
     → (nextCopyOf bytes s w iv ≡ noStep Why.Inconsistent s w iv) × (verdictNumber (noStep Why.Inconsistent s w iv .verdict) ≡ 31)
-false-first-refused bytes j e s w iv f = (ProvedFirsts.false-refused bytes j e s w iv f, ProvedFirsts.number-31 s w iv)
+false-first-refused bytes j e s w iv f = (KeptFirsts.false-refused bytes j e s w iv f, KeptFirsts.number-31 s w iv)
 
 -- ---- Document 02, W7: "A free look now answers its height and the clear height above it: the next counted interval's bottom at or above it, or y_high if
 -- ---- none is below that, minus the height. .. a state's gap not in 0..1,000,000 is 31"
@@ -307,7 +356,7 @@ gaps-own bytes order l j e = (ProvedGaps.calls-gaps bytes order l j e, ProvedGap
 -- any other is 31: of every accepted job, state and rooms unchanged
 pub gap-refused : (bytes : List ℕ) (j : Job) → readJob bytes ≡ accepted j → (s : State) (w : Rooms) (iv : List Float) → gapsFit s ≡ false
     → (nextCopyOf bytes s w iv ≡ noStep Why.Inconsistent s w iv) × (verdictNumber (noStep Why.Inconsistent s w iv .verdict) ≡ 31)
-gap-refused bytes j e s w iv f = (ProvedGaps.gaps-refused bytes j e s w iv f, ProvedFirsts.number-31 s w iv)
+gap-refused bytes j e s w iv f = (ProvedGaps.gaps-refused bytes j e s w iv f, KeptFirsts.number-31 s w iv)
 
 -- ---- what the job reader promises
 

@@ -1,4 +1,5 @@
--- Document 02, W1: a job and the same job with its sets in its frame have one planner, one start, one step, and one plan up to `from`. Assumes nothing.
+-- Document 02, W1: a job and the same job with its sets in its frame have one planner, one start, one next copy, one withdrawal, and one plan up to `from`.
+-- Assumes nothing.
 use mathlib.Core.Path.{_≡_, refl, sym, ap, _∙_}
 use mathlib.Core.Bool.{Bool, true, false, not, _&&_}
 use mathlib.Core.List.{List, [], _∷_, _++_, map, flatMap, map-map}
@@ -22,15 +23,16 @@ use Rattle.filling.specs.declared.Refusal.the-variants as Why
 use Rattle.filling.specs.declared.Verdict.{Verdict}
 use Rattle.filling.specs.declared.Verdict.the-variants.{Accepted, Refused}
 use Rattle.filling.specs.Refusals.{refuseIf}
-use Rattle.filling.specs.Shapes.{Planner, setBounds, setStrips, plannerOf, Standing}
+use Rattle.filling.specs.Shapes.{Planner, setBounds, setStrips, plannerOf, Standing, standingStrips}
 use Rattle.filling.specs.Search.{Track}
 use Rattle.filling.specs.Rooms.{Rooms, Lent, positionCapacity, laid, zeros, zeroRooms, onlyPositions}
 use Rattle.filling.specs.Order.{rearranged}
 use Rattle.filling.specs.State.{slotRows, orientationCounts, partAt, apartRoom, insetRoom, shapeAt, plannerAt, orderOf, standingOf, trackAt, tracksOf}
 use Rattle.filling.specs.Consistent.{every, takenFits, stripCountsFit, partFits, partsFit, stripsFit, trackTableFits, plannerFits, layoutFits, gapsFit}
-use Rattle.filling.specs.Consistent.{entriesFit, placedStrips, firstsFit, consistent}
+use Rattle.filling.specs.Consistent.{orientationFits, positionFits, sameDoubles, copiesFit, entriesFit, placedStrips, firstsFit, consistent}
 use Rattle.filling.specs.Start.{prepareVerdict, startVerdict, noStart, goodStart, startJob, firstState, firstRooms}
 use Rattle.filling.specs.NextCopy.{noStep, placeCopy, placeNext, coreStep, stepJob}
+use Rattle.filling.specs.Withdraw.{stateWithout, noWithdrawal, standingHere, withdrawn, withdrawJob}
 use Rattle.filling.specs.Accounts.{Position, positionsOfKind, framedPositions, placeOnSheet, onSheet, positions, flatPositions, looksBySlot, lookCountsOf}
 use Rattle.filling.specs.Accounts.{offcutOf, planOf, noPlan}
 use Rattle.filling.specs.Fill.{Filling, filled, stopped, fillFrom, fillOrder, Planned, notPlanned, plannedWith, plannedBy, fillJob}
@@ -170,11 +172,12 @@ module _ (j : Job) where
       ap (λ (ns : List ℕ). every (every fits) (slotRows (partAt (s .parts)) 0 ns)) counts-framed
 
   consistent-framed : (s : State) (w : Rooms) → consistent j s w ≡ consistent (framedJob j) s w
-  unfolding consistent takenFits orderOf framedJob
-  consistent-framed s w = λ t. tested (planner-at-framed (s .tables) w t) (parts-framed (s .tables) w t) (rearranged-framed (orderOf j s) t) (tracks-framed s t)
+  unfolding consistent takenFits orderOf copiesFit framedJob
+  consistent-framed s w = λ t.
+      tested (planner-at-framed (s .tables) w t) (parts-framed (s .tables) w t) (rearranged-framed (orderOf j s) t) (tracks-framed s t) (counts-framed t)
     where
-      tested : Planner → Bool → Bool → List (List Track) → Bool
-      tested p parts order tracks =
+      tested : Planner → Bool → Bool → List (List Track) → List ℕ → Bool
+      tested p parts order tracks counts =
           takenFits j s
           && (stripCountsFit (s .tables) (s .«placed_strips») w
           && (parts
@@ -184,8 +187,9 @@ module _ (j : Job) where
           && (layoutFits (s .layout .right) (s .layout .«unplaced_area»)
           && (gapsFit s
           && (trackTableFits p (s .taken) (p .shapes) tracks
+          && ((every (λ c. orientationFits counts c && positionFits c) (standingOf s) && sameDoubles (placedStrips s w) (standingStrips p (standingOf s)))
           && (entriesFit p w (placedStrips s w)
-          && firstsFit s w)))))))))
+          && firstsFit s w))))))))))
 
   next-framed : (s : State) (w : Rooms) (iv : List Float) (ks : List ℕ) → placeNext j s w iv ks ≡ placeNext (framedJob j) s w iv ks
   unfolding placeNext
@@ -199,6 +203,21 @@ module _ (j : Job) where
   pub step-framed : (s : State) (w : Rooms) (iv : List Float) → stepJob j s w iv ≡ stepJob (framedJob j) s w iv
   unfolding stepJob
   step-framed s w iv = λ t. elim (consistent-framed s w t) [ false ↦ noStep Why.Inconsistent s w iv | true ↦ core-framed s w iv t ]
+
+  withdrawn-framed : (s : State) (w : Rooms) (n : ℕ) (p : Planner) (cs : List Standing) → withdrawn j p s w n cs ≡ withdrawn (framedJob j) p s w n cs
+  unfolding withdrawn stateWithout framedJob
+  withdrawn-framed s w n p [] = refl
+  withdrawn-framed s w n p (c ∷ cs) = refl
+
+  goes-framed : (s : State) (w : Rooms) (n : ℕ) (cs : List Standing)
+      → withdrawn j (plannerAt j (s .tables) w) s w n cs ≡ withdrawn (framedJob j) (plannerAt (framedJob j) (s .tables) w) s w n cs
+  goes-framed s w n cs =
+      withdrawn-framed s w n (plannerAt j (s .tables) w) cs ∙ ap (λ (p : Planner). withdrawn (framedJob j) p s w n cs) (planner-at-framed (s .tables) w)
+
+  pub withdraw-framed : (s : State) (w : Rooms) (n : ℕ) → withdrawJob j s w n ≡ withdrawJob (framedJob j) s w n
+  unfolding withdrawJob
+  withdraw-framed s w n = λ t.
+      elim (consistent-framed s w t) [ false ↦ noWithdrawal Why.Inconsistent s w | true ↦ goes-framed s w n (standingHere s n) t ]
 
   -- ---- a filling
 

@@ -32,21 +32,19 @@ use Rattle.filling.specs.declared.Verdict.the-variants.{Accepted}
 use Rattle.filling.specs.Shapes.{plannerOf}
 use Rattle.filling.specs.Rooms.{Rooms, Lent}
 use Rattle.filling.specs.Order.{rearranged}
-use Rattle.filling.specs.State.{plannerAt, orderOf, tracksOf}
+use Rattle.filling.specs.State.{plannerAt, orderOf, standingOf, tracksOf}
 use Rattle.filling.specs.Consistent.{every, bounded, takenFits, stripCountsFit, partsFit, plannerFits, stripsFit, layoutFits, gapsFit, trackTableFits}
-use Rattle.filling.specs.Consistent.{entriesFit, firstsFit, placedStrips, consistent}
+use Rattle.filling.specs.Consistent.{copiesFit, entriesFit, firstsFit, placedStrips, consistent}
 use Rattle.filling.specs.Start.{firstState, firstRooms, startVerdict, startOf}
 use Rattle.filling.specs.NextCopy.{stepGiven, noStep, nextCopyOf}
 use Rattle.filling.specs.Fill.{filled, fillOrder}
 use Rattle.filling.specs.Plain.{plainStart}
 use Rattle.filling.specs.Calls.{Call, afterCalls}
 use Rattle.filling.specs.promises.Doubles.{isNumber}
-use Rattle.filling.proofs.Begin.{start-accepted}
-use Rattle.filling.proofs.Runs.{step-inconsistent, calls-keep}
+use Rattle.filling.proofs.Runs.{step-inconsistent}
 use Rattle.filling.proofs.WithinBoundsNumbers.{tested-bounded}
 use Rattle.filling.proofs.promises.Doubles.{number-is}
-use Rattle.filling.proofs.promises.Stays.{Held, held-took, held-start}
-use Rattle.filling.proofs.promises.Left.{fill-held}
+use Rattle.filling.proofs.promises.Left.{calls-held, fill-held}
 use Rattle.claims.specs.LookNumbers.{isFinite, endsFinite}
 
 -- ---- one look
@@ -150,7 +148,7 @@ module _ (yl yh : Float) (is : List Interval) (L : isFinite yl ≡ true) (H : is
 
 -- ---- states
 
-under : (a b : Bool) → b ≡ false → a && b ≡ false
+pub under : (a b : Bool) → b ≡ false → a && b ≡ false
 under true b e = e
 under false b e = refl
 
@@ -158,9 +156,11 @@ gaps-inconsistent : (j : Job) (s : State) (w : Rooms) → gapsFit s ≡ false �
 unfolding consistent
 gaps-inconsistent j s w f =
     let p = plannerAt j (s .tables) w in
-    let rest = trackTableFits p (s .taken) (p .shapes) (tracksOf j s) && (entriesFit p w (placedStrips s w) && firstsFit s w) in
+    let placed = placedStrips s w in
+    let rest =
+    trackTableFits p (s .taken) (p .shapes) (tracksOf j s) && (copiesFit j p (standingOf s) placed && (entriesFit p w placed && firstsFit s w)) in
     under (takenFits j s) _ (under (stripCountsFit (s .tables) (s .«placed_strips») w) _ (under (partsFit j (s .tables) w) _
-    (under (rearranged j (orderOf j s)) _ (under (plannerFits p) _ (under (stripsFit (placedStrips s w)) _
+    (under (rearranged j (orderOf j s)) _ (under (plannerFits p) _ (under (stripsFit placed) _
     (under (layoutFits (s .layout .right) (s .layout .«unplaced_area»)) _ (ap (λ (t : Bool). t && rest) f)))))))
 
 -- a gap that does not fit is 31
@@ -172,13 +172,7 @@ gaps-refused bytes j e s w iv f = rw e (step-inconsistent j s w iv (gaps-inconsi
 -- own gaps fit
 pub calls-gaps : (bytes order : List ℕ) (l : Lent) (j : Job) → readJob bytes ≡ accepted j → startOf bytes order l .verdict ≡ Accepted → (calls : List Call)
     → gapsFit (afterCalls bytes calls (startOf bytes order l .state) (startOf bytes order l .lent .rooms) .state) ≡ true
-calls-gaps bytes order l j e v calls =
-    let a = start-accepted bytes order l j e v in
-    let h =
-    calls-keep j (Held bytes j e order) (λ s w q h. h .own .kept .linked) (held-took bytes j e order) bytes e calls (firstState (plannerOf j) order)
-    (firstRooms (plannerOf j) (l .rooms)) (plainStart (plannerOf j) order) (held-start bytes j e order l (a .verdict-is))
-    in
-    rw (a .state-is, a .rooms-is) (h .own .fine .gaps)
+calls-gaps bytes order l j e v calls = calls-held bytes order l j e v calls .held .own .fine .gaps
 
 pub fill-gaps : (bytes order : List ℕ) (l : Lent) (j : Job) → readJob bytes ≡ accepted j → startVerdict j order l ≡ Accepted
     → (s : State) → fillOrder j l order ≡ filled s → gapsFit s ≡ true

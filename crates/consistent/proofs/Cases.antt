@@ -7,7 +7,9 @@ use mathlib.Core.List.{List}
 use lib.ListN.{length, take, drop}
 use lib.Dec.{leb}
 use lib.Ieee.{Float}
-use borrow.Author.Tests.{lt-leb, le-leb}
+use borrow.Author.Tests.{lt-leb, le-leb, leb-true}
+use Rattle.numbers.proofs.Truth.{both-first, both-second}
+use Rattle.index.proofs.Standing.{standing-within}
 use Rattle.rooms.proofs.tracks.Parts.{rest-is}
 use Rattle.trapezoid.specs.Strip.{capacity}
 use Rattle.strips.specs.declared.Rect.{Rect}
@@ -55,35 +57,31 @@ module _ (n a m : ℕ) (sheet shapes placed : List Float) (sheet-firsts placed-f
 
 -- ---- the state
 
-module _ (taken copies : ℕ) (resolution : Float) (bounds : Rect) (right area : Float) (ordered : Bool) where
-  pub state-taken : leb taken copies ≡ false → stateTest taken copies resolution bounds right area ordered ≡ false
+module _ (taken copies : ℕ) (resolution : Float) (bounds : Rect) (right area : Float) where
+  abbrev stated : Bool
+  stated = stateTest taken copies resolution bounds right area
+
+  pub state-taken : leb taken copies ≡ false → stated ≡ false
   unfolding stateTest
-  state-taken e = ap (λ b. b && (resolutionFits resolution && (boundsFit bounds && (layoutFits right area && ordered)))) e
+  state-taken e = ap (λ b. b && (resolutionFits resolution && (boundsFit bounds && layoutFits right area))) e
 
   module _ (a : leb taken copies ≡ true) where
-    after-taken : resolutionFits resolution && (boundsFit bounds && (layoutFits right area && ordered)) ≡ stateTest taken copies resolution bounds right area ordered
+    after-taken : resolutionFits resolution && (boundsFit bounds && layoutFits right area) ≡ stated
     unfolding stateTest
-    after-taken = sym (ap (λ b. b && (resolutionFits resolution && (boundsFit bounds && (layoutFits right area && ordered)))) a)
+    after-taken = sym (ap (λ b. b && (resolutionFits resolution && (boundsFit bounds && layoutFits right area))) a)
 
-    pub state-resolution : resolutionFits resolution ≡ false → stateTest taken copies resolution bounds right area ordered ≡ false
-    state-resolution e = sym after-taken ∙ ap (λ b. b && (boundsFit bounds && (layoutFits right area && ordered))) e
+    pub state-resolution : resolutionFits resolution ≡ false → stated ≡ false
+    state-resolution e = sym after-taken ∙ ap (λ b. b && (boundsFit bounds && layoutFits right area)) e
 
     module _ (b : resolutionFits resolution ≡ true) where
-      after-resolution : boundsFit bounds && (layoutFits right area && ordered) ≡ stateTest taken copies resolution bounds right area ordered
-      after-resolution = sym (ap (λ t. t && (boundsFit bounds && (layoutFits right area && ordered))) b) ∙ after-taken
+      after-resolution : boundsFit bounds && layoutFits right area ≡ stated
+      after-resolution = sym (ap (λ t. t && (boundsFit bounds && layoutFits right area)) b) ∙ after-taken
 
-      pub state-bounds : boundsFit bounds ≡ false → stateTest taken copies resolution bounds right area ordered ≡ false
-      state-bounds e = sym after-resolution ∙ ap (λ t. t && (layoutFits right area && ordered)) e
+      pub state-bounds : boundsFit bounds ≡ false → stated ≡ false
+      state-bounds e = sym after-resolution ∙ ap (λ t. t && layoutFits right area) e
 
-      module _ (c : boundsFit bounds ≡ true) where
-        after-bounds : layoutFits right area && ordered ≡ stateTest taken copies resolution bounds right area ordered
-        after-bounds = sym (ap (λ t. t && (layoutFits right area && ordered)) c) ∙ after-resolution
-
-        pub state-layout : layoutFits right area ≡ false → stateTest taken copies resolution bounds right area ordered ≡ false
-        state-layout e = sym after-bounds ∙ ap (λ t. t && ordered) e
-
-        pub state-order : layoutFits right area ≡ true → ordered ≡ stateTest taken copies resolution bounds right area ordered
-        state-order e = sym (ap (λ t. t && ordered) e) ∙ after-bounds
+      pub state-layout : boundsFit bounds ≡ true → layoutFits right area ≡ stated
+      state-layout c = sym (ap (λ t. t && layoutFits right area) c) ∙ after-resolution
 
 -- ---- entries
 
@@ -156,6 +154,18 @@ module _ (w : Slots) (rows : List ℕ) (kinds : ℕ) (counted stands : Bool) whe
   pub rooms-stands : counted ≡ true → slotsTest w rows kinds ≡ true → stands ≡ roomsTest w rows kinds counted stands
   unfolding roomsTest
   rooms-stands c e = sym (ap (λ b. b && (slotsTest w rows kinds && stands)) c ∙ ap (λ b. b && stands) e)
+
+-- strips that are counted lie in their rooms
+pub rooms-held : (w : Slots) (rows : List ℕ) (kinds n a m : ℕ) (sheet shapes placed : List Float) (sheet-firsts placed-firsts : List ℕ) (stands : Bool)
+    → roomsTest w rows kinds (countsTest n a m sheet shapes placed sheet-firsts placed-firsts) stands ≡ true
+    → (6 * a ≤ length shapes) × (6 * m ≤ length placed)
+unfolding roomsTest countsTest
+rooms-held w rows kinds n a m sheet shapes placed sheet-firsts placed-firsts stands e =
+    let counted = both-first (countsTest n a m sheet shapes placed sheet-firsts placed-firsts) (slotsTest w rows kinds && stands) e in
+    let rest = both-second (leb n (standingCapacity sheet sheet-firsts)) (leb a (capacity shapes) && leb m (standingCapacity placed placed-firsts)) counted in
+    let x = leb-true a (capacity shapes) (both-first (leb a (capacity shapes)) (leb m (standingCapacity placed placed-firsts)) rest) in
+    let y = leb-true m (standingCapacity placed placed-firsts) (both-second (leb a (capacity shapes)) (leb m (standingCapacity placed placed-firsts)) rest) in
+    (room-for a shapes x, standing-within m placed placed-firsts y)
 
 -- ---- both groups
 

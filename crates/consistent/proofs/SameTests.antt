@@ -1,29 +1,34 @@
 -- 31's tests in the code's order are the definition's; the tests by cases. Assumes nothing.
-use Prim.Native.Nat.{ℕ, _+_, _*_, _<_}
+use Prim.Native.Nat.{ℕ, _+_, _*_, _≤_, _<_}
 use native.Mathlib.Omega.{arith}
 use mathlib.Core.Path.{_≡_, refl, sym, ap, ap₂, _∙_}
+use mathlib.Core.Logic.{_⊎_, inl, inr}
 use mathlib.Core.Bool.{Bool, true, false, _&&_}
 use mathlib.Core.List.{List}
 use lib.ListN.{length, getD, take, length-map}
+use lib.Seq.{length-take-le}
 use lib.Dec.{leb}
 use lib.Ieee.{Float}
-use Rattle.numbers.proofs.Truth.{both-first, both-second}
+use Rattle.numbers.proofs.Truth.{either, both-first, both-second}
 use Rattle.trapezoid.specs.Strip.{capacity}
 use Rattle.index.specs.Buckets.{standingCapacity}
 use Rattle.job.specs.Jobs.{Job}
 use Rattle.filling.specs.declared.Tables.{Tables}
 use Rattle.filling.specs.declared.State.{State}
-use Rattle.filling.specs.Rooms.{Rooms, roomsOf}
+use Rattle.filling.specs.Rooms.{Rooms}
 use Rattle.filling.specs.Order.{rearranged}
-use Rattle.filling.specs.State.{orientationCounts, plannerAt, orderOf, tracksOf}
+use Rattle.filling.specs.State.{orientationCounts, plannerAt, orderOf, standingOf, tracksOf}
 use Rattle.filling.specs.Consistent.{every, stripsFit, boundsFit, takenFits, stripCountsFit, partsFit, trackTableFits, resolutionFits, shapeFits, plannerFits}
-use Rattle.filling.specs.Consistent.{layoutFits, gapsFit, numbersLie, entriesFor, entriesFit, sheetStrips, placedStrips, firstsFor, firstsFit, consistent}
+use Rattle.filling.specs.Consistent.{layoutFits, gapsFit, copiesFit, numbersLie, entriesFor, entriesFit, sheetStrips, placedStrips, firstsFor, firstsFit, consistent}
 use Rattle.accounts.specs.tables.inner.Tabled.{Tabled}
 use Rattle.consistent.specs.strip_tests.inner.Gaps.{gapsTest}
 use Rattle.consistent.specs.slot_tests.inner.Slots.{Slots, slotsTest}
-use Rattle.consistent.specs.inner.Tests.{stateOf, slotsOf, stateTest, countsTest, stripRoomTest, standingTest, roomsTest}
+use Rattle.consistent.specs.copy_tests.inner.Copies.{held, copiesTest}
+use Rattle.consistent.specs.inner.Tests.{slotsOf, stateTest, countsTest, stripRoomTest, standingTest, roomsTest}
 use Rattle.consistent.proofs.strip_tests.GapTests.{gaps-are}
+use Rattle.consistent.proofs.copy_tests.SameCopies.{copies-are}
 use Rattle.consistent.proofs.SameSlots.{slots-same}
+use Rattle.consistent.proofs.Cases.{rooms-held}
 
 -- ---- the same tests in another order
 
@@ -35,22 +40,23 @@ same-truth false false f g = refl
 halves : (a b : Bool) → a && b ≡ true → (a ≡ true) × (b ≡ true)
 halves a b e = (both-first a b e, both-second a b e)
 
-module _ (t c p r res sh b ss st l gp tr e f g h : Bool) where
+module _ (t c p r res sh b ss st l gp tr cp e f g h : Bool) where
   abbrev Coded : Bool
-  Coded = (t && (res && (b && (l && r)))) && (gp && (c && ((p && (ss && tr)) && ((sh && (g && e)) && (st && (h && f))))))
+  Coded = (t && (res && (b && l))) && (r && (gp && ((c && ((p && (ss && tr)) && ((sh && (g && e)) && (st && (h && f))))) && cp)))
 
   abbrev Defined : Bool
-  Defined = t && (c && (p && (r && ((res && (sh && (b && ss))) && (st && (l && (gp && (tr && ((e && f) && (g && h))))))))))
+  Defined = t && (c && (p && (r && ((res && (sh && (b && ss))) && (st && (l && (gp && (tr && (cp && ((e && f) && (g && h)))))))))))
 
   there : Coded ≡ true → Defined ≡ true
   there q =
-      let q0 = halves (t && (res && (b && (l && r)))) (gp && (c && ((p && (ss && tr)) && ((sh && (g && e)) && (st && (h && f)))))) q in
-      let q1 = halves gp (c && ((p && (ss && tr)) && ((sh && (g && e)) && (st && (h && f))))) (q0 .1) in
-      let q2 = halves t (res && (b && (l && r))) (q0 .0) in
-      let q3 = halves res (b && (l && r)) (q2 .1) in
-      let q4 = halves b (l && r) (q3 .1) in
-      let q5 = halves l r (q4 .1) in
-      let q6 = halves c ((p && (ss && tr)) && ((sh && (g && e)) && (st && (h && f)))) (q1 .1) in
+      let q0 = halves (t && (res && (b && l))) (r && (gp && ((c && ((p && (ss && tr)) && ((sh && (g && e)) && (st && (h && f))))) && cp))) q in
+      let q1 = halves t (res && (b && l)) (q0 .0) in
+      let q2 = halves res (b && l) (q1 .1) in
+      let q3 = halves b l (q2 .1) in
+      let q4 = halves r (gp && ((c && ((p && (ss && tr)) && ((sh && (g && e)) && (st && (h && f))))) && cp)) (q0 .1) in
+      let q5 = halves gp ((c && ((p && (ss && tr)) && ((sh && (g && e)) && (st && (h && f))))) && cp) (q4 .1) in
+      let q15 = halves (c && ((p && (ss && tr)) && ((sh && (g && e)) && (st && (h && f))))) cp (q5 .1) in
+      let q6 = halves c ((p && (ss && tr)) && ((sh && (g && e)) && (st && (h && f)))) (q15 .0) in
       let q7 = halves (p && (ss && tr)) ((sh && (g && e)) && (st && (h && f))) (q6 .1) in
       let q8 = halves p (ss && tr) (q7 .0) in
       let q9 = halves ss tr (q8 .1) in
@@ -59,26 +65,27 @@ module _ (t c p r res sh b ss st l gp tr e f g h : Bool) where
       let q12 = halves g e (q11 .1) in
       let q13 = halves st (h && f) (q10 .1) in
       let q14 = halves h f (q13 .1) in
-      rw (q2 .0, q6 .0, q8 .0, q5 .1, q3 .0, q11 .0, q4 .0, q9 .0, q13 .0, q5 .0, q1 .0, q9 .1, q12 .1, q14 .1, q12 .0, q14 .0)
+      rw (q1 .0, q6 .0, q8 .0, q4 .0, q2 .0, q11 .0, q3 .0, q9 .0, q13 .0, q3 .1, q5 .0, q9 .1, q15 .1, q12 .1, q14 .1, q12 .0, q14 .0)
 
   back : Defined ≡ true → Coded ≡ true
   back q =
-      let q1 = halves t (c && (p && (r && ((res && (sh && (b && ss))) && (st && (l && (gp && (tr && ((e && f) && (g && h)))))))))) q in
-      let q2 = halves c (p && (r && ((res && (sh && (b && ss))) && (st && (l && (gp && (tr && ((e && f) && (g && h))))))))) (q1 .1) in
-      let q3 = halves p (r && ((res && (sh && (b && ss))) && (st && (l && (gp && (tr && ((e && f) && (g && h)))))))) (q2 .1) in
-      let q4 = halves r ((res && (sh && (b && ss))) && (st && (l && (gp && (tr && ((e && f) && (g && h))))))) (q3 .1) in
-      let q5 = halves (res && (sh && (b && ss))) (st && (l && (gp && (tr && ((e && f) && (g && h)))))) (q4 .1) in
+      let q1 = halves t (c && (p && (r && ((res && (sh && (b && ss))) && (st && (l && (gp && (tr && (cp && ((e && f) && (g && h))))))))))) q in
+      let q2 = halves c (p && (r && ((res && (sh && (b && ss))) && (st && (l && (gp && (tr && (cp && ((e && f) && (g && h)))))))))) (q1 .1) in
+      let q3 = halves p (r && ((res && (sh && (b && ss))) && (st && (l && (gp && (tr && (cp && ((e && f) && (g && h))))))))) (q2 .1) in
+      let q4 = halves r ((res && (sh && (b && ss))) && (st && (l && (gp && (tr && (cp && ((e && f) && (g && h)))))))) (q3 .1) in
+      let q5 = halves (res && (sh && (b && ss))) (st && (l && (gp && (tr && (cp && ((e && f) && (g && h))))))) (q4 .1) in
       let q6 = halves res (sh && (b && ss)) (q5 .0) in
       let q7 = halves sh (b && ss) (q6 .1) in
       let q8 = halves b ss (q7 .1) in
-      let q9 = halves st (l && (gp && (tr && ((e && f) && (g && h))))) (q5 .1) in
-      let q10 = halves l (gp && (tr && ((e && f) && (g && h)))) (q9 .1) in
-      let q15 = halves gp (tr && ((e && f) && (g && h))) (q10 .1) in
-      let q11 = halves tr ((e && f) && (g && h)) (q15 .1) in
-      let q12 = halves (e && f) (g && h) (q11 .1) in
+      let q9 = halves st (l && (gp && (tr && (cp && ((e && f) && (g && h)))))) (q5 .1) in
+      let q10 = halves l (gp && (tr && (cp && ((e && f) && (g && h))))) (q9 .1) in
+      let q15 = halves gp (tr && (cp && ((e && f) && (g && h)))) (q10 .1) in
+      let q11 = halves tr (cp && ((e && f) && (g && h))) (q15 .1) in
+      let q16 = halves cp ((e && f) && (g && h)) (q11 .1) in
+      let q12 = halves (e && f) (g && h) (q16 .1) in
       let q13 = halves e f (q12 .0) in
       let q14 = halves g h (q12 .1) in
-      rw (q1 .0, q2 .0, q3 .0, q4 .0, q6 .0, q7 .0, q8 .0, q8 .1, q9 .0, q10 .0, q15 .0, q11 .0, q13 .0, q13 .1, q14 .0, q14 .1)
+      rw (q1 .0, q2 .0, q3 .0, q4 .0, q6 .0, q7 .0, q8 .0, q8 .1, q9 .0, q10 .0, q15 .0, q11 .0, q16 .0, q13 .0, q13 .1, q14 .0, q14 .1)
 
   reordered : Coded ≡ Defined
   reordered = same-truth Coded Defined there back
@@ -124,35 +131,56 @@ module _ (j : Job) (s : State) (w : Rooms) (rows : List ℕ) (areas : List Float
   slots-are = ap (slotsTest given rows) (sym turns-long) ∙ slots-same t (w .shapes) (s .taken) (s .«next_column») (s .«look_counts») (plannerAt j t w) refl refl
       rows (orientationCounts j) turns
 
-  pub consistent-is :
-      stateTest (s .taken) copies (t .resolution) (t .«sheet_bounds») (s .layout .right) (s .layout .«unplaced_area») (rearranged j (take copies (s .order)))
-      && (gapsTest (s .layout .orientation) (s .layout .gap) (s .taken) && roomsTest given rows kinds
+  abbrev roomed : Bool
+  roomed = roomsTest given rows kinds
       (countsTest (t .«sheet_strips») (t .«apart_strips») (s .«placed_strips») (w .sheet) (w .shapes) (w .placed) (w .sheet-firsts) (w .placed-firsts))
-      (standingTest (t .«sheet_bounds») sheet standing (w .sheet-entries) (w .placed-entries) (w .sheet-firsts) (w .placed-firsts)))
+      (standingTest (t .«sheet_bounds») sheet standing (w .sheet-entries) (w .placed-entries) (w .sheet-firsts) (w .placed-firsts))
+
+  abbrev copied : Bool
+  copied = copiesTest (held rows kinds (t .parts) (take (6 * t .«apart_strips») (w .shapes)) standing) (s .order) (s .layout .orientation)
+      (s .layout .x) (s .layout .y) (s .taken) 0 0
+
+  abbrev fitting : Bool
+  fitting = copiesFit j (plannerAt j t w) (standingOf s) standing
+
+  whole : 6 * s .«placed_strips» ≤ length (w .placed) → 6 * capacity standing ≡ length standing
+  unfolding capacity
+  whole h = let e = length-take-le (6 * s .«placed_strips») (w .placed) h in omega arith
+
+  -- rooms that pass hold whole strips
+  copies-same : roomed && copied ≡ roomed && fitting
+  copies-same = go (either roomed)
+    where
+      go : (roomed ≡ true) ⊎ (roomed ≡ false) → roomed && copied ≡ roomed && fitting
+      go (inl e) =
+          let h = rooms-held given rows kinds (t .«sheet_strips») (t .«apart_strips») (s .«placed_strips») (w .sheet) (w .shapes) (w .placed) (w .sheet-firsts)
+          (w .placed-firsts) (standingTest (t .«sheet_bounds») sheet standing (w .sheet-entries) (w .placed-entries) (w .sheet-firsts) (w .placed-firsts)) e in
+          ap (λ b. roomed && b) (copies-are j s w rows kinds turns-long (λ i l. turns i (let z = turns-long in omega arith)) standing (whole (h .1)))
+      go (inr e) = ap (λ b. b && copied) e ∙ sym (ap (λ b. b && fitting) e)
+
+  tests-are :
+      stateTest (s .taken) (j .copies) (t .resolution) (t .«sheet_bounds») (s .layout .right) (s .layout .«unplaced_area»)
+      && (rearranged j (take (j .copies) (s .order)) && (gapsFit s && (roomed && fitting)))
       ≡ consistent j s w
   unfolding stateTest roomsTest countsTest stripRoomTest standingTest consistent takenFits stripCountsFit orderOf plannerFits sheetStrips placedStrips
       entriesFit firstsFit plannerAt
-  consistent-is =
-      ap₂ _&&_
-      (ap (λ (n : ℕ). leb (s .taken) n && (resolutionFits (t .resolution) && (boundsFit (t .«sheet_bounds») &&
-      (layoutFits (s .layout .right) (s .layout .«unplaced_area») && rearranged j (take n (s .order)))))) (sym ec))
-      (ap₂ (λ (g b : Bool). g && (counts && (b && stands))) (gaps-are s) slots-are)
+  tests-are =
+      ap (λ (b : Bool). (leb (s .taken) (j .copies) && (resolutionFits (t .resolution) && (boundsFit (t .«sheet_bounds») &&
+      layoutFits (s .layout .right) (s .layout .«unplaced_area»))))
+      && (rearranged j (take (j .copies) (s .order)) && (gapsFit s && ((counts && (b && stands)) && fitting)))) slots-are
       ∙ reordered (leb (s .taken) (j .copies)) counts (partsFit j t w) (rearranged j (take (j .copies) (s .order))) (resolutionFits (t .resolution))
       (stripsFit sheet) (boundsFit (t .«sheet_bounds»))
       (every (every shapeFits) (plannerAt j t w .shapes)) (stripsFit standing) (layoutFits (s .layout .right) (s .layout .«unplaced_area»)) (gapsFit s)
-      (trackTableFits (plannerAt j t w) (s .taken) (plannerAt j t w .shapes) (tracksOf j s))
+      (trackTableFits (plannerAt j t w) (s .taken) (plannerAt j t w .shapes) (tracksOf j s)) fitting
       (numbersLie (entriesFor (t .«sheet_bounds») sheet) (w .sheet-entries)) (numbersLie (entriesFor (t .«sheet_bounds») standing) (w .placed-entries))
       (numbersLie (firstsFor (t .«sheet_bounds») sheet) (w .sheet-firsts)) (numbersLie (firstsFor (t .«sheet_bounds») standing) (w .placed-firsts))
 
--- ---- for the caller: a state and rooms are those of their parts
-
-pub state-whole : (s : State)
-    → stateOf (s .taken) (s .«placed_strips») (s .layout .right) (s .layout .«unplaced_area») (s .tables .resolution) (s .tables .«sheet_bounds»)
-    (s .tables .«sheet_strips») (s .tables .«apart_strips») (s .tables .«inset_bounds») (s .tables .parts)
-    (s .order) (s .«next_column») (s .«look_counts») (s .layout .orientation) (s .layout .x) (s .layout .y) (s .layout .gap)
-    ≡ s
-state-whole s = refl
-
-pub rooms-whole : (w : Rooms)
-    → roomsOf (w .shapes) (w .sheet) (w .placed) (w .sheet-entries) (w .placed-entries) (w .sheet-firsts) (w .placed-firsts) ≡ w
-rooms-whole w = refl
+  pub consistent-is :
+      stateTest (s .taken) copies (t .resolution) (t .«sheet_bounds») (s .layout .right) (s .layout .«unplaced_area»)
+      && (rearranged j (take copies (s .order)) && (gapsTest (s .layout .orientation) (s .layout .gap) (s .taken) && (roomed && copied)))
+      ≡ consistent j s w
+  consistent-is =
+      ap (λ (n : ℕ). stateTest (s .taken) n (t .resolution) (t .«sheet_bounds») (s .layout .right) (s .layout .«unplaced_area»)
+      && (rearranged j (take n (s .order)) && (gapsTest (s .layout .orientation) (s .layout .gap) (s .taken) && (roomed && copied)))) (sym ec)
+      ∙ (ap₂ (λ (g b : Bool). stateTest (s .taken) (j .copies) (t .resolution) (t .«sheet_bounds») (s .layout .right) (s .layout .«unplaced_area»)
+      && (rearranged j (take (j .copies) (s .order)) && (g && b))) (gaps-are s) copies-same ∙ tests-are)

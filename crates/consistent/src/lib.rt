@@ -1,30 +1,31 @@
 // Whether a single step's state and rooms agree (document 01, refusal 31): the definition's tests,
 // one function each, those first on which the safety of others rests.
+pub mod agreed;
+pub mod copy_tests;
+pub mod room_tests;
 pub mod slot_tests;
 pub mod strip_tests;
 
 ghost use mathlib.Core.Path.{_≡_};
-ghost use mathlib.Core.Bool.{true};
+ghost use mathlib.Core.Bool.{true, _&&_};
 ghost use mathlib.Core.List.{List};
 ghost use Prim.Native.Nat.{ℕ, _+_, _*_, _≤_, _<_};
 ghost use lib.ListN.{length, getD, take};
 ghost use lib.Dec.{leb};
 ghost use lib.Ieee.{Float};
 ghost use Rattle.trapezoid.specs.Strip.{capacity};
-ghost use Rattle.index.specs.Buckets.{buckets, entriesOf, firstsOf};
+ghost use Rattle.index.specs.Buckets.{buckets};
 ghost use Rattle.index.specs.inner.Listing.{Laid, FirstBuckets};
 ghost use Rattle.search.proofs.columns.Sizes.{BoundedRect, Resolving};
 ghost use Rattle.job.specs.Jobs.{Job};
 ghost use Rattle.filling.specs.Rooms.{roomsOf};
-ghost use Rattle.filling.specs.Order.{rearranged};
-ghost use Rattle.filling.specs.Consistent.{numbersLie, sheetIndex, consistent};
+ghost use Rattle.filling.specs.Consistent.{sheetIndex, consistent};
 ghost use Rattle.accounts.specs.tables.inner.Tabled.{Tabled};
-ghost use Rattle.consistent.specs.slot_tests.inner.Slots.{Given, slotsTest};
-ghost use Rattle.consistent.specs.inner.Tests.{stateOf, slotsOf, stateTest, countsTest, stripRoomTest, standingTest, roomsTest};
+ghost use Rattle.consistent.specs.slot_tests.inner.Slots.{Given};
+ghost use Rattle.consistent.specs.copy_tests.inner.Copies.{held, copiesTest};
+ghost use Rattle.consistent.specs.inner.Tests.{stateOf, slotsOf, stateTest, countsTest, standingTest, roomsTest};
 use index::Bucket;
 use index::Entry;
-use index::Index;
-use index::entries::Walked;
 use strips::Rect;
 
 // The copies taken: at most the job's.
@@ -34,46 +35,16 @@ fn taken_fits(taken: usize, copies: usize) -> bool
     taken <= copies
 }
 
-// Strips lie within their rooms.
-fn strip_counts_fit(
-    sheet_strips: usize,
-    apart_strips: usize,
-    placed_strips: usize,
-    sheet: &[f64],
-    shapes: &[f64],
-    placed: &[f64],
-    sheet_firsts: &[Bucket],
-    placed_firsts: &[Bucket],
-) -> bool
-    ensures { λ r. ⌜ (r ≡ countsTest «sheet_strips» «apart_strips» «placed_strips» (now (sheet .entry)) (now (shapes .entry)) (now (placed .entry))
-        (now («sheet_firsts» .entry)) (now («placed_firsts» .entry)))
-        × (r ≡ true → (6 * «sheet_strips» ≤ length (now (sheet .entry))) × (6 * «apart_strips» ≤ length (now (shapes .entry)))
-        × (6 * «placed_strips» ≤ length (now (placed .entry)))) ⌝ }
-{
-    if sheet_strips > index::standing_capacity(sheet, sheet_firsts) {
-        return false;
-    }
-    if apart_strips > trapezoid::capacity(shapes) {
-        return false;
-    }
-    placed_strips <= index::standing_capacity(placed, placed_firsts)
-}
-
-// The copies taken, resolution, sheet bounds, right and unplaced area, and the order.
+// The copies taken, resolution, sheet bounds, right and unplaced area.
 fn state_fits(
     taken: usize,
+    copies: usize,
     right: f64,
     unplaced_area: f64,
     resolution: f64,
     bounds: Rect,
-    order: &[usize],
-    rows: &[u64],
-    kinds: usize,
-    copies: usize,
 ) -> bool
-    requires { ⌜ (kinds ≤ 64) × (256 ≤ length (now rows)) × (copies ≤ length (now order)) ⌝ }
-    ensures { λ r. ⌜ ((j : Job) (areas : List Float) → Tabled j (now (rows .entry)) areas → length (j .kinds) ≡ kinds → j .copies ≡ copies
-        → r ≡ stateTest taken copies resolution bounds right «unplaced_area» (rearranged j (take copies (now (order .entry)))))
+    ensures { λ r. ⌜ (r ≡ stateTest taken copies resolution bounds right «unplaced_area»)
         × (r ≡ true → (taken ≤ copies) × BoundedRect bounds × Resolving resolution) ⌝ }
 {
     if !taken_fits(taken, copies) {
@@ -85,137 +56,11 @@ fn state_fits(
     if !strip_tests::bounds_fit(bounds) {
         return false;
     }
-    if !strip_tests::layout_fits(right, unplaced_area) {
-        return false;
-    }
-    accounts::order::rearranged(&order[..copies], rows, kinds, copies)
+    strip_tests::layout_fits(right, unplaced_area)
 }
 
-// The room begins with the strips' first buckets (document 02, W3).
-fn firsts_lie(ix: Index, part: &[f64], firsts: &[Bucket]) -> bool
-    ensures { λ r. ⌜ (r ≡ numbersLie (firstsOf ix (now (part .entry)) (capacity (now (part .entry)))) (now (firsts .entry)))
-        × (r ≡ true → FirstBuckets ix (now (part .entry)) (capacity (now (part .entry))) (now (firsts .entry))) ⌝ }
-{
-    let n = trapezoid::capacity(part);
-    if firsts.len() < n {
-        return false;
-    }
-    let mut i = 0;
-    while i < n {
-        let p = trapezoid::load(part, i);
-        if ix.bucket(p.x0) == index::entry(firsts, i) {
-            i += 1;
-        } else {
-            return false;
-        }
-    }
-    true
-}
-
-// The room begins with the entries of the strips; if so, starts has where each bucket's begin.
-fn entries_lie(
-    ix: Index,
-    part: &[f64],
-    entries: &[Entry],
-    starts: &mut [usize],
-    firsts: &[Bucket],
-) -> bool
-    requires { ⌜ (length (now starts) ≡ buckets + 1) × FirstBuckets ix (now part) (capacity (now part)) (now firsts) ⌝ }
-    ensures { λ r. ⌜ (r ≡ numbersLie (entriesOf ix (now (part .entry)) (capacity (now (part .entry)))) (now (entries .entry)))
-        × (r ≡ true → Laid ix (now (part .entry)) (capacity (now (part .entry))) (now (entries .entry)) (now (starts .exit))) ⌝ }
-{
-    match index::entries::walk_all(ix, part, trapezoid::capacity(part), entries, starts, firsts) {
-        Walked::At(_) => true,
-        Walked::Wrong => false,
-    }
-}
-
-// The strips of a part, their first buckets and their entries.
-fn strip_room_fits(
-    bounds: Rect,
-    part: &[f64],
-    entries: &[Entry],
-    starts: &mut [usize],
-    firsts: &[Bucket],
-) -> bool
-    requires { ⌜ length (now starts) ≡ buckets + 1 ⌝ }
-    ensures { λ r. ⌜ (r ≡ stripRoomTest bounds (now (part .entry)) (now (entries .entry)) (now (firsts .entry)))
-        × (r ≡ true → Laid (sheetIndex bounds) (now (part .entry)) (capacity (now (part .entry))) (now (entries .entry)) (now (starts .exit))
-        × FirstBuckets (sheetIndex bounds) (now (part .entry)) (capacity (now (part .entry))) (now (firsts .entry))) ⌝ }
-{
-    if !strip_tests::strips_fit(part) {
-        return false;
-    }
-    let ix = Index::new(bounds.left, bounds.right);
-    if !firsts_lie(ix, part, firsts) {
-        return false;
-    }
-    entries_lie(ix, part, entries, starts, firsts)
-}
-
-// The strips of the sheet and of the placed copies.
-fn standing_fit(
-    bounds: Rect,
-    sheet: &[f64],
-    placed: &[f64],
-    sheet_entries: &[Entry],
-    placed_entries: &[Entry],
-    sheet_starts: &mut [usize],
-    placed_starts: &mut [usize],
-    sheet_firsts: &[Bucket],
-    placed_firsts: &[Bucket],
-) -> bool
-    requires { ⌜ (length (now «sheet_starts») ≡ buckets + 1) × (length (now «placed_starts») ≡ buckets + 1) ⌝ }
-    ensures { λ r. ⌜ (r ≡ standingTest bounds (now (sheet .entry)) (now (placed .entry)) (now («sheet_entries» .entry)) (now («placed_entries» .entry))
-        (now («sheet_firsts» .entry)) (now («placed_firsts» .entry)))
-        × (r ≡ true → Laid (sheetIndex bounds) (now (sheet .entry)) (capacity (now (sheet .entry))) (now («sheet_entries» .entry)) (now («sheet_starts» .exit))
-        × Laid (sheetIndex bounds) (now (placed .entry)) (capacity (now (placed .entry))) (now («placed_entries» .entry)) (now («placed_starts» .exit))
-        × FirstBuckets (sheetIndex bounds) (now (sheet .entry)) (capacity (now (sheet .entry))) (now («sheet_firsts» .entry))
-        × FirstBuckets (sheetIndex bounds) (now (placed .entry)) (capacity (now (placed .entry))) (now («placed_firsts» .entry))) ⌝ }
-{
-    if !strip_room_fits(bounds, sheet, sheet_entries, sheet_starts, sheet_firsts) {
-        return false;
-    }
-    strip_room_fits(bounds, placed, placed_entries, placed_starts, placed_firsts)
-}
-
-// Parts, shapes and tracks of every orientation.
-fn shapes_fit<'a>(
-    taken: usize,
-    resolution: f64,
-    bounds: Rect,
-    apart_strips: usize,
-    inset_bounds: &[f64],
-    parts: &[usize],
-    next_column: &[usize],
-    look_counts: &[usize],
-    rows: &[u64],
-    kinds: usize,
-    shapes: &'a [f64],
-) -> bool
-    requires { ⌜ Given (slotsOf bounds resolution taken (now «inset_bounds») (now parts) (now shapes) «apart_strips» (now «next_column») (now «look_counts»))
-        × (6 * «apart_strips» ≤ length (now shapes)) × (kinds ≤ 64) × (256 ≤ length (now rows)) × ((k : ℕ) → k < kinds → getD (now rows) (4 * k + 3) 0 ≤ 16) ⌝ }
-    ensures { λ r. ⌜ r ≡ slotsTest (slotsOf bounds resolution taken (now («inset_bounds» .entry)) (now (parts .entry)) (now (shapes .entry)) «apart_strips»
-        (now («next_column» .entry)) (now («look_counts» .entry))) (now (rows .entry)) kinds ⌝ }
-{
-    let end = 6 * apart_strips;
-    slot_tests::slots_fit(
-        bounds,
-        resolution,
-        taken,
-        rows,
-        kinds,
-        inset_bounds,
-        parts,
-        &shapes[..end],
-        &shapes[end..],
-        next_column,
-        look_counts,
-    )
-}
-
-// What is tested with the rooms.
-fn rooms_fit(
+// What is tested with the rooms, and then that the placed strips are the standing copies'.
+fn rooms_agree(
     taken: usize,
     placed_strips: usize,
     resolution: f64,
@@ -237,15 +82,22 @@ fn rooms_fit(
     placed_starts: &mut [usize],
     sheet_firsts: &[Bucket],
     placed_firsts: &[Bucket],
+    order: &[usize],
+    orientation: &[usize],
+    x: &[f64],
+    y: &[f64],
 ) -> bool
     requires { ⌜ Given (slotsOf bounds resolution taken (now «inset_bounds») (now parts) (now shapes) «apart_strips» (now «next_column») (now «look_counts»))
         × (kinds ≤ 64) × (256 ≤ length (now rows)) × ((k : ℕ) → k < kinds → getD (now rows) (4 * k + 3) 0 ≤ 16) × (length (now «sheet_starts») ≡ buckets + 1)
-        × (length (now «placed_starts») ≡ buckets + 1) ⌝ }
+        × (length (now «placed_starts») ≡ buckets + 1) × (taken ≤ length (now order)) × (taken ≤ length (now orientation)) × (taken ≤ length (now x))
+        × (taken ≤ length (now y)) ⌝ }
     ensures { λ r. ⌜ (r ≡ roomsTest (slotsOf bounds resolution taken (now («inset_bounds» .entry)) (now (parts .entry)) (now (shapes .entry)) «apart_strips»
         (now («next_column» .entry)) (now («look_counts» .entry))) (now (rows .entry)) kinds (countsTest «sheet_strips» «apart_strips» «placed_strips»
         (now (sheet .entry)) (now (shapes .entry)) (now (placed .entry)) (now («sheet_firsts» .entry)) (now («placed_firsts» .entry)))
         (standingTest bounds (take (6 * «sheet_strips») (now (sheet .entry))) (take (6 * «placed_strips») (now (placed .entry)))
-        (now («sheet_entries» .entry)) (now («placed_entries» .entry)) (now («sheet_firsts» .entry)) (now («placed_firsts» .entry))))
+        (now («sheet_entries» .entry)) (now («placed_entries» .entry)) (now («sheet_firsts» .entry)) (now («placed_firsts» .entry)))
+        && copiesTest (held (now (rows .entry)) kinds (now (parts .entry)) (take (6 * «apart_strips») (now (shapes .entry)))
+        (take (6 * «placed_strips») (now (placed .entry)))) (now (order .entry)) (now (orientation .entry)) (now (x .entry)) (now (y .entry)) taken 0 0)
         × (r ≡ true → Laid (sheetIndex bounds) (take (6 * «sheet_strips») (now (sheet .entry))) (capacity (take (6 * «sheet_strips») (now (sheet .entry))))
         (now («sheet_entries» .entry)) (now («sheet_starts» .exit)) × Laid (sheetIndex bounds) (take (6 * «placed_strips») (now (placed .entry)))
         (capacity (take (6 * «placed_strips») (now (placed .entry)))) (now («placed_entries» .entry)) (now («placed_starts» .exit))
@@ -253,22 +105,12 @@ fn rooms_fit(
         (now («sheet_firsts» .entry)) × FirstBuckets (sheetIndex bounds) (take (6 * «placed_strips») (now (placed .entry)))
         (capacity (take (6 * «placed_strips») (now (placed .entry)))) (now («placed_firsts» .entry))) ⌝ }
 {
-    if !strip_counts_fit(
-        sheet_strips,
-        apart_strips,
-        placed_strips,
-        sheet,
-        shapes,
-        placed,
-        sheet_firsts,
-        placed_firsts,
-    ) {
-        return false;
-    }
-    if !shapes_fit(
+    if !room_tests::rooms_fit(
         taken,
+        placed_strips,
         resolution,
         bounds,
+        sheet_strips,
         apart_strips,
         inset_bounds,
         parts,
@@ -277,21 +119,30 @@ fn rooms_fit(
         rows,
         kinds,
         shapes,
-    ) {
-        return false;
-    }
-    let sheet_end = 6 * sheet_strips;
-    let placed_end = 6 * placed_strips;
-    standing_fit(
-        bounds,
-        &sheet[..sheet_end],
-        &placed[..placed_end],
+        sheet,
+        placed,
         sheet_entries,
         placed_entries,
         sheet_starts,
         placed_starts,
         sheet_firsts,
         placed_firsts,
+    ) {
+        return false;
+    }
+    let apart_end = 6 * apart_strips;
+    let placed_end = 6 * placed_strips;
+    copy_tests::copies_fit(
+        rows,
+        kinds,
+        order,
+        orientation,
+        x,
+        y,
+        taken,
+        parts,
+        &shapes[..apart_end],
+        &placed[..placed_end],
     )
 }
 
@@ -326,15 +177,17 @@ pub fn consistent(
     placed_firsts: &[Bucket],
     orientation: &[usize],
     gap: &[f64],
+    x: &[f64],
+    y: &[f64],
 ) -> bool
     requires { ⌜ (kinds ≤ 64) × (256 ≤ length (now rows)) × ((k : ℕ) → k < kinds → getD (now rows) (4 * k + 3) 0 ≤ 16) × (copies ≤ 4096)
         × (4096 ≤ length (now order)) × (4096 ≤ length (now «inset_bounds»)) × (4096 ≤ length (now parts)) × (1024 ≤ length (now «next_column»))
         × (1024 ≤ length (now «look_counts»)) × (length (now «sheet_starts») ≡ buckets + 1) × (length (now «placed_starts») ≡ buckets + 1)
-        × (4096 ≤ length (now orientation)) × (4096 ≤ length (now gap)) ⌝ }
-    ensures { λ r. ⌜ ((j : Job) (areas : List Float) (x y : List Float) → Tabled j (now (rows .entry)) areas → length (j .kinds) ≡ kinds → j .copies ≡ copies
+        × (4096 ≤ length (now orientation)) × (4096 ≤ length (now gap)) × (4096 ≤ length (now x)) × (4096 ≤ length (now y)) ⌝ }
+    ensures { λ r. ⌜ ((j : Job) (areas : List Float) → Tabled j (now (rows .entry)) areas → length (j .kinds) ≡ kinds → j .copies ≡ copies
         → r ≡ consistent j (stateOf taken «placed_strips» right «unplaced_area» resolution bounds «sheet_strips» «apart_strips» (now («inset_bounds» .entry))
         (now (parts .entry)) (now (order .entry)) (now («next_column» .entry)) (now («look_counts» .entry))
-        (now (orientation .entry)) x y (now (gap .entry)))
+        (now (orientation .entry)) (now (x .entry)) (now (y .entry)) (now (gap .entry)))
         (roomsOf (now (shapes .entry)) (now (sheet .entry)) (now (placed .entry)) (now («sheet_entries» .entry)) (now («placed_entries» .entry))
         (now («sheet_firsts» .entry)) (now («placed_firsts» .entry))))
         × (r ≡ true → Laid (sheetIndex bounds) (take (6 * «sheet_strips») (now (sheet .entry))) (capacity (take (6 * «sheet_strips») (now (sheet .entry))))
@@ -344,23 +197,16 @@ pub fn consistent(
         (now («sheet_firsts» .entry)) × FirstBuckets (sheetIndex bounds) (take (6 * «placed_strips») (now (placed .entry)))
         (capacity (take (6 * «placed_strips») (now (placed .entry)))) (now («placed_firsts» .entry))) ⌝ }
 {
-    if !state_fits(
-        taken,
-        right,
-        unplaced_area,
-        resolution,
-        bounds,
-        order,
-        rows,
-        kinds,
-        copies,
-    ) {
+    if !state_fits(taken, copies, right, unplaced_area, resolution, bounds) {
+        return false;
+    }
+    if !accounts::order::rearranged(&order[..copies], rows, kinds, copies) {
         return false;
     }
     if !strip_tests::gaps_fit(orientation, gap, taken) {
         return false;
     }
-    rooms_fit(
+    rooms_agree(
         taken,
         placed_strips,
         resolution,
@@ -382,5 +228,9 @@ pub fn consistent(
         placed_starts,
         sheet_firsts,
         placed_firsts,
+        order,
+        orientation,
+        x,
+        y,
     )
 }

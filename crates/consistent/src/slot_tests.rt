@@ -14,7 +14,7 @@ use search::columns::Columns;
 use strips::Rect;
 
 // Whether `count` from `start` on lie within `whole`; their sum may be no usize.
-fn within(start: usize, count: usize, whole: usize) -> bool
+pub fn within(start: usize, count: usize, whole: usize) -> bool
     ensures { λ r. ⌜ r ≡ leb (start + count) whole ⌝ }
 {
     if count <= whole {

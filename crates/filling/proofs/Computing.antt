@@ -3,7 +3,7 @@ use lib.Ieee.{neg}
 use Rattle.filling.specs.Refusals.{numberOf, verdictNumber, isRefused, refuseIf}
 use Rattle.filling.specs.Columns.{ranges, reversed, columns, regularColumn, lastColumn, columnAt}
 use Rattle.filling.specs.Shapes.{setBounds, setStrips, shapeFor, plannerOf, noBounds, noShape, shapeOf, copiesFrom, movedStrips, copyStrips}
-use Rattle.filling.specs.Shapes.{standingStrips}
+use Rattle.filling.specs.Shapes.{named, others, standingStrips}
 use Rattle.filling.specs.Search.{rangesOf, reversedFor, lastOf, intervalsAt, lookAt, firstFree, search, remembered, columnsFrom, looks, searched}
 use Rattle.filling.specs.Search.{searchAll, searchedAll}
 use Rattle.filling.specs.Choice.{choiceOf, choices, wins, best, standingAt}
@@ -15,6 +15,7 @@ use Rattle.filling.specs.Order.{countIn, inFull, rearranged}
 use Rattle.filling.specs.Consistent.{every, bounded, stripFits, stripsFit, boundsFit, takenFits, stripCountsFit, partFits, partsFit, columnFits}
 use Rattle.filling.specs.Consistent.{trackFits, tracksFit, trackTableFits, resolutionFits, shapeFits}
 use Rattle.filling.specs.Consistent.{plannerFits, layoutFits, gapFits, gapsFit, sameNumbers, numbersLie}
+use Rattle.filling.specs.Consistent.{orientationFits, positionFits, sameDoubles, copiesFit}
 use Rattle.filling.specs.Consistent.{sheetIndex, entriesFor, entriesFit, sheetStrips, placedStrips, firstsFor, firstsFit, consistent}
 use Rattle.filling.specs.Start.{apartStrips, insetStrips, partsFrom, tablesOf, firstState, firstRooms, prepareVerdict, startVerdict, noStart, goodStart}
 use Rattle.filling.specs.Start.{startJob, startGiven, startOf}
@@ -24,7 +25,9 @@ use Rattle.filling.specs.Accounts.{positionsOfKind, framedPositions, pla
 use Rattle.filling.specs.Accounts.{placedOf, unplacedOf, looksBySlot, lookCountsOf, reachOf, notBelowZero}
 use Rattle.filling.specs.Accounts.{offcutOf, planOf, noPlan}
 use Rattle.filling.specs.Fill.{fillFrom, fillOrder, notPlanned, plannedWith, plannedBy, fillJob, fillGiven, fillOf}
-use Rattle.filling.specs.Calls.{callStep, afterCalls, refusals, stateOutcome, plainOutcome, plainAfter}
+use Rattle.filling.specs.Withdraw.{closedUp, stripsLeft, stripsWithout, rightOf, layoutWithout, stateWithout, roomsWithout, noWithdrawal, standingHere}
+use Rattle.filling.specs.Withdraw.{withdrawn, withdrawJob, withdrawGiven, withdrawOf}
+use Rattle.filling.specs.Calls.{requestOf, stepReply, callStep, afterCalls, refusals, stateOutcome, plainOutcome, plainAfter}
 
 unfoldable pub refusals-compute : Unit {0}
 unfolding numberOf verdictNumber isRefused refuseIf
@@ -35,7 +38,7 @@ unfolding ranges reversed columns regularColumn lastColumn columnAt
 columns-compute = tt
 
 unfoldable pub shapes-compute : Unit {0}
-unfolding setBounds setStrips shapeFor plannerOf noBounds noShape shapeOf copiesFrom movedStrips copyStrips standingStrips
+unfolding setBounds setStrips shapeFor plannerOf noBounds noShape shapeOf copiesFrom named others movedStrips copyStrips standingStrips
 shapes-compute = tt
 
 unfoldable pub search-computes : Unit {0}
@@ -75,8 +78,12 @@ unfolding resolutionFits shapeFits plannerFits layoutFits gapFits gapsFit sameNu
     firstsFor firstsFit consistent
 consistent-computes-2 = tt
 
+unfoldable pub consistent-computes-3 : Unit {0}
+unfolding orientationFits positionFits sameDoubles copiesFit
+consistent-computes-3 = tt
+
 unfoldable pub consistent-computes : Unit {0}
-unfolding consistent-computes-1 consistent-computes-2
+unfolding consistent-computes-1 consistent-computes-2 consistent-computes-3
 consistent-computes = tt
 
 unfoldable pub start-computes : Unit {0}
@@ -104,6 +111,11 @@ unfoldable pub fill-computes : Unit {0}
 unfolding fillFrom fillOrder notPlanned plannedWith plannedBy fillJob fillGiven fillOf
 fill-computes = tt
 
+unfoldable pub withdraw-computes : Unit {0}
+unfolding closedUp stripsLeft stripsWithout rightOf layoutWithout stateWithout roomsWithout noWithdrawal standingHere withdrawn withdrawJob withdrawGiven
+    withdrawOf
+withdraw-computes = tt
+
 unfoldable pub calls-compute : Unit {0}
-unfolding callStep afterCalls refusals stateOutcome plainOutcome plainAfter
+unfolding requestOf stepReply callStep afterCalls refusals stateOutcome plainOutcome plainAfter
 calls-compute = tt

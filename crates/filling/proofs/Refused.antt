@@ -1,14 +1,17 @@
--- A call is refused exactly where a line of the tables holds, with the number first met: a single step, a start, a filling. A refused single step
--- changes nothing. Of every state and every room. Assumes nothing.
+-- A call is refused exactly where a line of the tables holds, with the number first met: a next copy, a withdrawal, a start, a filling. A refused next copy or
+-- withdrawal changes nothing. Of every state and every room. Assumes nothing.
 use mathlib.Core.Path.{_≡_, refl, sym, ap, _∙_}
 use mathlib.Core.Logic.{_⊎_, inl, inr}
 use mathlib.Core.Bool.{Bool, true, false}
 use mathlib.Core.List.{List, [], _∷_, _++_}
-use Prim.Native.Nat.{ℕ, zero, suc}
+use Prim.Native.Nat.{ℕ, zero, suc, _+_}
 use lib.ListN.{length, getD, drop}
+use lib.Dec.{ltb}
 use lib.Ieee.{Float}
 use Rattle.numbers.proofs.Truth.{either}
 use Rattle.numbers.specs.Numbers.{posZero}
+use Rattle.trapezoid.specs.Strip.{capacity}
+use Rattle.index.specs.Buckets.{standingCapacity}
 use Rattle.job.specs.Jobs.{Job, Answer, accepted, refused, readJob}
 use Rattle.filling.specs.declared.State.{State}
 use Rattle.filling.specs.declared.Refusal.{Refusal}
@@ -16,35 +19,42 @@ use Rattle.filling.specs.declared.Refusal.the-variants as Why
 use Rattle.filling.specs.declared.Verdict.{Verdict}
 use Rattle.filling.specs.declared.Verdict.the-variants.{Accepted, Refused}
 use Rattle.filling.specs.Refusals.{refuseIf}
-use Rattle.filling.specs.Shapes.{Planner, plannerOf, Shape}
+use Rattle.filling.specs.Shapes.{Planner, plannerOf, Shape, Standing}
 use Rattle.filling.specs.Search.{Found, Track, searchAll}
 use Rattle.filling.specs.Choice.{Choice, choices}
 use Rattle.filling.specs.Rooms.{Rooms, Lent, intervalCapacity, zeros}
 use Rattle.filling.specs.State.{plannerAt, orderOf, tracksOf}
 use Rattle.filling.specs.Consistent.{placedStrips, consistent}
 use Rattle.filling.specs.Start.{prepareVerdict, startVerdict, firstState, firstRooms, noStart, goodStart, startJob, startGiven, startOf}
-use Rattle.filling.specs.NextCopy.{intervalCounts, anyAbove, storeVerdict, winnerVerdict, copyVerdict, Step, noStep}
+use Rattle.filling.specs.NextCopy.{intervalCounts, anyAbove, newStrips, storeVerdict, winnerVerdict, copyVerdict, Step, noStep}
 use Rattle.filling.specs.NextCopy.{placeCopy, placeNext, coreStep, stepJob, stepGiven, nextCopyOf}
+use Rattle.filling.specs.Withdraw.{Reply, noWithdrawal, standingHere, withdrawn, withdrawJob, withdrawGiven, withdrawOf}
 use Rattle.filling.specs.Fill.{Filling, filled, stopped, fillFrom, fillOrder, notPlanned, plannedWith, plannedBy, fillJob, fillGiven, fillOf}
 use Rattle.filling.specs.RefusalLines.{Line, firstMet, givenLines, positionLine, prepareLines, startLines}
-use Rattle.filling.specs.RefusalLines.{copyLines, nextLines, stepLines, copiesLines, orderLines, fillLines}
+use Rattle.filling.specs.RefusalLines.{copyLines, nextLines, stepLines, noneStands, withdrawLines, copiesLines, orderLines, fillLines}
 use Rattle.filling.proofs.Runs.{step-consistent, step-inconsistent, fill-stopped, fill-runs}
-use Rattle.filling.proofs.Steps.{refused≢accepted, place-refused, place-taken}
+use Rattle.filling.proofs.Reading.{capacity-append}
+use Rattle.filling.proofs.Steps.{refused≢accepted, place-refused, place-taken, new-sixfold}
+use Rattle.filling.proofs.Withdrawn.{withdraw-consistent, withdraw-inconsistent}
+use Rattle.filling.proofs.FirstsKept.{placed-sixfold, placed-are}
 use Rattle.filling.proofs.Begin.{start-refused, start-good}
 
 -- ---- a single step
 
 module _ (p : Planner) (w : Rooms) (iv : List Float) (k : ℕ) (st : List Float) (ss : List Shape) (ts : List Track) (fs : List Found) where
-  copy-met : (cs : List Choice) → refuseIf (anyAbove (intervalCapacity iv) (intervalCounts p st ss ts fs)) Why.IntervalRoom (winnerVerdict p w k st cs) ≡ firstMet (copyLines p w iv k st ss ts fs cs)
+  copy-met : (cs : List Choice) → refuseIf (anyAbove (intervalCapacity iv) (intervalCounts p st ss ts fs)) Why.IntervalRoom (winnerVerdict p w k st cs) ≡
+      firstMet (copyLines p w iv k st ss ts fs cs)
   unfolding winnerVerdict storeVerdict firstMet copyLines
   copy-met [] = refl
   copy-met (a ∷ as′) = refl
 
-place-verdict : (p : Planner) (st : List Float) (ts : List Track) (k : ℕ) (s : State) (w : Rooms) (iv : List Float) → placeCopy p st ts k s w iv .verdict ≡ copyVerdict p w iv k st (getD (p .shapes) k []) ts (searchAll p st (getD (p .shapes) k []) ts)
+place-verdict : (p : Planner) (st : List Float) (ts : List Track) (k : ℕ) (s : State) (w : Rooms) (iv : List Float) → placeCopy p st ts k s w iv .verdict ≡
+    copyVerdict p w iv k st (getD (p .shapes) k []) ts (searchAll p st (getD (p .shapes) k []) ts)
 unfolding noStep
 place-verdict p st ts k s w iv = go (copyVerdict p w iv k st (getD (p .shapes) k []) ts (searchAll p st (getD (p .shapes) k []) ts)) refl
   where
-    go : (v : Verdict) → copyVerdict p w iv k st (getD (p .shapes) k []) ts (searchAll p st (getD (p .shapes) k []) ts) ≡ v → placeCopy p st ts k s w iv .verdict ≡ copyVerdict p w iv k st (getD (p .shapes) k []) ts (searchAll p st (getD (p .shapes) k []) ts)
+    go : (v : Verdict) → copyVerdict p w iv k st (getD (p .shapes) k []) ts (searchAll p st (getD (p .shapes) k []) ts) ≡ v → placeCopy p st ts k s w
+        iv .verdict ≡ copyVerdict p w iv k st (getD (p .shapes) k []) ts (searchAll p st (getD (p .shapes) k []) ts)
     go Accepted d = ap (λ r. r .verdict) (place-taken p st ts k s w iv d) ∙ sym d
     go (Refused r) d = ap (λ r. r .verdict) (place-refused p st ts k s w iv r d) ∙ sym d
 
@@ -55,7 +65,8 @@ next-met j s w iv (k ∷ ks) =
     let p = plannerAt j (s .tables) w in
     let st = placedStrips s w in
     let ts = getD (tracksOf j s) k [] in
-    place-verdict p st ts k s w iv ∙ copy-met p w iv k st (getD (p .shapes) k []) ts (searchAll p st (getD (p .shapes) k []) ts) (choices p 0 (getD (p .shapes) k []) (searchAll p st (getD (p .shapes) k []) ts))
+    place-verdict p st ts k s w iv ∙ copy-met p w iv k st (getD (p .shapes) k []) ts (searchAll p st (getD (p .shapes) k []) ts)
+    (choices p 0 (getD (p .shapes) k []) (searchAll p st (getD (p .shapes) k []) ts))
 
 step-met : (j : Job) (s : State) (w : Rooms) (iv : List Float) → stepJob j s w iv .verdict ≡ firstMet (stepLines j s w iv)
 unfolding stepLines firstMet refuseIf noStep coreStep
@@ -74,6 +85,41 @@ next-copy-refused bytes s w iv = go (readJob bytes)
     go : (a : Answer) → stepGiven a s w iv .verdict ≡ firstMet (givenLines a (λ j. stepLines j s w iv))
     go (refused k) = unfold stepGiven in (unfold noStep in (unfold givenLines in (unfold firstMet in (unfold refuseIf in refl))))
     go (accepted j) = unfold stepGiven in (unfold givenLines in step-met j s w iv)
+
+-- document 02, W4, "Strip room is short exactly when standing plus new strips exceed it": the test of the next copy's 20
+pub strips-together : (j : Job) (s : State) (w : Rooms) → consistent j s w ≡ true → (p : Planner) (k : ℕ) (c : Choice)
+    → let room = standingCapacity (w .placed) (w .placed-firsts) in
+    ltb room (capacity (placedStrips s w ++ newStrips p k c)) ≡ ltb room (s .«placed_strips» + capacity (newStrips p k c))
+strips-together j s w h p k c =
+    ap (ltb (standingCapacity (w .placed) (w .placed-firsts)))
+    (capacity-append (placedStrips s w) (newStrips p k c) (placed-sixfold j s w h) (new-sixfold p k c)
+    ∙ ap (λ (n : ℕ). n + capacity (newStrips p k c)) (placed-are j s w h))
+
+-- ---- a withdrawal
+
+withdrawn-met : (j : Job) (p : Planner) (s : State) (w : Rooms) (n : ℕ) (cs : List Standing)
+    → withdrawn j p s w n cs .verdict ≡ refuseIf (noneStands cs) Why.NotStanding Accepted
+unfolding withdrawn noWithdrawal refuseIf noneStands
+withdrawn-met j p s w n [] = refl
+withdrawn-met j p s w n (c ∷ cs) = refl
+
+withdraw-met : (j : Job) (s : State) (w : Rooms) (n : ℕ) → withdrawJob j s w n .verdict ≡ firstMet (withdrawLines j s w n)
+unfolding withdrawLines firstMet refuseIf noWithdrawal
+withdraw-met j s w n = go (either (consistent j s w))
+  where
+    go : (consistent j s w ≡ true) ⊎ (consistent j s w ≡ false) → withdrawJob j s w n .verdict ≡ firstMet (withdrawLines j s w n)
+    go (inl e) = rw (withdraw-consistent j s w n e, e) (withdrawn-met j (plannerAt j (s .tables) w) s w n (standingHere s n))
+    go (inr e) = rw (withdraw-inconsistent j s w n e, e)
+
+-- the same of a withdrawal
+pub withdraw-refused : (bytes : List ℕ) (s : State) (w : Rooms) (n : ℕ)
+    → withdrawOf bytes s w n .verdict ≡ firstMet (givenLines (readJob bytes) (λ j. withdrawLines j s w n))
+unfolding withdrawOf
+withdraw-refused bytes s w n = go (readJob bytes)
+  where
+    go : (a : Answer) → withdrawGiven a s w n .verdict ≡ firstMet (givenLines a (λ j. withdrawLines j s w n))
+    go (refused k) = unfold withdrawGiven in (unfold noWithdrawal in (unfold givenLines in (unfold firstMet in (unfold refuseIf in refl))))
+    go (accepted j) = unfold withdrawGiven in (unfold givenLines in withdraw-met j s w n)
 
 -- ---- lines after lines
 
@@ -190,7 +236,8 @@ no-step k s w iv = unchanged refl refl refl
 place-leaves : (p : Planner) (st : List Float) (ts : List Track) (k : ℕ) (s : State) (w : Rooms) (iv : List Float) → Leaves s w iv (placeCopy p st ts k s w iv)
 place-leaves p st ts k s w iv = go (copyVerdict p w iv k st (getD (p .shapes) k []) ts (searchAll p st (getD (p .shapes) k []) ts)) refl
   where
-    go : (v : Verdict) → copyVerdict p w iv k st (getD (p .shapes) k []) ts (searchAll p st (getD (p .shapes) k []) ts) ≡ v → Leaves s w iv (placeCopy p st ts k s w iv)
+    go : (v : Verdict) → copyVerdict p w iv k st (getD (p .shapes) k []) ts (searchAll p st (getD (p .shapes) k []) ts) ≡ v → Leaves s w iv
+        (placeCopy p st ts k s w iv)
     go Accepted d = rw (place-taken p st ts k s w iv d) (taken refl refl)
     go (Refused r) d = rw (place-refused p st ts k s w iv r d) (no-step r s w iv)
 
@@ -229,3 +276,41 @@ next-copy-leaves bytes s w iv = go (leaves bytes s w iv)
         × ((k : Refusal) → nextCopyOf bytes s w iv .verdict ≡ Refused k → (nextCopyOf bytes s w iv .state ≡ s) × (nextCopyOf bytes s w iv .rooms ≡ w))
     go (unchanged a b c) = (c, λ k f. (a, b))
     go (taken a c) = (c, λ k f. absurd (refused≢accepted (sym f ∙ a)))
+
+-- ---- what a withdrawal leaves
+
+data Rests (s : State) (w : Rooms) (r : Reply) : Type 0 where
+  rests : r .state ≡ s → r .rooms ≡ w → Rests s w r
+  gone : r .verdict ≡ Accepted → Rests s w r
+
+module _ (s : State) (w : Rooms) (n : ℕ) where
+  no-withdrawal : (k : Refusal) → Rests s w (noWithdrawal k s w)
+  unfolding noWithdrawal
+  no-withdrawal k = rests refl refl
+
+  withdrawn-rests : (j : Job) (p : Planner) (cs : List Standing) → Rests s w (withdrawn j p s w n cs)
+  unfolding withdrawn
+  withdrawn-rests j p [] = no-withdrawal Why.NotStanding
+  withdrawn-rests j p (c ∷ cs) = gone refl
+
+  job-rests : (j : Job) → Rests s w (withdrawJob j s w n)
+  job-rests j = go (either (consistent j s w))
+    where
+      go : (consistent j s w ≡ true) ⊎ (consistent j s w ≡ false) → Rests s w (withdrawJob j s w n)
+      go (inl e) = rw (withdraw-consistent j s w n e) (withdrawn-rests j (plannerAt j (s .tables) w) (standingHere s n))
+      go (inr e) = rw (withdraw-inconsistent j s w n e) (no-withdrawal Why.Inconsistent)
+
+  given-rests : (a : Answer) → Rests s w (withdrawGiven a s w n)
+  unfolding withdrawGiven
+  given-rests (refused k) = no-withdrawal (Why.Job k)
+  given-rests (accepted j) = job-rests j
+
+-- document 02, W4: "state and rooms unchanged"
+pub withdraw-rests : (bytes : List ℕ) (s : State) (w : Rooms) (n : ℕ) (k : Refusal) → withdrawOf bytes s w n .verdict ≡ Refused k
+    → (withdrawOf bytes s w n .state ≡ s) × (withdrawOf bytes s w n .rooms ≡ w)
+unfolding withdrawOf
+withdraw-rests bytes s w n k f = go (given-rests s w n (readJob bytes))
+  where
+    go : Rests s w (withdrawOf bytes s w n) → (withdrawOf bytes s w n .state ≡ s) × (withdrawOf bytes s w n .rooms ≡ w)
+    go (rests a b) = (a, b)
+    go (gone a) = absurd (refused≢accepted (sym f ∙ a))

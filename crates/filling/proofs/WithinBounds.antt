@@ -154,6 +154,7 @@ module _ (j : Job) (g : GoodJob j) where
         strips = λ i o x y g Y. shape i o .moved x y (place i o x y g Y .0) (place i o x y g Y .1);
         right = right-bounded;
         gaps = gap-fits;
+        position = λ i o x y g Y. (small-bounded (place i o x y g Y .0) (lit≤ tt), small-bounded (place i o x y g Y .1) (lit≤ tt));
         sums-low = λ cs l. (let s = sums P area cs l in area-low (s .fine) (s .low));
         sums-high = λ cs l. (let s = sums P area cs l in area-high (s .fine) (s .high));
       }

@@ -48,7 +48,7 @@ all-map : {A B : Type 0} (P : B → Type 0) (f : A → B) (l : List A) → All (
 all-map P f [] h = tt
 all-map P f (a ∷ l) h = (h .0, all-map P f l (h .1))
 
-all-kept : {A : Type 0} (P Q : A → Type 0) (test : A → Bool) (l : List A) → All P l → ((a : A) → P a → test a ≡ true → Q a) → All Q (keep test l)
+pub all-kept : {A : Type 0} (P Q : A → Type 0) (test : A → Bool) (l : List A) → All P l → ((a : A) → P a → test a ≡ true → Q a) → All Q (keep test l)
 unfolding keep
 all-kept P Q test [] h f = tt
 all-kept P Q test (a ∷ l) h f = go (test a) refl (all-kept P Q test l (h .1) f)

@@ -3,9 +3,9 @@
 use Prim.Native.Nat.{ℕ, zero, suc, _+_, _*_}
 use mathlib.Core.Bool.{Bool, true, false, not, _&&_}
 use mathlib.Core.List.{List, [], _∷_}
-use lib.ListN.{length, take}
-use lib.Dec.{leb, eqb}
-use lib.Ieee.{Float, le, lt, neg}
+use lib.ListN.{length, getD, take}
+use lib.Dec.{leb, ltb, eqb}
+use lib.Ieee.{Float, le, lt, eq, neg}
 use lib.Ieee.Scale.{finite}
 use Rattle.numbers.specs.Numbers.{posZero, fromInt}
 use Rattle.trapezoid.specs.declared.Trapezoid.{Trapezoid}
@@ -17,7 +17,7 @@ use Rattle.bits.specs.Fields.{Range, resolutionRange}
 use Rattle.job.specs.Jobs.{Job}
 use Rattle.filling.specs.declared.Tables.{Tables}
 use Rattle.filling.specs.declared.State.{State}
-use Rattle.filling.specs.Shapes.{Shape, Planner, Standing}
+use Rattle.filling.specs.Shapes.{Shape, Planner, Standing, standingStrips}
 use Rattle.filling.specs.Search.{Remembered, column, none, Track, lastOf}
 use Rattle.filling.specs.Rooms.{Rooms}
 use Rattle.filling.specs.Order.{rearranged}
@@ -145,6 +145,27 @@ unfoldable pub entriesFit : Planner → Rooms → List Float → Bool
 entriesFit p w standing =
     numbersLie (entriesFor (p .bounds) (p .sheet)) (w .sheet-entries) && numbersLie (entriesFor (p .bounds) standing) (w .placed-entries)
 
+-- ---- document 02, W4: the standing copies
+
+-- "a standing copy with an orientation its kind lacks"; ns: how many orientations each kind has
+unfoldable pub orientationFits : List ℕ → Standing → Bool
+orientationFits ns c = ltb (c .orientation) (getD ns (c .copy .kind) 0)
+
+-- "a position not finite or beyond ±1,000,000"
+unfoldable pub positionFits : Standing → Bool
+positionFits c = bounded (c .x) && bounded (c .y)
+
+-- equal numbers; minus zero is zero
+unfoldable pub sameDoubles : List Float → List Float → Bool
+sameDoubles [] [] = true
+sameDoubles [] (b ∷ bs) = false
+sameDoubles (a ∷ as′) [] = false
+sameDoubles (a ∷ as′) (b ∷ bs) = eq a b && sameDoubles as′ bs
+
+-- ", or strips that are not its orientation's moved to its position": the placed strips are those of the standing copies, in order, and no others
+unfoldable pub copiesFit : Job → Planner → List Standing → List Float → Bool
+copiesFit j p cs standing = every (λ c. orientationFits (orientationCounts j) c && positionFits c) cs && sameDoubles standing (standingStrips p cs)
+
 -- ---- document 02, W3: "a false bucket number is 31"
 
 -- the sheet's strips in the room
@@ -181,5 +202,6 @@ consistent j s w =
     && (layoutFits (s .layout .right) (s .layout .«unplaced_area»)
     && (gapsFit s
     && (trackTableFits p (s .taken) (p .shapes) (tracksOf j s)
+    && (copiesFit j p (standingOf s) standing
     && (entriesFit p w standing
-    && firstsFit s w)))))))))
+    && firstsFit s w))))))))))

@@ -11,6 +11,7 @@ pub mod Order
 pub mod Consistent
 pub mod Start
 pub mod NextCopy
+pub mod Withdraw
 pub mod Accounts
 pub mod Fill
 pub mod Leaf

@@ -1,10 +1,11 @@
--- Document 01, "The plain planner", and demand 3's look equation. Definitions only. Assumes nothing.
-use Prim.Native.Nat.{ℕ, zero, suc, _+_}
+-- Document 01, "The plain planner", and demand 3's look equation; document 02, W4. Definitions only. Assumes nothing.
+use Prim.Native.Nat.{ℕ, zero, suc, _+_, _-_}
 use mathlib.Core.Bool.{Bool, true, false}
 use mathlib.Core.List.{List, [], _∷_, _++_, map}
 use lib.ListN.{length, getD, set}
+use lib.Dec.{ltb}
 use lib.Ieee.{Float}
-use Rattle.filling.specs.Shapes.{Planner, Shape, Copy, Standing, copiesFrom, standingStrips}
+use Rattle.filling.specs.Shapes.{Planner, Shape, Copy, Standing, copiesFrom, named, others, standingStrips}
 use Rattle.filling.specs.Search.{Found, at, nowhere, firstFree, lookAt, lastOf, reversedFor}
 use Rattle.filling.specs.Choice.{Choice, choices, best, standingAt}
 
@@ -16,9 +17,13 @@ pub record Plain : Type 0 where
   pub without : List Copy
   pub searches : List (List (List Found))
 
+-- no search yet
+unfoldable pub noSearches : Planner → List (List (List Found))
+noSearches p = map (map (λ s. [])) (p .shapes)
+
 -- "copies to come, at first all"
 unfoldable pub plainStart : Planner → List ℕ → Plain
-plainStart p order = record { to-come = copiesFrom 0 order; standing = []; without = []; searches = map (map (λ s. [])) (p .shapes) }
+plainStart p order = record { to-come = copiesFrom 0 order; standing = []; without = []; searches = noSearches p }
 
 -- "seeks, in each orientation of its kind with neither range reversed, the first column from 0 on with a free height, inset strips against
 -- every sheet strip, apart strips against every standing copy's"
@@ -54,15 +59,56 @@ unfoldable pub plainTake : Planner → Plain → List Copy → Plain
 plainTake p q [] = q
 plainTake p q (k ∷ ks) = plainPlace p k ks q
 
+-- ---- document 02, W4: a copy is taken back
+
+-- the place of a copy once that at place n has joined the end of the order: those behind it have moved up
+unfoldable pub placeAfter : ℕ → ℕ → ℕ
+placeAfter n m = elim (ltb n m) [ true ↦ m - 1 | false ↦ m ]
+
+-- a copy at its place then
+unfoldable pub copyAfter : ℕ → Copy → Copy
+copyAfter n k = record { place = placeAfter n (k .place); kind = k .kind }
+
+-- a standing copy at its place then
+unfoldable pub standingAfter : ℕ → Standing → Standing
+standingAfter n c = record { copy = copyAfter n (c .copy); orientation = c .orientation; x = c .x; y = c .y; gap = c .gap }
+
+-- "to the end of those to come": the last place of the order
+unfoldable pub lastPlace : Plain → ℕ
+lastPlace q = length (q .to-come) + length (q .standing) + length (q .without) - 1
+
+-- "the plain planner moves an accepted withdrawal's copy from those standing to the end of those to come and forgets all searches and finds"
+unfoldable pub plainBack : Planner → ℕ → Plain → Plain
+plainBack p n q =
+    record {
+      to-come = map (copyAfter n) (q .to-come) ++ map (λ c. record { place = lastPlace q; kind = c .copy .kind }) (named n (q .standing));
+      standing = map (standingAfter n) (others n (q .standing));
+      without = map (copyAfter n) (q .without);
+      searches = noSearches p;
+    }
+
+-- ---- lists of calls
+
+-- what a call asks for: the next copy, or the copy at a place of the order back
+pub data Request : Type 0 where
+  takeNext : Request
+  takeBack : ℕ → Request
+
+-- a call that is not refused
+unfoldable pub plainCall : Planner → Request → Plain → Plain
+plainCall p takeNext q = plainTake p q (q .to-come)
+plainCall p (takeBack n) q = plainBack p n q
+
 -- "The plain planner is fed job, order and whether each call was refused."; "a refused call changes nothing"
-unfoldable pub plainCalls : Planner → List Bool → Plain → Plain
-plainCalls p [] q = q
-plainCalls p (true ∷ refused) q = plainCalls p refused q
-plainCalls p (false ∷ refused) q = plainCalls p refused (plainTake p q (q .to-come))
+unfoldable pub plainCalls : Planner → List Request → List Bool → Plain → Plain
+plainCalls p [] bs q = q
+plainCalls p (a ∷ as′) [] q = q
+plainCalls p (a ∷ as′) (true ∷ refused) q = plainCalls p as′ refused q
+plainCalls p (a ∷ as′) (false ∷ refused) q = plainCalls p as′ refused (plainCall p a q)
 
 -- the plain planner (document 01) after some calls
-unfoldable pub plainPlanner : Planner → List ℕ → List Bool → Plain
-plainPlanner p order refused = plainCalls p refused (plainStart p order)
+unfoldable pub plainPlanner : Planner → List ℕ → List Request → List Bool → Plain
+plainPlanner p order asked refused = plainCalls p asked refused (plainStart p order)
 
 -- ---- demand 3's look equation
 

@@ -1,7 +1,7 @@
 -- Document 01, "Refused because of the input" and "Refused because of the state": the lines that a call meets, in their order.
 -- Definitions only. Assumes nothing.
 use Prim.Native.Nat.{ℕ, zero, suc}
-use mathlib.Core.Bool.{Bool, true, not}
+use mathlib.Core.Bool.{Bool, true, false, not}
 use mathlib.Core.List.{List, [], _∷_, _++_}
 use lib.ListN.{length, getD, drop}
 use lib.Dec.{ltb}
@@ -15,7 +15,7 @@ use Rattle.filling.specs.declared.Refusal.the-variants as Why
 use Rattle.filling.specs.declared.Verdict.{Verdict}
 use Rattle.filling.specs.declared.Verdict.the-variants.{Accepted}
 use Rattle.filling.specs.Refusals.{refuseIf}
-use Rattle.filling.specs.Shapes.{Planner, plannerOf, Shape}
+use Rattle.filling.specs.Shapes.{Planner, plannerOf, Shape, Standing}
 use Rattle.filling.specs.Search.{Found, Track, searchAll}
 use Rattle.filling.specs.Choice.{Choice, choices, best}
 use Rattle.filling.specs.Rooms.{Rooms, Lent, intervalCapacity, positionCapacity}
@@ -24,6 +24,7 @@ use Rattle.filling.specs.State.{plannerAt, orderOf, tracksOf}
 use Rattle.filling.specs.Consistent.{entriesFor, placedStrips, consistent}
 use Rattle.filling.specs.Start.{apartStrips, insetStrips, firstState, firstRooms}
 use Rattle.filling.specs.NextCopy.{intervalCounts, anyAbove, newStrips, coreStep}
+use Rattle.filling.specs.Withdraw.{standingHere}
 
 -- a line of the tables: whether it holds for a call, and its refusal
 pub record Line : Type 0 where
@@ -84,6 +85,18 @@ nextLines j s w iv (k ∷ ks) =
 -- "31 before all else in a step"
 unfoldable pub stepLines : Job → State → Rooms → List Float → List Line
 stepLines j s w iv = record { holds = not (consistent j s w); refusal = Why.Inconsistent } ∷ nextLines j s w iv (drop (s .taken) (orderOf j s))
+
+-- ---- a withdrawal
+
+-- 24: "a copy that is not standing"
+unfoldable pub noneStands : List Standing → Bool
+noneStands [] = true
+noneStands (c ∷ cs) = false
+
+-- document 02, W4: "It refuses with 31 .., then a copy that is not standing with 24"
+unfoldable pub withdrawLines : Job → State → Rooms → ℕ → List Line
+withdrawLines j s w n =
+    record { holds = not (consistent j s w); refusal = Why.Inconsistent } ∷ record { holds = noneStands (standingHere s n); refusal = Why.NotStanding } ∷ []
 
 -- ---- a filling
 

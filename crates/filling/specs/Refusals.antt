@@ -3,8 +3,8 @@ use Prim.Native.Nat.{ℕ}
 use mathlib.Core.Bool.{Bool, true, false}
 use Rattle.bits.specs.Reading as Reading
 use Rattle.filling.specs.declared.Refusal.{Refusal}
-use Rattle.filling.specs.declared.Refusal.the-variants.{Job, MissingShape, WrongOrder, StripRoom, EntryRoom, IntervalRoom, OrderUsedUp, PositionRoom}
-use Rattle.filling.specs.declared.Refusal.the-variants.{Inconsistent}
+use Rattle.filling.specs.declared.Refusal.the-variants.{Job, MissingShape, WrongOrder, StripRoom, EntryRoom, IntervalRoom, OrderUsedUp, NotStanding}
+use Rattle.filling.specs.declared.Refusal.the-variants.{PositionRoom, Inconsistent}
 use Rattle.filling.specs.declared.Verdict.{Verdict}
 use Rattle.filling.specs.declared.Verdict.the-variants.{Accepted, Refused}
 
@@ -24,6 +24,8 @@ numberOf EntryRoom = 21
 numberOf IntervalRoom = 22
 -- "next copy asked for, order used up"
 numberOf OrderUsedUp = 23
+-- document 02, W4: "a copy that is not standing"
+numberOf NotStanding = 24
 -- "the position room holds fewer copies than the job has"
 numberOf PositionRoom = 30
 -- "a single step's state and rooms disagree"

@@ -1,13 +1,14 @@
 -- Document 01, "Filling", and document 02, W1: what is worked out of a job once, strips and bounds in its frame, and the strips of the standing copies.
 -- Strips lie as in a room, six numbers each. Definitions only. Assumes nothing.
 use Prim.Native.Nat.{ℕ, suc, _/_}
-use mathlib.Core.Bool.{Bool, true, false}
+use mathlib.Core.Bool.{Bool, true, false, not}
 use mathlib.Core.List.{List, [], _∷_, map, flatMap}
 use lib.ListN.{length, getD}
+use lib.Dec.{eqb}
 use lib.Ieee.{Float}
 use Rattle.numbers.specs.Numbers.{posZero}
 use Rattle.trapezoid.specs.Strip.{stripAt, flat, capacity, movedBy}
-use Rattle.index.specs.Buckets.{upFrom}
+use Rattle.index.specs.Buckets.{upFrom, keep}
 use Rattle.strips.specs.declared.Rect.{Rect}
 use Rattle.strips.specs.Strips as Strips
 use Rattle.kinds.specs.sets.Sets.{Set}
@@ -89,6 +90,14 @@ pub record Standing : Type 0 where
 unfoldable pub copiesFrom : ℕ → List ℕ → List Copy
 copiesFrom n [] = []
 copiesFrom n (k ∷ ks) = record { place = n; kind = k } ∷ copiesFrom (suc n) ks
+
+-- the standing copy at place n
+unfoldable pub named : ℕ → List Standing → List Standing
+named n cs = keep (λ c. eqb (c .copy .place) n) cs
+
+-- the other standing copies
+unfoldable pub others : ℕ → List Standing → List Standing
+others n cs = keep (λ c. not (eqb (c .copy .place) n)) cs
 
 -- "apart strips are moved (each number plus x or y)"
 unfoldable pub movedStrips : List Float → Float → Float → List Float

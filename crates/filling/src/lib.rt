@@ -11,6 +11,7 @@ pub enum Refusal {
     EntryRoom,
     IntervalRoom,
     OrderUsedUp,
+    NotStanding,
     PositionRoom,
     Inconsistent,
 }

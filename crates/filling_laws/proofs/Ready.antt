@@ -33,8 +33,8 @@ use Rattle.filling.specs.Columns.{ranges, lastColumn}
 use Rattle.filling.specs.Rooms.{Rooms}
 use Rattle.filling.specs.Order.{rearranged}
 use Rattle.filling.specs.State as States
-use Rattle.filling.specs.State.{orientationCounts, apartRoom, insetRoom, shapeAt, plannerAt, orderOf, trackAt, tracksOf}
-use Rattle.filling.specs.Consistent.{every, stripsFit, boundsFit, takenFits, stripCountsFit, partsFit, columnFits, trackFits, trackTableFits, resolutionFits, shapeFits, plannerFits, layoutFits, gapsFit, entriesFit, firstsFit, sheetIndex, placedStrips, consistent}
+use Rattle.filling.specs.State.{orientationCounts, apartRoom, insetRoom, shapeAt, plannerAt, orderOf, trackAt, tracksOf, standingOf}
+use Rattle.filling.specs.Consistent.{every, stripsFit, boundsFit, takenFits, stripCountsFit, partsFit, columnFits, trackFits, trackTableFits, resolutionFits, shapeFits, plannerFits, layoutFits, gapsFit, copiesFit, entriesFit, firstsFit, sheetIndex, placedStrips, consistent}
 use Rattle.search.specs.columns.inner.Stands.{columnsOf, columnX, lastOf}
 use Rattle.search.proofs.columns.Same as Same
 use Rattle.search.proofs.columns.Steps.{last-bound}
@@ -83,6 +83,7 @@ pub record Tests (j : Job) (s : State) (w : Rooms) : Type 0 where
   pub strips : stripsFit (placedStrips s w) ≡ true
   pub layout : layoutFits (s .layout .right) (s .layout .«unplaced_area») ≡ true
   pub tracks : trackTableFits (plannerAt j (s .tables) w) (s .taken) (plannerAt j (s .tables) w .shapes) (tracksOf j s) ≡ true
+  pub copies : copiesFit j (plannerAt j (s .tables) w) (standingOf s) (placedStrips s w) ≡ true
   pub entries : entriesFit (plannerAt j (s .tables) w) w (placedStrips s w) ≡ true
   pub firsts : firstsFit s w ≡ true
 
@@ -99,6 +100,7 @@ tests-of j s w e =
     let e7 = both-second (layoutFits (s .layout .right) (s .layout .«unplaced_area»)) _ e6 in
     let e8 = both-second (gapsFit s) _ e7 in
     let e9 = both-second (trackTableFits p (s .taken) (p .shapes) (tracksOf j s)) _ e8 in
+    let e10 = both-second (copiesFit j p (standingOf s) (placedStrips s w)) _ e9 in
     record {
       taken = both-first (takenFits j s) _ e;
       counts = both-first (stripCountsFit (s .tables) (s .«placed_strips») w) _ e1;
@@ -108,8 +110,9 @@ tests-of j s w e =
       strips = both-first (stripsFit (placedStrips s w)) _ e5;
       layout = both-first (layoutFits (s .layout .right) (s .layout .«unplaced_area»)) _ e6;
       tracks = both-first (trackTableFits p (s .taken) (p .shapes) (tracksOf j s)) _ e8;
-      entries = both-first (entriesFit p w (placedStrips s w)) _ e9;
-      firsts = both-second (entriesFit p w (placedStrips s w)) _ e9;
+      copies = both-first (copiesFit j p (standingOf s) (placedStrips s w)) _ e9;
+      entries = both-first (entriesFit p w (placedStrips s w)) _ e10;
+      firsts = both-second (entriesFit p w (placedStrips s w)) _ e10;
     }
 
 -- what the planner's test says

@@ -26,7 +26,7 @@ use Rattle.filling.specs.Search as Filling
 use Rattle.filling.specs.Search.{rangesOf, reversedFor, intervalsAt, lookAt, firstFree, Remembered, column, none, remembered, columnsFrom}
 use Rattle.filling.specs.State.{rememberedOf, rememberedNumber}
 use Rattle.filling.specs.NextCopy.{anyAbove}
-use Rattle.filling.proofs.Demand3.{looks-open}
+use Rattle.filling.proofs.Searches.{looks-open}
 use Rattle.filling.proofs.FirstFree.{first-free, first-full}
 use Rattle.search.specs.declared.columns.Columns.{Columns}
 use Rattle.search.specs.columns.inner.Stands.{columnsOf, reversedOf, regularOf, columnX, lastOf, startFrom, startOf}

@@ -1,4 +1,4 @@
-// The three calls, in the slots that are lent, with their printed lines.
+// The calls, in the slots that are lent, with their printed lines.
 use filling::State;
 use index::Bucket;
 use index::Entry;
@@ -118,6 +118,88 @@ fn next_copy(
     show_step(r)
 }
 
+// The copy at a place taken back, in the slots that are lent.
+fn withdraw(
+    place: usize,
+    state: State,
+    lengths: &[usize],
+    bytes: &[u8],
+    shapes: &[f64],
+    sheet: &[f64],
+    placed: &mut [f64],
+    sheet_entries: &[Entry],
+    placed_entries: &mut [Entry],
+    sheet_firsts: &[Bucket],
+    placed_firsts: &mut [Bucket],
+) -> State {
+    let j = lend::lent(lengths, 9, bytes.len());
+    let s0 = lend::lent(lengths, 0, shapes.len());
+    let s1 = lend::lent(lengths, 1, sheet.len());
+    let s2 = lend::lent(lengths, 2, placed.len());
+    let e1 = lend::lent(lengths, 3, sheet_entries.len());
+    let e2 = lend::lent(lengths, 4, placed_entries.len());
+    let f1 = lend::lent(lengths, 5, sheet_firsts.len());
+    let f2 = lend::lent(lengths, 6, placed_firsts.len());
+    let r = withdraw::withdraw(
+        &bytes[..j],
+        place,
+        state,
+        &shapes[..s0],
+        &sheet[..s1],
+        &mut placed[..s2],
+        &sheet_entries[..e1],
+        &mut placed_entries[..e2],
+        &sheet_firsts[..f1],
+        &mut placed_firsts[..f2],
+    );
+    show_step(r)
+}
+
+// The next copy (N), or the copy at place n taken back (W).
+fn step(
+    c: Command,
+    state: State,
+    lengths: &[usize],
+    bytes: &[u8],
+    shapes: &[f64],
+    sheet: &[f64],
+    placed: &mut [f64],
+    sheet_entries: &[Entry],
+    placed_entries: &mut [Entry],
+    sheet_firsts: &[Bucket],
+    placed_firsts: &mut [Bucket],
+    intervals: &mut [f64],
+) -> State {
+    if c.letter == 78 {
+        return next_copy(
+            state,
+            lengths,
+            bytes,
+            shapes,
+            sheet,
+            placed,
+            sheet_entries,
+            placed_entries,
+            sheet_firsts,
+            placed_firsts,
+            intervals,
+        );
+    }
+    withdraw(
+        c.n,
+        state,
+        lengths,
+        bytes,
+        shapes,
+        sheet,
+        placed,
+        sheet_entries,
+        placed_entries,
+        sheet_firsts,
+        placed_firsts,
+    )
+}
+
 // A filling, in the slots that are lent.
 fn fill(
     lengths: &[usize],
@@ -210,7 +292,16 @@ fn start_or_fill(
     state
 }
 
-// The three calls: the next copy (N), a start or a filling.
+// Whether a call takes a single copy, or takes one back.
+fn is_step(letter: u8) -> bool {
+    match letter {
+        78 => true,
+        87 => true,
+        _ => false,
+    }
+}
+
+// The calls: a single step, a start or a filling.
 pub fn call(
     c: Command,
     state: State,
@@ -227,8 +318,9 @@ pub fn call(
     intervals: &mut [f64],
     positions: &mut [f64],
 ) -> State {
-    if c.letter == 78 {
-        return next_copy(
+    if is_step(c.letter) {
+        return step(
+            c,
             state,
             lengths,
             bytes,

@@ -1,4 +1,4 @@
-// Replays scripts of calls: start, next copy, a filling in a given order, and the leaf, in rooms that
+// Replays scripts of calls: start, next copy, withdrawal, a filling in a given order, and the leaf, in rooms that
 // are filled with garbage and in states that are changed by hand. stdin has the commands that
 // oracle/README.md describes; after each call one line has its answer and the state's hash, another
 // every room's. The stored answers are those of the oracle's planner with rooms (oracle/samples/filling.py),
@@ -75,6 +75,7 @@ fn is_call(letter: u8) -> bool {
         70 => true,
         78 => true,
         83 => true,
+        87 => true,
         _ => false,
     }
 }

@@ -1,8 +1,10 @@
--- The starred cases of document 01, 31 by a gap and case 4 on the second table, of the definitions: one list, one claim, computed. Assumes nothing.
+-- The starred cases of document 01, 31 by a gap, case 4 on the second table and with a copy taken back, of the definitions: one list, one claim, computed.
+-- Assumes nothing.
 use mathlib.Core.Path.{_≡_, refl, ap₂}
 use mathlib.Core.List.{List, [], _∷_, map}
 use Rattle.nesting.specs.Cases.{Case, starred, starred1, starred2, starred3, starred4, starred4-fill, starred4-plan, starred4-text, starred5}
 use Rattle.nesting.specs.Cases.{starred5-calls, starred6, starred7, starred8, starred9, starred10, starred11, starred-gap, starred-frame}
+use Rattle.nesting.specs.Cases.{starred-back, starred-freed}
 
 abbrev Holds : Case → Type 0
 Holds c = c .got ≡ c .want
@@ -76,6 +78,14 @@ case-frame : Holds starred-frame
 unfolding Rattle.nesting.proofs.Computing.cases-compute
 case-frame = refl
 
+case-back : Holds starred-back
+unfolding Rattle.nesting.proofs.Computing.cases-compute
+case-back = refl
+
+case-freed : Holds starred-freed
+unfolding Rattle.nesting.proofs.Computing.cases-compute
+case-freed = refl
+
 data Each : List Case → Type 0 where
   done : Each []
   also : {c : Case} {cs : List Case} → Holds c → Each cs → Each (c ∷ cs)
@@ -90,4 +100,4 @@ starred-hold =
     all-hold
     (also case-1 (also case-2 (also case-3 (also case-4-calls (also case-4-fill (also case-4-plan (also case-4-text
     (also case-5 (also case-5-calls (also case-6 (also case-7 (also case-8 (also case-9 (also case-10 (also case-11
-    (also case-gap (also case-frame done)))))))))))))))))
+    (also case-gap (also case-frame (also case-back (also case-freed done)))))))))))))))))))

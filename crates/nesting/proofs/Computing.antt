@@ -9,7 +9,9 @@ use Rattle.look.proofs.height.Computing.{height-computes}
 use Rattle.look.proofs.Computing.{looking-computes}
 use Rattle.job.proofs.Computing.{jobs-compute}
 use Rattle.filling.proofs.Computing.{refusals-compute, columns-compute, shapes-compute, search-computes, choice-computes, rooms-compute, state-computes}
-use Rattle.filling.proofs.Computing.{order-computes, consistent-computes, start-computes, next-copy-computes, accounts-compute, fill-computes, calls-compute}
+use Rattle.filling.proofs.Computing.{order-computes, consistent-computes, start-computes, next-copy-computes, accounts-compute, fill-computes}
+use Rattle.filling.proofs.Computing.{withdraw-computes}
+use Rattle.filling.proofs.Computing.{calls-compute}
 use Rattle.random.specs.SplitMix64.{nextState, mixed}
 use Rattle.nesting.specs.CopyOrder.{samePriority, numbered, largerFirst, higherFirst, ahead, copyOrder}
 use Rattle.nesting.specs.Rounds.{betterThan, noKind, swappable, swapped, judged, oneRound, rounds, firstKept, swapSearch}
@@ -23,7 +25,7 @@ use Rattle.nesting.specs.Cases.{jobBits, drawsOf, stateBits, afterBits, 
 use Rattle.nesting.specs.Cases.{plateStrips, fourStrips, fourEntries, fourFirsts, roomsLeft, fourStanding, case4Plan, exact, case4Rooms, starred1}
 use Rattle.nesting.specs.Cases.{starred2, starred3, starred4, starred4-fill, starred4-plan, starred4-text, starred5, starred5-calls, starred6, starred7}
 use Rattle.nesting.specs.Cases.{starred8, starred9, starred10, starred11, gapped, gapNumber, gapNumbers, gapsJudged, starred-gap, starred}
-use Rattle.nesting.specs.Cases.{secondPlates, starred-frame}
+use Rattle.nesting.specs.Cases.{secondPlates, starred-frame, nextCopies, roomsAgain, starred-back, starred-freed}
 
 unfoldable pub copy-order-computes : Unit {0}
 unfolding samePriority numbered largerFirst higherFirst ahead copyOrder
@@ -58,7 +60,8 @@ unfolding refusals-compute columns-compute shapes-compute search-computes choice
 cases-compute-2 = tt
 
 unfoldable pub cases-compute-3 : Unit {0}
-unfolding consistent-computes start-computes next-copy-computes accounts-compute fill-computes calls-compute nextState mixed copy-order-computes
+unfolding consistent-computes start-computes next-copy-computes accounts-compute fill-computes withdraw-computes calls-compute nextState mixed
+    copy-order-computes
 cases-compute-3 = tt
 
 unfoldable pub cases-compute-4 : Unit {0}
@@ -75,7 +78,8 @@ cases-compute-6 = tt
 
 unfoldable pub cases-compute-7 : Unit {0}
 unfolding starred4-plan starred4-text starred5 starred5-calls starred6 starred7 starred8 starred9 starred10 starred11
-    gapped gapNumber gapNumbers gapsJudged starred-gap secondPlates starred-frame starred
+    gapped gapNumber gapNumbers gapsJudged starred-gap secondPlates starred-frame
+    nextCopies roomsAgain starred-back starred-freed starred
 cases-compute-7 = tt
 
 unfoldable pub cases-compute : Unit {0}

@@ -1,5 +1,5 @@
 -- Document 01, "Sheets tried by hand": the starred cases as one list; `got` is what the definitions come to, `want` what the paper says.
--- The last two are 31 by a gap (document 02, W7) and case 4 on the second table (W1).
+-- The last four are 31 by a gap (document 02, W7), case 4 on the second table (W1) and case 4 with a copy taken back (W4), twice.
 -- Definitions only. Assumes nothing.
 use Prim.Native.Nat.{ℕ, zero, suc, _+_, _*_, _%_, _^_}
 use mathlib.Core.Bool.{true, false}
@@ -20,7 +20,7 @@ use Rattle.filling.specs.State.{standingOf, withoutOf}
 use Rattle.filling.specs.Start.{Start, startOf}
 use Rattle.filling.specs.NextCopy.{nextCopyOf}
 use Rattle.filling.specs.Fill.{Planned, fillOf}
-use Rattle.filling.specs.Calls.{nextCopy, After, afterCalls}
+use Rattle.filling.specs.Calls.{Call, nextCopy, withdraw, After, afterCalls}
 use Rattle.nesting.specs.Rounds.{Swaps, kept, ended, swapSearch}
 use Rattle.nesting.specs.Nest.{nestJob, nestOf}
 use Rattle.nesting.specs.Text.{printed}
@@ -78,12 +78,15 @@ columnBits resolution s =
 
 -- ---- calls of case 4
 
--- after a start, n calls with an interval room of four
-unfoldable pub calledBits : ℕ → Start → List (List ℕ)
-calledBits n r =
+-- n next copies with an interval room of four
+unfoldable pub nextCopies : ℕ → List Call
+nextCopies n = replicate n (nextCopy (room 4))
+
+-- some calls after a start
+unfoldable pub calledBits : List Call → Start → List (List ℕ)
+calledBits calls r =
     (verdictNumber (r .verdict) ∷ [])
-    ∷ (afterBits (afterCalls case4 (replicate n (nextCopy (room 4))) (r .state) (r .lent .rooms)) ++ (bits (r .lent .intervals) ∷ bits (r .lent .positions)
-    ∷ []))
+    ∷ (afterBits (afterCalls case4 calls (r .state) (r .lent .rooms)) ++ (bits (r .lent .intervals) ∷ bits (r .lent .positions) ∷ []))
 
 -- "five copies": the one order of case 4
 unfoldable pub fiveCopies : List ℕ
@@ -192,6 +195,20 @@ roomsLeft =
     ∷ nothing 31
     ∷ []
 
+-- the same with the second plate's strip last
+unfoldable pub roomsAgain : List (List ℕ)
+roomsAgain =
+    (plateStrips ++ nothing 7)
+    ∷ nothing 7
+    ∷ ((0 ∷ d4 ∷ 0 ∷ 0 ∷ d3 ∷ d3 ∷ d4 ∷ d8 ∷ 0 ∷ 0 ∷ d3 ∷ d3 ∷ d4 ∷ d8 ∷ d3 ∷ d3 ∷ d6 ∷ d6 ∷ 0 ∷ d4 ∷ d3 ∷ d3 ∷ d6 ∷ d6 ∷ []) ++ nothing 7)
+    ∷ (0 ∷ [])
+    ∷ (flatMap (λ b. 0 ∷ 3 ∷ []) (upFrom 204 0) ++ ((0 ∷ 1 ∷ 2 ∷ 3 ∷ []) ++ (flatMap (λ b. 1 ∷ 2 ∷ []) (upFrom 205 0) ++ (0 ∷ []))))
+    ∷ (0 ∷ [])
+    ∷ (0 ∷ 204 ∷ 204 ∷ 0 ∷ 0 ∷ [])
+    ∷ nothing 5
+    ∷ nothing 31
+    ∷ []
+
 -- the four plates by place and kind, orientation, x, y and gap
 unfoldable pub fourStanding : List ℕ
 fourStanding = 0 ∷ 0 ∷ 0 ∷ 0 ∷ 0 ∷ d3 ∷ 1 ∷ 0 ∷ 0 ∷ 0 ∷ d3 ∷ 0 ∷ 2 ∷ 0 ∷ 0 ∷ d4 ∷ 0 ∷ d3 ∷ 3 ∷ 0 ∷ 0 ∷ d4 ∷ d3 ∷ 0 ∷ []
@@ -229,7 +246,7 @@ starred3 = record { got = bits (setStrips true (rectangle 10 6)) ∷ []; want = 
 unfoldable pub starred4 : Case
 starred4 =
     record {
-      got = calledBits 6 (startOf case4 fiveCopies (lentSized (roomsSized 19 31 823) 5 31));
+      got = calledBits (nextCopies 6) (startOf case4 fiveCopies (lentSized (roomsSized 19 31 823) 5 31));
       want =
           (0 ∷ []) ∷ (0 ∷ 0 ∷ 0 ∷ 0 ∷ 0 ∷ 23 ∷ []) ∷ fourStanding ∷ (4 ∷ 0 ∷ []) ∷ (5 ∷ 4 ∷ d8 ∷ d12 ∷ []) ∷ (0 ∷ 1 ∷ 11 ∷ 0 ∷ []) ∷ roomsLeft;
     }
@@ -258,7 +275,7 @@ starred5 =
 unfoldable pub starred5-calls : Case
 starred5-calls =
     record {
-      got = calledBits 4 (startOf case4 fiveCopies (lentSized (roomsSized 19 31 823) 5 31));
+      got = calledBits (nextCopies 4) (startOf case4 fiveCopies (lentSized (roomsSized 19 31 823) 5 31));
       want = (0 ∷ []) ∷ (0 ∷ 0 ∷ 0 ∷ 0 ∷ []) ∷ fourStanding ∷ [] ∷ (4 ∷ 4 ∷ d8 ∷ 0 ∷ []) ∷ (5 ∷ 1 ∷ 8 ∷ 0 ∷ []) ∷ roomsLeft;
     }
 
@@ -329,8 +346,33 @@ starred-frame =
       want = (0 ∷ 4 ∷ 1 ∷ 0 ∷ []) ∷ (4 ∷ 0 ∷ 1 ∷ 0 ∷ []) ∷ (8 ∷ 0 ∷ []) ∷ (d6 ∷ 0x4028000000000000 ∷ 0 ∷ []) ∷ (secondPlates ++ nothing 1) ∷ [];
     }
 
+-- document 02, W4: case 4, the second copy taken back: later ones close up. The copy at place 3 then has no place: 24. The next copy stands where the second
+-- stood: one look, for every remembered column has returned to 0
+unfoldable pub starred-back : Case
+starred-back =
+    record {
+      got =
+          calledBits (nextCopies 5 ++ (withdraw 1 ∷ withdraw 3 ∷ nextCopies 1)) (startOf case4 fiveCopies (lentSized (roomsSized 19 31 823) 5 31));
+      want =
+          (0 ∷ []) ∷ (0 ∷ 0 ∷ 0 ∷ 0 ∷ 0 ∷ 0 ∷ 24 ∷ 0 ∷ [])
+          ∷ (0 ∷ 0 ∷ 0 ∷ 0 ∷ 0 ∷ d3 ∷ 1 ∷ 0 ∷ 0 ∷ d4 ∷ 0 ∷ d3 ∷ 2 ∷ 0 ∷ 0 ∷ d4 ∷ d3 ∷ 0 ∷ 4 ∷ 0 ∷ 0 ∷ 0 ∷ d3 ∷ 0 ∷ [])
+          ∷ (3 ∷ 0 ∷ []) ∷ (5 ∷ 4 ∷ d8 ∷ d12 ∷ []) ∷ (1 ∷ 1 ∷ 1 ∷ 0 ∷ [])
+          ∷ roomsAgain;
+    }
+
+-- the third copy taken back after three: right is 4 again, zeros where its strip, its entries and its bucket number were
+unfoldable pub starred-freed : Case
+starred-freed =
+    record {
+      got = calledBits (nextCopies 3 ++ (withdraw 2 ∷ [])) (startOf case4 fiveCopies (lentSized (roomsSized 19 31 823) 5 31));
+      want =
+          (0 ∷ []) ∷ nothing 4 ∷ take 12 fourStanding ∷ [] ∷ (2 ∷ 2 ∷ d4 ∷ 0 ∷ []) ∷ (1 ∷ 1 ∷ 0 ∷ 0 ∷ [])
+          ∷ (plateStrips ++ nothing 7) ∷ nothing 7 ∷ (take 12 fourStrips ++ nothing 19)
+          ∷ nothing 1 ∷ (flatMap (λ b. 0 ∷ 1 ∷ []) (upFrom 205 0) ++ nothing 413) ∷ nothing 1 ∷ nothing 5 ∷ nothing 5 ∷ nothing 31 ∷ [];
+    }
+
 -- the starred cases
 unfoldable pub starred : List Case
 starred =
     starred1 ∷ starred2 ∷ starred3 ∷ starred4 ∷ starred4-fill ∷ starred4-plan ∷ starred4-text ∷ starred5 ∷ starred5-calls ∷ starred6 ∷ starred7
-    ∷ starred8 ∷ starred9 ∷ starred10 ∷ starred11 ∷ starred-gap ∷ starred-frame ∷ []
+    ∷ starred8 ∷ starred9 ∷ starred10 ∷ starred11 ∷ starred-gap ∷ starred-frame ∷ starred-back ∷ starred-freed ∷ []

@@ -73,7 +73,7 @@ and-both : (a b c : Bool) → a && (b && c) ≡ (a && b) && c
 and-both true b c = refl
 and-both false b c = refl
 
-every-both : {A : Type 0} (test : A → Bool) (l m : List A) → every test (l ++ m) ≡ every test l && every test m
+pub every-both : {A : Type 0} (test : A → Bool) (l m : List A) → every test (l ++ m) ≡ every test l && every test m
 unfolding every
 every-both test [] m = refl
 every-both test (a ∷ l) m = ap (λ b. test a && b) (every-both test l m) ∙ and-both (test a) (every test l) (every test m)

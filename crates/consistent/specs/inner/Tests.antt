@@ -13,7 +13,6 @@ use Rattle.filling.specs.declared.State.{State}
 use Rattle.filling.specs.Consistent.{stripsFit, boundsFit, resolutionFits, layoutFits, numbersLie, entriesFor, firstsFor}
 use Rattle.consistent.specs.slot_tests.inner.Slots.{Slots, slots, slotsTest}
 
--- x and y of the copies taken are not judged
 abbrev pub stateOf : ℕ → ℕ → Float → Float → Float → Rect → ℕ → ℕ → List Float → List ℕ → List ℕ → List ℕ → List ℕ → List ℕ → List Float → List Float
     → List Float → State
 stateOf taken placed-strips right area resolution bounds sheet-strips apart-strips inset-bounds parts order next looks orientation x y gap =
@@ -39,11 +38,10 @@ abbrev pub slotsOf : Rect → Float → ℕ → List Float → List ℕ → List
 slotsOf bounds resolution taken inset-bounds parts shapes apart-strips next looks =
     slots bounds resolution taken inset-bounds parts (take (6 * apart-strips) shapes) (drop (6 * apart-strips) shapes) next looks
 
--- ---- the tests, in three groups; the gaps are apart
+-- ---- the tests, in three groups; the order, the gaps and the copies are apart
 
-unfoldable pub stateTest : ℕ → ℕ → Float → Rect → Float → Float → Bool → Bool
-stateTest taken copies resolution bounds right area ordered =
-    leb taken copies && (resolutionFits resolution && (boundsFit bounds && (layoutFits right area && ordered)))
+unfoldable pub stateTest : ℕ → ℕ → Float → Rect → Float → Float → Bool
+stateTest taken copies resolution bounds right area = leb taken copies && (resolutionFits resolution && (boundsFit bounds && layoutFits right area))
 
 unfoldable pub countsTest : ℕ → ℕ → ℕ → List Float → List Float → List Float → List ℕ → List ℕ → Bool
 countsTest sheet-strips apart-strips placed-strips sheet shapes placed sheet-firsts placed-firsts =

@@ -94,7 +94,7 @@ entries-few ix standing n = rw (length-upFrom 512 0) at (flatMap-few (λ b. numb
 
 -- ---- the strips of the standing copies
 
-moved-capacity : (part : List Float) (x y : Float) → capacity (movedStrips part x y) ≡ capacity part
+pub moved-capacity : (part : List Float) (x y : Float) → capacity (movedStrips part x y) ≡ capacity part
 unfolding movedStrips capacity
 moved-capacity part x y =
     let l = map (λ i. movedBy (stripAt part i) x y) (upFrom (capacity part) 0) in

@@ -33,16 +33,17 @@ use Rattle.filling.specs.NextCopy.{nextCopyOf}
 use Rattle.filling.specs.Accounts.{Position, positionsOfKind, framedPositions, placeOnSheet, onSheet, positions}
 use Rattle.filling.specs.Accounts.{flatPositions, reachOf, notBelowZero, offcutOf, planOf, noPlan}
 use Rattle.filling.specs.Fill.{Filling, filled, stopped, fillOrder, Planned, notPlanned, plannedWith, plannedBy, fillJob, fillGiven, fillOf}
-use Rattle.filling.specs.Calls.{Call, afterCalls}
-use Rattle.filling.specs.Plain.{Plain, plainStart, plainCalls}
+use Rattle.filling.specs.Calls.{Call, requestOf, afterCalls, refusals}
+use Rattle.filling.specs.Plain.{Plain, takeNext, plainStart, plainCalls}
 use Rattle.filling.proofs.Sizes.{sized}
-use Rattle.filling.proofs.Begin.{start-good, start-refused, start-accepted}
+use Rattle.filling.proofs.Begin.{start-good, start-refused, start-accepted, begun}
 use Rattle.filling.proofs.Runs.{calls-keep, fill-keeps}
 use Rattle.filling.proofs.Refused.{next-copy-leaves}
 use Rattle.filling.proofs.WithinBounds.{framed}
 use Rattle.filling.proofs.promises.Few.{stands-few}
 use Rattle.filling.proofs.promises.Numbers.{Numbers, StateNumbers, RoomNumbers, LentNumbers, zero-is, all-zeros, zero-state, only-positions}
 use Rattle.filling.proofs.promises.Stays.{Held, standing-all, held-took, held-start, first-numbers, first-rooms}
+use Rattle.filling.proofs.promises.Back.{HeldSo, so-took, so-back}
 use Rattle.filling.proofs.promises.Offcut.{Reaches, reaches, left-number, left-from, left-upto}
 
 -- ---- a start
@@ -74,13 +75,21 @@ start-numbers bytes order l = go (readJob bytes) refl
 -- ---- calls
 
 -- after an accepted start, whatever the calls
+pub calls-held : (bytes order : List ℕ) (l : Lent) (j : Job) (e : readJob bytes ≡ accepted j) → startOf bytes order l .verdict ≡ Accepted → (calls : List Call)
+    → let r = afterCalls bytes calls (startOf bytes order l .state) (startOf bytes order l .lent .rooms) in HeldSo bytes j e (r .state) (r .rooms)
+    (plainCalls (plannerOf j) (map requestOf calls) (refusals (r .verdicts)) (plainStart (plannerOf j) order))
+calls-held bytes order l j e v calls =
+    let a = start-accepted bytes order l j e v in
+    let p = plannerOf j in
+    let first : HeldSo bytes j e (firstState p order) (firstRooms p (l .rooms)) (plainStart p order) =
+    record { order = order; held = held-start bytes j e order l (a .verdict-is); rearranges = begun j order l (a .verdict-is) .rearranges } in
+    rw (a .state-is, a .rooms-is)
+    (calls-keep j (HeldSo bytes j e) (λ s w q h. h .held .own .kept .linked) (so-took bytes j e) (so-back bytes j e) bytes e calls (firstState p order)
+    (firstRooms p (l .rooms)) (plainStart p order) first)
+
 pub calls-numbers : (bytes order : List ℕ) (l : Lent) (j : Job) → readJob bytes ≡ accepted j → startOf bytes order l .verdict ≡ Accepted → (calls : List Call)
     → let r = afterCalls bytes calls (startOf bytes order l .state) (startOf bytes order l .lent .rooms) in StateNumbers (r .state) × RoomNumbers (r .rooms)
-calls-numbers bytes order l j e v calls =
-    let a = start-accepted bytes order l j e v in
-    let h = calls-keep j (Held bytes j e order) (λ s w q h. h .own .kept .linked) (held-took bytes j e order) bytes e calls (firstState (plannerOf j) order)
-    (firstRooms (plannerOf j) (l .rooms)) (plainStart (plannerOf j) order) (held-start bytes j e order l (a .verdict-is)) in
-    rw (a .state-is, a .rooms-is) (h .sound .numbers, h .sound .rooms)
+calls-numbers bytes order l j e v calls = let h = calls-held bytes order l j e v calls .held .sound in (h .numbers, h .rooms)
 
 -- a single step's interval room, whatever the step
 pub step-intervals : (bytes : List ℕ) (s : State) (w : Rooms) (iv : List Float) → Numbers (nextCopyOf bytes s w iv .intervals)
@@ -257,7 +266,7 @@ module _ (bytes : List ℕ) (j : Job) (e : readJob bytes ≡ accepted j) (order 
 -- the state at the end of a filling, with its rooms
 pub fill-held : (bytes order : List ℕ) (l : Lent) (j : Job) (e : readJob bytes ≡ accepted j) → startVerdict j order l ≡ Accepted
     → (s : State) → fillOrder j l order ≡ filled s → (w : Rooms) × Held bytes j e order s w
-    (plainCalls (plannerOf j) (replicate (length order) false) (plainStart (plannerOf j) order))
+    (plainCalls (plannerOf j) (replicate (length order) takeNext) (replicate (length order) false) (plainStart (plannerOf j) order))
 unfolding fillOrder
 fill-held bytes order l j e v s d =
     fill-keeps j (Held bytes j e order) (λ s w q h. h .own .kept .linked) (held-took bytes j e order) (l .intervals) (length order)

@@ -1,7 +1,7 @@
 -- No number is left that is not finite, or minus zero: by a start, by every list of calls after it, and by a filling. Assumes nothing.
 use Prim.Native.Nat.{ℕ, zero, suc}
 use mathlib.Core.Path.{ap}
-use mathlib.Core.List.{List, [], _∷_, map, flatMap}
+use mathlib.Core.List.{List, [], _∷_, _++_, map, flatMap}
 use lib.ListN.{length, set, take, drop, replicate}
 use lib.Ieee.{Float, binary64}
 use Rattle.numbers.specs.Numbers.{posZero}
@@ -17,6 +17,7 @@ use Rattle.filling.specs.declared.Tables.{Tables}
 use Rattle.filling.specs.declared.Layout.{Layout}
 use Rattle.filling.specs.Shapes.{Shape, noBounds}
 use Rattle.filling.specs.Rooms.{Rooms, Lent, laid, zeros, zeroRooms, onlyPositions}
+use Rattle.filling.specs.Withdraw.{closedUp}
 use Rattle.filling.specs.State.{flatBounds, emptyLayout, zeroTables, zeroState}
 
 -- every number of a list is finite and not minus zero
@@ -66,19 +67,26 @@ pub all-zeros : (room : List Float) → Numbers (zeros posZero room)
 unfolding zeros
 all-zeros room = all-replicate (length room)
 
-pub all-drop : (n : ℕ) (l : List Float) → Numbers l → Numbers (drop n l)
-all-drop zero l h = h
-all-drop (suc n) [] h = tt
-all-drop (suc n) (a ∷ l) h = all-drop n l (h .1)
+module _ {A : Type 0} (Q : A → Type 0) where
+  pub all-drop : (n : ℕ) (l : List A) → All Q l → All Q (drop n l)
+  all-drop zero l h = h
+  all-drop (suc n) [] h = tt
+  all-drop (suc n) (a ∷ l) h = all-drop n l (h .1)
 
-pub all-take : (n : ℕ) (l : List Float) → Numbers l → Numbers (take n l)
-all-take zero l h = tt
-all-take (suc n) [] h = tt
-all-take (suc n) (a ∷ l) h = (h .0, all-take n l (h .1))
+  pub all-take : (n : ℕ) (l : List A) → All Q l → All Q (take n l)
+  all-take zero l h = tt
+  all-take (suc n) [] h = tt
+  all-take (suc n) (a ∷ l) h = (h .0, all-take n l (h .1))
+
+  pub all-closed : (n m : ℕ) (v : A) (l : List A) → Q v → All Q l → All Q (closedUp n m v l)
+  unfolding closedUp
+  all-closed n m v l q h =
+      all-append Q (take n l) (drop (suc n) (take m l) ++ (v ∷ drop m l)) (all-take n l h)
+      (all-append Q (drop (suc n) (take m l)) (v ∷ drop m l) (all-drop (suc n) (take m l) (all-take m l h)) (q, all-drop m l h))
 
 pub all-laid : (l room : List Float) → Numbers l → Numbers room → Numbers (laid l room)
 unfolding laid
-all-laid l room h r = all-append Number l (drop (length l) room) h (all-drop (length l) room r)
+all-laid l room h r = all-append Number l (drop (length l) room) h (all-drop Number (length l) room r)
 
 pub all-set : (l : List Float) (i : ℕ) (a : Float) → Numbers l → Number a → Numbers (set l i a)
 all-set [] i a h n = tt
@@ -124,4 +132,9 @@ zero-rooms w = record { shapes = all-zeros (w .shapes); sheet = all-zeros (w .sh
 
 pub only-positions : (l : Lent) (ps : List Float) → Numbers ps → LentNumbers (onlyPositions l ps)
 unfolding onlyPositions
-only-positions l ps h = record { rooms = zero-rooms (l .rooms); intervals = all-zeros (l .intervals); positions = all-laid ps (zeros posZero (l .positions)) h (all-zeros (l .positions)) }
+only-positions l ps h =
+    record {
+      rooms = zero-rooms (l .rooms);
+      intervals = all-zeros (l .intervals);
+      positions = all-laid ps (zeros posZero (l .positions)) h (all-zeros (l .positions));
+    }

@@ -23,13 +23,13 @@ use Rattle.filling.specs.declared.Verdict.the-variants.{Accepted}
 use Rattle.filling.specs.Shapes.{Planner, plannerOf, Shape}
 use Rattle.filling.specs.Choice.{Choice, best}
 use Rattle.filling.specs.Rooms.{Rooms, Lent, laid, zeros}
-use Rattle.filling.specs.State.{bySlot, slotShape, flatBounds, emptyLayout, standingOf, withoutOf}
+use Rattle.filling.specs.State.{bySlot, slotShape, flatBounds, emptyLayout, standingTo, standingOf, withoutOf}
 use Rattle.filling.specs.Start.{apartStrips, insetStrips, tablesOf, firstState, firstRooms, startVerdict}
 use Rattle.filling.specs.NextCopy.{newStrips, entered, stateWith, layoutAfter, stateAfter, stored, roomsAfter, Step}
 use Rattle.filling.specs.Consistent.{placedStrips}
-use Rattle.filling.specs.Search.{Found, at, nowhere, searchAll, Track}
-use Rattle.filling.specs.Choice.{choiceOf, choices, wins}
-use Rattle.filling.specs.Shapes.{standingStrips}
+use Rattle.filling.specs.Search.{searchAll, Track}
+use Rattle.filling.specs.Choice.{standingAt}
+use Rattle.filling.specs.Shapes.{Standing, standingStrips}
 use Rattle.filling.specs.State.{tracksOf}
 use Rattle.filling.specs.Plain.{Plain, plainStart, plainTake}
 use Rattle.filling.proofs.Sizes.{Sized, sized}
@@ -37,9 +37,14 @@ use Rattle.filling.proofs.Reading.{sixteen-get}
 use Rattle.filling.proofs.Numbers31.{Good, Goods, and-good, best-good, row-good}
 use Rattle.filling.proofs.WithinBounds.{sheet-good, jobs-within, framed, resolution-in, shape, area, place, sums}
 use Rattle.filling.proofs.WithinBoundsStrips.{FineShape, all-upFrom, set-numbers}
+use Rattle.filling.proofs.Steps as Steps
 use Rattle.filling.proofs.Steps.{Took, ChoicesNow, TracksNow, rows-of-shapes}
-use Rattle.filling.proofs.Never31.{Own, own-took, own-start, without-few}
-use Rattle.filling.proofs.promises.Numbers.{Numbers, RectNumbers, StateNumbers, RoomNumbers, zero-is, all-replicate, all-zeros, all-take, all-laid, all-set, all-flatMap, all-bounds, framed-numbers}
+use Rattle.filling.proofs.AtPlace.{each-counted}
+use Rattle.filling.proofs.Stood.{Reach, best-all, choices-under}
+use Rattle.filling.proofs.OwnStates.{Own, own-start}
+use Rattle.filling.proofs.OwnKept.{own-took}
+use Rattle.filling.proofs.promises.Numbers.{Numbers, RectNumbers, StateNumbers, RoomNumbers, zero-is, all-replicate, all-zeros, all-take, all-laid}
+use Rattle.filling.proofs.promises.Numbers.{all-set, all-flatMap, all-bounds, framed-numbers}
 
 -- ---- what a start prepares
 
@@ -65,7 +70,8 @@ module _ (j : Job) (g : GoodJob j) where
 
   bounds-all : Numbers (flatBounds (map (λ s. s .bounds) (bySlot (slotShape P))))
   unfolding bySlot
-  bounds-all = all-bounds (map (slotShape P) (upFrom 1024 0)) (all-upFrom (λ (s : Shape). RectNumbers (s .bounds)) (slotShape P) 1024 0 (λ i b. framed-numbers (slotShape P i .bounds) (slot-fine i .frame)))
+  bounds-all = all-bounds (map (slotShape P) (upFrom 1024 0)) (all-upFrom (λ (s : Shape). RectNumbers (s .bounds)) (slotShape P) 1024 0
+      (λ i b. framed-numbers (slotShape P i .bounds) (slot-fine i .frame)))
 
   pub first-numbers : (order : List ℕ) → StateNumbers (firstState P order)
   unfolding firstState tablesOf emptyLayout
@@ -85,7 +91,8 @@ module _ (j : Job) (g : GoodJob j) where
   unfolding firstRooms
   first-rooms w =
       record {
-        shapes = all-laid (apartStrips P ++ insetStrips P) (zeros posZero (w .shapes)) (all-append Number (apartStrips P) (insetStrips P) apart-all inset-all) (all-zeros (w .shapes));
+        shapes = all-laid (apartStrips P ++ insetStrips P) (zeros posZero (w .shapes)) (all-append Number (apartStrips P) (insetStrips P) apart-all inset-all)
+            (all-zeros (w .shapes));
         sheet = all-laid (P .sheet) (zeros posZero (w .sheet)) sheet-all (all-zeros (w .sheet));
         placed = all-zeros (w .placed);
       }
@@ -99,26 +106,6 @@ pub record Sound (s : State) (w : Rooms) : Type 0 where
   pub right : Small 710000 (s .layout .right)
   pub orientations : (i : ℕ) → getD (s .layout .orientation) i 0 ≤ 16
 
-pub best-all : (Q : Choice → Type 0) (a : Choice) (cs : List Choice) → Q a → All Q cs → Q (best a cs)
-unfolding best
-best-all Q a [] q h = q
-best-all Q a (b ∷ cs) q h = go (wins b a) (best-all Q b cs (h .0) (h .1)) (best-all Q a cs q (h .1))
-  where
-    go : (t : Bool) → Q (best b cs) → Q (best a cs) → Q (elim t [ true ↦ best b cs | false ↦ best a cs ])
-    go true x y = x
-    go false x y = y
-
--- an orientation that is chosen is one of the kind's
-pub choices-under : (p : Planner) (m o : ℕ) (ss : List Shape) (fs : List Found) → o + length ss ≤ m → All (λ (c : Choice). c .orientation < m) (choices p o ss fs)
-unfolding choices
-choices-under p m o [] fs h = tt
-choices-under p m o (s ∷ ss) [] h = tt
-choices-under p m o (s ∷ ss) (f ∷ fs) h = all-append (λ (c : Choice). c .orientation < m) (choiceOf p o s f) (choices p (suc o) ss fs) (one f) (choices-under p m (suc o) ss fs (omega arith))
-  where
-    one : (f : Found) → All (λ (c : Choice). c .orientation < m) (choiceOf p o s f)
-    one nowhere = unfold choiceOf in tt
-    one (at c y g) = unfold choiceOf in (omega arith, tt)
-
 set-upto : (l : List ℕ) (i a m : ℕ) → ((n : ℕ) → getD l n 0 ≤ m) → a ≤ m → (n : ℕ) → getD (set l i a) n 0 ≤ m
 set-upto [] i a m h b n = h n
 set-upto (c ∷ l) zero a m h b zero = b
@@ -126,7 +113,7 @@ set-upto (c ∷ l) zero a m h b (suc n) = h (suc n)
 set-upto (c ∷ l) (suc i) a m h b zero = h zero
 set-upto (c ∷ l) (suc i) a m h b (suc n) = set-upto l i a m (λ n. h (suc n)) b n
 
-larger-small : {n : ℕ} (a b : Float) → Small n a → Small n b → Small n (larger a b)
+pub larger-small : {n : ℕ} (a b : Float) → Small n a → Small n b → Small n (larger a b)
 unfolding larger
 larger-small {n} a b h k = go (lt a b)
   where
@@ -137,7 +124,7 @@ larger-small {n} a b h k = go (lt a b)
 module _ (j : Job) (g : GoodJob j) (z : Sized j) (order : List ℕ) (s : State) (w : Rooms) (q : Plain) (h : Own j order s w q) where
   own-area : Number (s .layout .«unplaced_area»)
   own-area =
-      let few : length (withoutOf s) ≤ 4096 = unfold withoutOf in (let a = without-few s (s .taken) in let f = h .few in let e = z .few in omega arith) in
+      let few : length (withoutOf s) ≤ 4096 = unfold withoutOf in (let a = each-counted s (s .taken) in let f = h .few in let e = z .few in omega arith) in
       subst Number (sym (h .fine .area)) (sums (plannerOf j) (area j g) (withoutOf s) few .num)
 
 -- a choice among the orientations of kind k: its place, and its right side
@@ -160,9 +147,17 @@ module _ (j : Job) (g : GoodJob j) (k : ℕ) where
   unfolding newStrips
   chosen c G o =
       let r = place j g k (c .orientation) (c .x) (c .y) (c .gap) (G .place) in
-      record { x = r .0; y = r .1; gap = r .2; right = right-small c G (r .0); strips = shape j g k (c .orientation) .moved-numbers (c .x) (c .y) (r .0) (r .1); orientation = o }
+      record {
+        x = r .0;
+        y = r .1;
+        gap = r .2;
+        right = right-small c G (r .0);
+        strips = shape j g k (c .orientation) .moved-numbers (c .x) (c .y) (r .0) (r .1);
+        orientation = o;
+      }
 
-  best-chosen : (c : Choice) (cs : List Choice) → Goods (plannerOf j) k (c ∷ cs) → All (λ (d : Choice). d .orientation < 16) (c ∷ cs) → Chosen (plannerOf j) k (best c cs)
+  best-chosen : (c : Choice) (cs : List Choice) → Goods (plannerOf j) k (c ∷ cs) → All (λ (d : Choice). d .orientation < 16) (c ∷ cs) → Chosen (plannerOf j) k
+      (best c cs)
   best-chosen c cs (and-good G Gs) u = chosen (best c cs) (best-good (plannerOf j) k Gs c G) (best-all (λ (d : Choice). d .orientation < 16) c cs (u .0) (u .1))
 
 module _ (p : Planner) (k : ℕ) (ts : List Track) (s : State) (w : Rooms) (st : List Float) (S : Sound s w) where
@@ -209,7 +204,12 @@ module _ (p : Planner) (k : ℕ) (ts : List Track) (s : State) (w : Rooms) (st :
               right = r .num;
               unplaced-area = N .unplaced-area;
             };
-        rooms = record { shapes = W .shapes; sheet = W .sheet; placed = all-laid (st ++ newStrips p k d) (w .placed) (all-append Number st (newStrips p k d) h (C .strips)) (W .placed) };
+        rooms = record {
+          shapes = W .shapes;
+          sheet = W .sheet;
+          placed = all-laid (st ++ newStrips p k d) (w .placed)
+              (all-append Number st (newStrips p k d) h (C .strips)) (W .placed);
+        };
         right = r;
         orientations = set-upto (s .layout .orientation) (s .taken) (suc (d .orientation)) 16 (S .orientations) (C .orientation);
       }
@@ -221,25 +221,51 @@ module _ (bytes : List ℕ) (j : Job) (e : readJob bytes ≡ accepted j) (order 
   abbrev z : Sized j
   z = sized bytes j e
 
+  -- how far right a standing copy reaches
+  abbrev pub Near : Standing → Type 0
+  Near c = Small 710000 (Reach (plannerOf j) c)
+
   -- an own state whose numbers are sound
   pub record Held (s : State) (w : Rooms) (q : Plain) : Type 0 where
     pub own : Own j order s w q
     pub sound : Sound s w
+    pub reaches : All Near (standingOf s)
 
   module _ (s : State) (w : Rooms) (q : Plain) (h : Held s w q) where
     pub standing-all : Numbers (standingStrips (plannerOf j) (standingOf s))
     unfolding placedStrips
-    standing-all = subst Numbers (h .own .kept .linked .stand) (all-take (6 * s .«placed_strips») (w .placed) (h .sound .rooms .placed))
+    standing-all = subst Numbers (h .own .kept .linked .stand) (all-take Number (6 * s .«placed_strips») (w .placed) (h .sound .rooms .placed))
 
     under : (k : ℕ) → All (λ (c : Choice). c .orientation < 16) (ChoicesNow j s k)
-    under k = choices-under (plannerOf j) 16 0 (getD (plannerOf j .shapes) k []) (searchAll (plannerOf j) (standingStrips (plannerOf j) (standingOf s)) (getD (plannerOf j .shapes) k []) (getD (tracksOf j s) k []))
+    under k = choices-under (plannerOf j) 16 0 (getD (plannerOf j .shapes) k [])
+        (searchAll (plannerOf j) (standingStrips (plannerOf j) (standingOf s)) (getD (plannerOf j .shapes) k []) (getD (tracksOf j s) k []))
         (let a = sixteen-get (z .turns) k in let b = rows-of-shapes j s w (h .own .kept .linked) k in omega arith)
 
     sound-now : (k : ℕ) (cs : List Choice) → Goods (plannerOf j) k cs → All (λ (c : Choice). c .orientation < 16) cs
         → Number (stateAfter (plannerOf j) k (TracksNow j s k) s (standingStrips (plannerOf j) (standingOf s)) cs .layout .«unplaced_area»)
-        → Sound (stateAfter (plannerOf j) k (TracksNow j s k) s (standingStrips (plannerOf j) (standingOf s)) cs) (roomsAfter (plannerOf j) k w (standingStrips (plannerOf j) (standingOf s)) cs)
+        → Sound (stateAfter (plannerOf j) k (TracksNow j s k) s (standingStrips (plannerOf j) (standingOf s)) cs)
+        (roomsAfter (plannerOf j) k w (standingStrips (plannerOf j) (standingOf s)) cs)
     sound-now k [] G u a = sound-none (plannerOf j) k (TracksNow j s k) s w (standingStrips (plannerOf j) (standingOf s)) (h .sound) a
-    sound-now k (c ∷ cs) G u a = sound-placed (plannerOf j) k (TracksNow j s k) s w (standingStrips (plannerOf j) (standingOf s)) (h .sound) c cs standing-all (best-chosen j g k c cs G u)
+    sound-now k (c ∷ cs) G u a = sound-placed (plannerOf j) k (TracksNow j s k) s w (standingStrips (plannerOf j) (standingOf s)) (h .sound) c cs standing-all
+        (best-chosen j g k c cs G u)
+
+    -- the copy that was taken
+    new-near : (k : ℕ) (d : Choice) → Good (plannerOf j) k d → Small 710000 (d .right) → Near (standingAt (record { place = s .taken; kind = k }) d)
+    unfolding standingAt
+    new-near k d G r = subst (λ (v : Float). Small 710000 v) (G .right-is) r
+
+    reaches-now : (k : ℕ) (ks : List ℕ) (e : Steps.Nexts j s k ks) (cs : List Choice) → Goods (plannerOf j) k cs
+        → All (λ (c : Choice). c .orientation < 16) cs
+        → All Near (standingOf (stateAfter (plannerOf j) k (TracksNow j s k) s (standingStrips (plannerOf j) (standingOf s)) cs))
+    reaches-now k ks e [] G u =
+        let l = h .own .kept .linked in
+        subst (All Near) (sym (Steps.after-none-stands j z s w l k ks e (TracksNow j s k) (Steps.tracks-length j s w l k))) (h .reaches)
+    reaches-now k ks e (c ∷ cs) (and-good G Gs) u =
+        let l = h .own .kept .linked in
+        let d = best c cs in
+        subst (All Near) (sym (Steps.after-one-stands j z s w l k ks e (TracksNow j s k) (Steps.tracks-length j s w l k) c cs))
+        (all-append Near (standingOf s) (standingAt (record { place = s .taken; kind = k }) d ∷ []) (h .reaches)
+        (new-near k d (best-good (plannerOf j) k Gs c G) (best-chosen j g k c cs (and-good G Gs) u .right), tt))
 
     pub held-took : (r : Step) → Took j s w r → Held (r .state) (r .rooms) (plainTake (plannerOf j) q (q .to-come))
     held-took r t =
@@ -248,16 +274,24 @@ module _ (bytes : List ℕ) (j : Job) (e : readJob bytes ≡ accepted j) (order 
         let a = own-area j g z order (r .state) (r .rooms) (plainTake (plannerOf j) q (q .to-come)) o in
         record {
           own = o;
-          sound = rw (t .state-is, t .rooms-is) (sound-now k (ChoicesNow j s k) (row-good (plannerOf j) k (standingStrips (plannerOf j) (standingOf s)) (getD (tracksOf j s) k [])) (under k) (rw (t .state-is) at a));
+          sound = rw (t .state-is, t .rooms-is) (sound-now k (ChoicesNow j s k) (row-good (plannerOf j) k (standingStrips (plannerOf j) (standingOf s))
+              (getD (tracksOf j s) k [])) (under k) (rw (t .state-is) at a));
+          reaches = rw (t .state-is) (reaches-now k (t .rest) (t .order-is) (ChoicesNow j s k)
+              (row-good (plannerOf j) k (standingStrips (plannerOf j) (standingOf s)) (getD (tracksOf j s) k [])) (under k));
         }
 
-  pub held-start : (l : Lent) → startVerdict j order l ≡ Accepted → Held (firstState (plannerOf j) order) (firstRooms (plannerOf j) (l .rooms)) (plainStart (plannerOf j) order)
+  pub held-start : (l : Lent) → startVerdict j order l ≡ Accepted → Held (firstState (plannerOf j) order) (firstRooms (plannerOf j) (l .rooms))
+      (plainStart (plannerOf j) order)
   held-start l v =
       record {
         own = own-start j z (jobs-within bytes j e) order l v;
         sound = record { numbers = first-numbers j g order; rooms = first-rooms j g (l .rooms); right = first-right; orientations = first-orientations };
+        reaches = none-stands;
       }
     where
+      none-stands : All Near (standingOf (firstState (plannerOf j) order))
+      none-stands = unfold standingOf in (unfold standingTo in (unfold firstState in tt))
+
       first-right : Small 710000 (firstState (plannerOf j) order .layout .right)
       first-right = unfold firstState in (unfold emptyLayout in small-more (framed j g .left) (lit≤ tt))
 

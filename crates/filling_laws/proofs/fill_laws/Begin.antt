@@ -35,7 +35,8 @@ use Rattle.filling.proofs.Begin.{first-order, first-parts, first-counts, first-
 use Rattle.filling.proofs.Demand3.{Kept, first-kept}
 use Rattle.filling.proofs.Numbers31.{WithinBounds}
 use Rattle.filling.proofs.WithinBounds.{jobs-within}
-use Rattle.filling.proofs.Never31.{Own, first-fine, first-few, first-sheet, first-placed}
+use Rattle.filling.proofs.Stood.{Stands, Reaches}
+use Rattle.filling.proofs.OwnStates.{Own, first-fine, first-few, first-sheet, first-placed, first-passes}
 use Rattle.filling.proofs.FirstBuckets.{first-firsts}
 use Rattle.place.specs.declared.Totals.{Totals}
 use Rattle.filling_laws.specs.fill_laws.inner.Prepared.{stateBy, roomsBy}
@@ -140,6 +141,8 @@ module _ (bytes : List ℕ) (j : Job) (read : readJob bytes ≡ accepted j) (few
         sheet-entries = first-sheet j lent;
         placed-entries = first-placed j z order n entries;
         firsts = first-firsts j order lent w refl refl;
+        stands = first-passes j z order n (Stands j);
+        reaches = first-passes j z order n (Reaches p);
       }
 
   alike : (l : Lent) → length (l .rooms .placed) ≡ length placed → length (l .rooms .placed-entries) ≡ length entries → length (l .rooms .placed-firsts) ≡ length firsts → Alike j before w (firstRooms p (l .rooms))

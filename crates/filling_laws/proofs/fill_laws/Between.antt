@@ -31,7 +31,8 @@ use Rattle.filling.proofs.Sizes.{sized}
 use Rattle.filling.proofs.Steps as Steps
 use Rattle.filling.proofs.Steps.{Took, unchanged, took, core-outcome, refused≢accepted, no-step-refused}
 use Rattle.filling.proofs.WithinBounds.{jobs-within}
-use Rattle.filling.proofs.Never31.{Own, own-took}
+use Rattle.filling.proofs.OwnStates.{Own}
+use Rattle.filling.proofs.OwnKept.{own-took}
 use Rattle.choose.specs.inner.Choosing.{surroundings}
 use Rattle.store.specs.inner.Storing.{FirstsLaid}
 use Rattle.place.specs.declared.Totals.{Totals}

@@ -26,7 +26,7 @@ use Rattle.filling.proofs.Reading.{length-bySlot, length-bounds, kinds-many, pa
 use Rattle.filling.proofs.Sizes.{sized}
 use Rattle.filling.proofs.Begin.{first-linked}
 use Rattle.filling.proofs.WithinBounds.{jobs-within, framed}
-use Rattle.filling.proofs.Never31.{own-consistent}
+use Rattle.filling.proofs.OwnStates.{own-consistent}
 use Rattle.choose.specs.inner.Choosing.{surroundings}
 use Rattle.place.specs.declared.Totals.{Totals}
 use Rattle.place.specs.inner.Standing.{Standing, Fixed}

@@ -54,7 +54,7 @@ use Rattle.filling_laws.proofs.SameCore.{row}
 use Rattle.filling_laws.proofs.ReadyColumns.{column-bounded}
 use Rattle.filling_laws.proofs.ReadyOrder.{kind-in}
 use Rattle.filling_laws.proofs.Ready.{InDoubles, tests-of, resolution-in, bounds-in, apart-in, shape-bounds}
-use Rattle.filling.proofs.promises.Stays.{choices-under, best-all}
+use Rattle.filling.proofs.Stood.{choices-under, best-all}
 use Rattle.slab.proofs.Merging.{All}
 
 -- ---- lists

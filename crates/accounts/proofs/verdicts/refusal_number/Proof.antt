@@ -35,6 +35,9 @@ enum-told-7 c = search needs
 enum-told-8 : tie.Need-enum-told-8
 enum-told-8 c = search needs
 
+enum-told-9 : tie.Need-enum-told-9
+enum-told-9 c = search needs
+
 returns : tie.Need-returns
 unfolding numberOf
 returns c = c .refusal-number .ensures ∙ ap numberOf (sym (c .before .before .r .given .1))
@@ -71,6 +74,10 @@ returns-9 : tie.Need-returns-9
 unfolding numberOf
 returns-9 c = ap numberOf (sym (c .enum-told8 .given .1))
 
+returns-10 : tie.Need-returns-10
+unfolding numberOf
+returns-10 c = ap numberOf (sym (c .enum-told9 .given .1))
+
 pub refusal-number-spec : {M : Type 1} → statement M
 refusal-number-spec =
     tie.close
@@ -85,6 +92,7 @@ refusal-number-spec =
     enum-told-6
     enum-told-7
     enum-told-8
+    enum-told-9
     returns
     returns-2
     returns-3
@@ -93,4 +101,5 @@ refusal-number-spec =
     returns-6
     returns-7
     returns-8
-    returns-9)
+    returns-9
+    returns-10)

@@ -3,8 +3,11 @@ use borrow.Author.Needs.{needs}
 use Rattle.filling_test.proofs.calls.call.Statement.{statement}
 use Rattle.filling_test.proofs.calls.call.Tie as tie
 
-next-copy-requires : tie.Need-next-copy-requires
-next-copy-requires c κs = tt
+is-step-requires : tie.Need-is-step-requires
+is-step-requires c κs = tt
+
+step-requires : tie.Need-step-requires
+step-requires c κs = tt
 
 same-length : tie.Need-same-length
 same-length c = search needs
@@ -94,27 +97,6 @@ returns-2 : tie.Need-returns-2
 returns-2 c = search needs
 
 pub call-spec : {M : Type 1} → statement M
-call-spec =
-    tie.close
-    (tie.spec
-    next-copy-requires
-    same-length
-    same-length-2
-    same-length-3
-    same-length-4
-    same-length-5
-    same-length-6
-    same-length-7
-    same-length-8
-    returns
-    start-or-fill-requires
-    same-length-9
-    same-length-10
-    same-length-11
-    same-length-12
-    same-length-13
-    same-length-14
-    same-length-15
-    same-length-16
-    same-length-17
-    returns-2)
+call-spec = tie.close (tie.spec is-step-requires step-requires same-length same-length-2 same-length-3 same-length-4 same-length-5 same-length-6 same-length-7
+    same-length-8 returns start-or-fill-requires same-length-9 same-length-10 same-length-11 same-length-12 same-length-13 same-length-14 same-length-15
+    same-length-16 same-length-17 returns-2)

@@ -8,7 +8,6 @@ use Rattle.step.proofs.step_job.step_job.Statement.{statement}
 use Rattle.step.proofs.step_job.step_job.Tie as tie
 use Rattle.step.proofs.step_job.step_job.Reads as reads
 use Rattle.step.proofs.step_job.step_job.Lts as lts
-use Rattle.step.proofs.step_job.agree.Reads as agree-reads
 use Rattle.step.proofs.step_job.refuse.Reads as refuse-reads
 use Rattle.step.proofs.step_copy.Reads as step-copy-reads
 use Rattle.filling.proofs.Runs.{step-consistent, step-inconsistent}

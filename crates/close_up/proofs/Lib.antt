@@ -1,0 +1,4 @@
+pub mod Moving
+pub mod Cleared
+pub mod EntryCounts
+pub mod Left

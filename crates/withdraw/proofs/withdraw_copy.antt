@@ -1,0 +1,3 @@
+pub mod Stood
+pub mod Without
+pub mod Leaves

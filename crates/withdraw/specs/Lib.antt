@@ -1,0 +1,3 @@
+pub mod Replied
+pub mod standing
+pub mod withdraw_copy
