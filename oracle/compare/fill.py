@@ -53,6 +53,16 @@ def paired(lines):
     return [f"{a} {b}" for a, b in zip(lines[::2], lines[1::2])]
 
 
+def ended(name, counts, wrong, done, differ):
+    """The counts by answer, what differs kept under build/compare, and the last line."""
+    print(", ".join(f"{answer}: {k}" for answer, k in sorted(counts.items())))
+    if wrong:
+        os.makedirs(os.path.join(BUILD, "compare"), exist_ok=True)
+        write_container(os.path.join(BUILD, "compare", name), wrong)
+    print(f"{done}, {differ} mismatches")
+    sys.exit(differ > 0)
+
+
 def main():
     program, n, seed = sys.argv[1], int(sys.argv[2]), int(sys.argv[3])
     counts, differ, done, wrong = collections.Counter(), 0, 0, []
@@ -73,12 +83,8 @@ def main():
                 wrong.append((f"job {done + i} {list_[i][1]}", list_[i][0]))
                 print(f"job {done + i}\n  oracle {a}\n  proved {b}")
         done += len(list_)
-    print(", ".join(f"{name}: {k}" for name, k in sorted(counts.items())))
-    if wrong:
-        os.makedirs(os.path.join(BUILD, "compare"), exist_ok=True)
-        write_container(os.path.join(BUILD, "compare", "fill"), wrong)
-    print(f"{done} jobs, {differ} mismatches")
-    sys.exit(differ > 0)
+    ended("fill", counts, wrong, f"{done} jobs", differ)
 
 
-main()
+if __name__ == "__main__":
+    main()

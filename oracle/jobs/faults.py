@@ -37,6 +37,11 @@ class State:
             apart, inset = apart + n, inset + m
         self.apart, self.inset = apart, inset
 
+    def place(self, n):
+        """Orientation, x and y of place n as a state has them."""
+        stands = self.call.places[n] if n < len(self.order) else None
+        return (stands[0] + 1, *stands[1:]) if stands else (0, 0, 0)
+
     def was(self, name, n):
         """The number that stands there."""
         c, i = self.call, n // 4
@@ -53,6 +58,7 @@ class State:
             "taken": lambda: c.taken, "next_column": lambda: self.slots[n]["column"],
             "look_counts": lambda: self.slots[n]["looks"],
             "placed_strips": lambda: c.strips[1], "gap": lambda: c.gaps[n],
+            "orientation": lambda: self.place(n)[0], "x": lambda: self.place(n)[1], "y": lambda: self.place(n)[2],
             "unplaced_area": lambda: c.area, "right": lambda: c.right,
         }[name]()
 
@@ -197,13 +203,13 @@ def first_buckets(t):
 
 def accepted(s, calls, order):
     """What 31 does not look at. The call takes a copy."""
-    free = {"layout": [("orientation", 0, MOST), ("x", 0, NAN), ("y", 1, INF), ("x", 5, ABOVE),
+    free = {"layout": [("orientation", 4, MOST), ("x", 4, NAN), ("y", 3, INF), ("x", 5, ABOVE),
                        ("orientation", 9, 7)],
             "unused": [("next_column", 1, MOST), ("look_counts", 1023, MOST), ("parts", 4, MOST),
                        ("parts", 4 * 15 + 1, MOST), ("inset_bounds", 4 * 15, NAN),
                        ("inset_bounds", 4095, INF), ("order", len(order), MOST),
                        ("order", 4095, 64)]}
-    s.title("31: not the places, not unused slots, not the rest of a room")
+    s.title("31: not the places to come, not unused slots, not the rest of a room")
     for list_ in free.values():
         for name, n, value in list_:
             s.edit(name, n, value)
@@ -221,8 +227,8 @@ def limits(t):
     s.title("31: at the limits")
     s.edit("right", 0, MILLION)
     s.edit("unplaced_area", 0, 1e16)
-    # A strip without width: its x1 is its x0.
-    for strip in (0, t.apart):
+    # A strip without width: its x1 is its x0. No copy of that slot stands.
+    for strip in (t.slots[17]["parts"][0], t.apart):
         s.slot(SHAPES, 6 * strip + 1, t.call.strip("shapes", strip)[0])
     for i in t.slots:
         s.edit("look_counts", i, t.last(i) + 1 + t.taken)

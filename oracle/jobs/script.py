@@ -15,7 +15,9 @@ PLAN = [8190, 8190, 8190, 16384, 16384, 1365, 1365, 8192, 24576]
 NUMBERS = ["resolution", "sheet_bounds", "sheet_strips", "apart_strips", "inset_bounds", "parts",
            "order", "taken", "next_column", "look_counts", "placed_strips", "orientation", "x",
            "y", "gap", "unplaced_area", "right"]
-# First words of the lines that answer calls; no title begins so.
+# The calls by their letters.
+NAMES = {"S": "start", "N": "next", "W": "withdraw", "F": "fill", "K": "leaf"}
+# First words of the lines that answer calls; no title begins so. A withdrawal answers as next copy does.
 CALLS = ["start", "next", "fill", "leaf"]
 
 
@@ -28,6 +30,8 @@ class Script:
         self.lengths = [0] * len(ROOMS)
         # The number that each call must answer, or nothing where that is left to the oracle.
         self.wanted = []
+        # What each call is.
+        self.calls = []
 
     def put(self, letter, a=0, n=0, m=0, rest=b""):
         m = bits(m) if isinstance(m, float) else m
@@ -65,27 +69,32 @@ class Script:
     def edit(self, name, n, value):
         self.put("E", NUMBERS.index(name), n, value)
 
-    def call(self, letter, want, **fields):
+    def call(self, letter, want, hashes=True, **fields):
         """A call, and the hashes of all rooms after it."""
         self.put(letter, **fields)
         self.wanted.append(want)
-        if letter != "K":
+        self.calls.append(NAMES[letter])
+        if hashes:
             self.put("V")
 
     def start(self, want=None):
         self.call("S", want)
 
-    def next(self, want=None):
+    def next(self, want=None, hashes=True):
         """Next copy, with garbage in the interval room."""
         if self.lengths[INTERVALS]:
             self.garbage(INTERVALS)
-        self.call("N", want)
+        self.call("N", want, hashes)
+
+    def withdraw(self, place, want=None, hashes=True):
+        """The copy at a place is taken back."""
+        self.call("W", want, hashes, n=place)
 
     def fill(self, want=None):
         self.call("F", want)
 
     def leaf(self, kind, orientation, inset, want=None):
-        self.call("K", want, a=int(inset), n=kind, m=orientation)
+        self.call("K", want, False, a=int(inset), n=kind, m=orientation)
 
     def show(self, room):
         self.put("P", room)
@@ -96,12 +105,15 @@ class Call:
 
     def __init__(self, text):
         self.slots, self.rooms, self.gaps, self.most = [], {}, [], 0
+        # By place: orientation, x, y, the last two by their bits; nothing where none stands.
+        self.places = []
         for line in text.splitlines():
             word, *rest = line.split(" ")
             if word == "slot":
                 self.slots.append(rest)
             elif word == "place":
                 self.gaps.append(0 if rest[1] == "none" else int(rest[4], 16))
+                self.places.append(None if rest[1] == "none" else (int(rest[1]), int(rest[2], 16), int(rest[3], 16)))
             elif word == "room":
                 self.rooms[rest[0]] = rest[3:]
             elif word == "most":

@@ -4,7 +4,7 @@ use crate::filling::Stop;
 use crate::frame::Frame;
 use crate::job::{Job, Loops};
 use crate::nesting::{fill_order, nest, Plan};
-use crate::plain::plain;
+use crate::plain::filling;
 use crate::print::{offcut, positions};
 use crate::probed::lifted::reach::{set_bounds, strips, Filled, Framing, Lifted, Nested};
 use crate::probed::{Search, Signal};
@@ -164,7 +164,7 @@ fn same_offcut(job: &Job, plan: &Plan, ends: &[Option<f64>]) -> Result<(), Strin
 
 /// The plain planner in the final order; false where it takes too long.
 fn same_plain(job: &Job, plan: &Plan, work: u64) -> Result<bool, String> {
-    let Some(p) = plain(job, &plan.order, work) else {
+    let Some(p) = filling(job, &plan.order, work) else {
         return Ok(false);
     };
     let filled = Filled { placed: p.placed, unplaced_area: p.unplaced_area, right: p.right };

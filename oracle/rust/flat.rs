@@ -4,7 +4,7 @@ use crate::filling::{ranges, rearrangement, Slot, State};
 use crate::index::Index;
 use crate::job::Job;
 use crate::rooms::{capacity, load, standing, Bucket, Entry, Rooms, ENTRY, STRIP};
-use crate::strips::Strip;
+use crate::strips::{moved, Strip};
 use std::ops::Range;
 
 pub const SLOTS: usize = 1024;
@@ -113,8 +113,18 @@ impl Flat {
         (p[0]..p[0] + p[1], inset..inset + p[3])
     }
 
-    fn bounds(&self, i: usize) -> [f64; 4] {
+    pub fn bounds(&self, i: usize) -> [f64; 4] {
         [0, 1, 2, 3].map(|n| self.inset_bounds[4 * i + n])
+    }
+
+    /// The places of the standing copies, in order.
+    pub fn standing(&self) -> impl Iterator<Item = usize> + '_ {
+        (0..self.taken).filter(|&i| self.orientation[i] > 0)
+    }
+
+    /// The slot of the standing copy at place i.
+    pub fn slot(&self, i: usize) -> usize {
+        16 * self.order[i] + self.orientation[i] - 1
     }
 
     /// The last column of a slot; 0 where a range is reversed.
@@ -155,6 +165,30 @@ impl Flat {
     fn gaps_fit(&self) -> bool {
         let taken = self.orientation.iter().zip(&self.gap).take(self.taken);
         taken.filter(|(&o, _)| o > 0).all(|(_, gap)| (0.0..=1e6).contains(gap))
+    }
+
+    /// Orientation, x and y of every standing copy (document 02, W4).
+    fn places_fit(&self, job: &Job) -> bool {
+        let kind = |i: usize| &job.parts[self.order[i]];
+        self.standing().all(|i| self.orientation[i] <= kind(i).orientations.len())
+            && self.standing().all(|i| bounded(self.x[i]))
+            && self.standing().all(|i| bounded(self.y[i]))
+    }
+
+    /// The placed strips are those of the standing copies in order, moved to their places; none is
+    /// missing and none is left over. They are compared as numbers: minus zero is zero.
+    fn copies_fit(&self, rooms: &Rooms) -> bool {
+        let mut at = 0;
+        for i in self.standing() {
+            for n in self.ranges(self.slot(i)).0 {
+                let strip = moved(&load(&rooms.shapes, n), self.x[i], self.y[i]);
+                if at == self.placed_strips || load(&rooms.placed, at) != strip {
+                    return false;
+                }
+                at += 1;
+            }
+        }
+        at == self.placed_strips
     }
 
     /// The strips of the sheet, of the job's slots and of the placed copies.
@@ -202,6 +236,8 @@ impl Flat {
             && self.numbers_fit(job)
             && self.gaps_fit()
             && self.strips_fit(job, rooms)
+            && self.places_fit(job)
+            && self.copies_fit(rooms)
             && self.tracks_fit(job);
         if !fits {
             return None;

@@ -3,6 +3,7 @@
 //! Options are described in oracle/README.md.
 
 mod batch;
+mod command;
 mod compare;
 mod filling;
 mod flat;
@@ -12,6 +13,7 @@ mod index;
 mod job;
 mod modes;
 mod nesting;
+mod own;
 mod plain;
 mod print;
 mod probed;
@@ -22,6 +24,7 @@ mod surroundings;
 mod timed;
 mod trace;
 mod watch;
+mod withdraw;
 
 use compare::{run, Answer, Ask};
 use rooms::Sizes;

@@ -1,14 +1,15 @@
 //! `--script`: answers a script of calls, as oracle/README.md describes it. The same script is the
 //! input of the program filling_test, whose output must be the same.
+use crate::command::{Command, Reader};
 use crate::compare::{run, Ask};
-use crate::filling::{next_copy, start, Stop};
+use crate::filling::{next_copy, start, State, Stop};
 use crate::flat::{Flat, COPIES};
 use crate::hash::{bits, hash, state_hash};
 use crate::job::{self, Job};
 use crate::nesting::{fill_order, next_random, Plan};
-use crate::plain;
+use crate::own::Own;
+use crate::plain::{self, Request};
 use crate::print::{hex, offcut, position_room, positions};
-use crate::probed::{lifted::reach::Lifted, Signal};
 use crate::rooms::{numbers, Rooms, Sizes, ROOMS};
 use crate::watch::Watch;
 
@@ -19,37 +20,6 @@ const LONGEST: [usize; ROOMS] = [8200, 8200, 8200, 16500, 16500, 1400, 1400, 820
 /// Which rooms hold numbers of 16 bits and not doubles.
 fn number_room(a: usize) -> bool {
     (3..=6).contains(&a)
-}
-
-/// One command: a letter, a byte, 4 bytes, 8 bytes, most significant first.
-struct Command {
-    letter: u8,
-    a: usize,
-    n: usize,
-    m: u64,
-}
-
-struct Reader<'a> {
-    data: &'a [u8],
-    at: usize,
-}
-
-impl<'a> Reader<'a> {
-    fn take(&mut self, n: usize) -> Result<&'a [u8], String> {
-        let piece = self.data.get(self.at..self.at + n).ok_or("script ends inside a command")?;
-        self.at += n;
-        Ok(piece)
-    }
-
-    fn command(&mut self) -> Result<Option<Command>, String> {
-        if self.at == self.data.len() {
-            return Ok(None);
-        }
-        let b = self.take(14)?;
-        let number = |r: &[u8]| r.iter().fold(0u64, |n, &x| n << 8 | x as u64);
-        let (a, n, m) = (b[1] as usize, number(&b[2..6]) as usize, number(&b[6..]));
-        Ok(Some(Command { letter: b[0], a, n, m }))
-    }
 }
 
 /// What a slot of room a holds before a call: not a number, an infinity, minus zero, or whatever
@@ -73,8 +43,8 @@ pub struct Script {
     rooms: [Vec<u64>; ROOMS],
     lengths: [usize; ROOMS],
     state: Flat,
-    /// Whether job, state or rooms were changed by hand since the start.
-    edited: bool,
+    /// What calls are compared with, unless job, state or rooms were changed since the start.
+    own: Option<Own>,
     /// Whether nothing is compared.
     by_hand: bool,
     out: String,
@@ -88,7 +58,7 @@ impl Script {
             rooms: LONGEST.map(|n| vec![0; n]),
             lengths: [0; ROOMS],
             state: Flat::zero(),
-            edited: false,
+            own: None,
             by_hand,
             out: String::new(),
         }
@@ -151,11 +121,13 @@ impl Script {
         let mut rooms = Rooms::new(&self.sizes());
         let result = match job::read(&self.job) {
             Err(n) => Err(Stop::Refused(n)),
-            Ok(job) => start(&job, &self.order, &mut rooms),
+            Ok(job) => start(&job, &self.order, &mut rooms).map(|state| (job, state)),
         };
+        self.own = None;
         let number = match result {
-            Ok(state) => {
+            Ok((job, state)) => {
                 self.state = Flat::started(&state);
+                self.own = (!self.by_hand).then(|| Own::started(job, &self.order));
                 0
             }
             Err(stop) => {
@@ -165,9 +137,16 @@ impl Script {
             }
         };
         self.left(&rooms);
-        self.edited = false;
         self.state_line("start", number);
         Ok(())
+    }
+
+    /// The planner with rooms takes a copy, beside the lifted code where the state is its own.
+    fn step(&self, job: &Job, state: &mut State, rooms: &mut Rooms) -> Result<(), Stop> {
+        match &self.own {
+            None => next_copy(job, state, rooms, &mut Watch::default()),
+            Some(own) => own.step(&self.state, state, rooms),
+        }
     }
 
     /// Next copy: the job's refusal, then 31, then the planner with rooms.
@@ -177,48 +156,38 @@ impl Script {
             Err(n) => n,
             Ok(job) => match self.state.state(&job, &rooms) {
                 None => 31,
-                Some(mut state) => {
-                    match next_copy(&job, &mut state, &mut rooms, &mut Watch::default()) {
-                        Ok(()) => {
-                            self.state.stepped(&state);
-                            0
-                        }
-                        Err(stop) => self.stopped(&job, stop)?,
+                Some(mut state) => match self.step(&job, &mut state, &mut rooms) {
+                    Ok(()) => {
+                        self.state.stepped(&state);
+                        0
                     }
-                }
+                    Err(stop) => refusal(stop)?,
+                },
             },
         };
         rooms.clear_intervals();
-        self.left(&rooms);
-        self.state_line("next", number);
-        Ok(())
+        self.called(Request::Next, number, &rooms)
     }
 
-    /// A refused step. With the order used up and nothing edited, the layout must be the lifted fill's
-    /// and its gaps the plain planner's.
-    fn stopped(&self, job: &Job, stop: Stop) -> Result<u32, String> {
-        let number = refusal(stop)?;
-        if number != 23 || self.edited || self.by_hand {
-            return Ok(number);
+    /// Takes the copy at place n back: the job's refusal, then the planner with rooms. Of the rooms it
+    /// is lent all but intervals and positions, which stay.
+    fn withdraw(&mut self, n: usize) -> Result<(), String> {
+        let mut rooms = self.lent();
+        let number = match job::read(&self.job) {
+            Err(n) => n,
+            Ok(job) => self.state.withdraw(&job, &mut rooms, n),
+        };
+        self.called(Request::Back(n), number, &rooms)
+    }
+
+    /// After a single step: its rooms, the comparisons and the answer.
+    fn called(&mut self, request: Request, number: u32, rooms: &Rooms) -> Result<(), String> {
+        self.left(rooms);
+        if let Some(own) = &mut self.own {
+            own.called(request, number, &self.state, rooms)?;
         }
-        let signal = Signal::default();
-        let filled = Lifted::new(job, &signal).fill(&self.order);
-        let s = &self.state;
-        let same = filled.placed.iter().enumerate().all(|(i, p)| match p {
-            Some((o, x, y)) => {
-                (s.orientation[i], bits(s.x[i]), bits(s.y[i])) == (o + 1, bits(*x), bits(*y))
-            }
-            None => s.orientation[i] == 0,
-        });
-        let ends = [(s.right, filled.right), (s.unplaced_area, filled.unplaced_area)];
-        if !same || ends.iter().any(|(a, b)| bits(*a) != bits(*b)) {
-            return Err("steps to the end differ from the lifted fill".into());
-        }
-        let plain = plain::plain(job, &self.order, plain::WORK).map_or(vec![], |p| p.gaps);
-        if plain.iter().zip(&s.gap).any(|(a, b)| bits(*a) != bits(*b)) {
-            return Err("gaps of steps to the end differ from the plain planner's".into());
-        }
-        Ok(number)
+        self.state_line("next", number);
+        Ok(())
     }
 
     /// The plan of a filling in the given order, or its refusal, compared with the lifted one and with
@@ -254,6 +223,7 @@ impl Script {
             }
         };
         self.left(&rooms);
+        self.own = None;
         Ok(())
     }
 
@@ -291,6 +261,8 @@ impl Script {
         for slot in self.rooms[a][..self.lengths[a]].iter_mut().skip(n) {
             *slot = garbage(a, &mut state);
         }
+        let rooms = self.lent();
+        self.own = self.own.take().filter(|own| a > 6 || own.fits(&self.state, &rooms));
     }
 
     /// One number of the state.
@@ -317,7 +289,7 @@ impl Script {
             16 => s.right = x,
             _ => return Err(format!("the state has no number {a}")),
         }
-        self.edited = true;
+        self.own = None;
         Ok(())
     }
 
@@ -326,7 +298,7 @@ impl Script {
             b'T' => self.out += &format!("{}\n", String::from_utf8_lossy(data.take(c.n)?)),
             b'J' => {
                 self.job = data.take(c.n)?.to_vec();
-                self.edited = true;
+                self.own = None;
             }
             b'O' => {
                 let list = data.take(2 * c.n)?.chunks(2);
@@ -341,11 +313,12 @@ impl Script {
             b'R' if c.n >= self.lengths[c.a] => return Err(format!("room {} at {}", c.a, c.n)),
             b'R' => {
                 self.rooms[c.a][c.n] = if number_room(c.a) { c.m % 65_536 } else { c.m };
-                self.edited = true;
+                self.own = None;
             }
             b'E' => self.edit(c.a, c.n, c.m)?,
             b'S' => self.start()?,
             b'N' => self.next()?,
+            b'W' => self.withdraw(c.n)?,
             b'F' => self.fill()?,
             b'K' => self.leaf(c.n, c.m, c.a == 1),
             b'P' => self.show(c.a),
@@ -385,7 +358,7 @@ fn plan_line(job: &Job, plan: &Plan) -> String {
 }
 
 pub fn script(data: &[u8], by_hand: bool) -> Result<String, String> {
-    let mut reader = Reader { data, at: 0 };
+    let mut reader = Reader::new(data);
     let mut s = Script::new(by_hand);
     while let Some(command) = reader.command()? {
         s.obey(command, &mut reader)?;

@@ -3,22 +3,27 @@ import collections
 
 from jobs.bits import answer, pack
 from jobs.cases import CLOCKWISE, TRIANGLE, case4, job, part, rect
+from jobs.copy_faults import copy_faults
 from jobs.double_faults import double_faults
 from jobs.draws import Draws
 from jobs.examples import nan_corner
 from jobs.faults import clauses
 from jobs.frame_calls import SECOND, frame_calls
 from jobs.frame_cases import mixed
-from jobs.frames import FRAMES, frame_draws, name
+from jobs.frames import FRAMES, frame_draws, framed, name
 from jobs.gap_faults import gap_faults
+from jobs.random_calls import steps as drawn_steps
 from jobs.random_jobs import random_job
 from jobs.script import (INTERVALS, PLACED, PLACED_ENTRIES, PLACED_FIRSTS, POSITIONS, RECORD, ROOMS,
                          SHAPES, SHEET, SHEET_ENTRIES, SHEET_FIRSTS, Script, answers, needs, trace)
+from jobs.withdrawals import withdrawals
 
 SEED = 11
 FILLINGS = 330
 FRAMED = 48
+DRAWN = 70
 LONGEST = 620
+DRAWN_ROOMS = [903, 604, 1805, 9001, 16384, 100, 300, 701, 242]
 # What each room refuses with.
 SHORT = [20, 20, 20, 21, 21, 20, 20, 22, 30]
 
@@ -192,24 +197,42 @@ def shuffled(r, list_):
     return r.sample(list_, len(list_))
 
 
+def accepted(r, count, most, change):
+    """Random jobs of 2 to `most` copies, as `change` makes them, each with an order that is drawn."""
+    made = 0
+    while made < count:
+        j = change(random_job(r), made)
+        data = pack(j)
+        copies = sum(p["quantity"] for p in j["parts"])
+        order = shuffled(r, [k for k, p in enumerate(j["parts"]) for _ in range(p["quantity"])])
+        if len(data) > LONGEST or copies > most or copies < 2 or answer(data) != "ok":
+            continue
+        made += 1
+        yield made, data, order
+
+
 def fillings(s, title, r, count, frames=None):
     """Random jobs in random orders, of version 2 where there are frames: in one after the other."""
     s.title(title)
-    s.rooms([903, 604, 1805, 9001, 16384, 100, 300, 701, 242])
-    made = 0
-    while made < count:
-        j = random_job(r)
-        data = pack(dict(j, frame=frames[made % len(frames)]) if frames else j)
-        copies = sum(p["quantity"] for p in j["parts"])
-        order = shuffled(r, [k for k, p in enumerate(j["parts"]) for _ in range(p["quantity"])])
-        if len(data) > LONGEST or copies > 40 or copies < 2 or answer(data) != "ok":
-            continue
-        made += 1
+    s.rooms(DRAWN_ROOMS)
+    for made, data, order in accepted(r, count, 40, lambda j, i: dict(j, frame=frames[i % len(frames)]) if frames else j):
         s.job(data)
         s.order(order)
         if made % 5 == 0:
             s.rooms(s.lengths)
         s.fill()
+
+
+def drawn_calls(s, r, f, count):
+    """Random jobs, some of version 2, in random orders: next copies and withdrawals."""
+    s.title("drawn calls")
+    s.rooms(DRAWN_ROOMS)
+    for _, data, order in accepted(r, count, 20, lambda j, i: framed(j, f)):
+        s.job(data)
+        s.order(order)
+        s.start()
+        drawn_steps(s, r, len(order), 3 + r.randrange(len(order) + 4), hashes=False)
+        s.put("V")
 
 
 def refused_leaves(s):
@@ -250,13 +273,16 @@ def script():
     refused_leaves(s)
     gap_faults(s, holed(), order)
     version_2(s)
+    withdrawals(s, holed(), order)
+    copy_faults(s, holed(), order)
+    drawn_calls(s, Draws(SEED + 4), frame_draws(SEED + 4), DRAWN)
     return s
 
 
 def made():
     s = script()
     text, calls = answers(s)
-    count = collections.Counter(" ".join(line.split(" ")[:2]) for line in calls)
+    count = collections.Counter(f"{name} {line.split(' ')[1]}" for name, line in zip(s.calls, calls))
     told = ", ".join(f"{name}: {n}" for name, n in sorted(count.items()))
     told += f"; {len(calls)} calls, {len(s.data)} bytes of script, {len(text)} of answers"
     return {"stdin": bytes(s.data), "stdout": text.encode()}, told
