@@ -7,7 +7,7 @@ import textwrap
 ROOT = pathlib.Path(__file__).resolve().parent.parent
 # The public operations, methods first: each is one public function with an `ensures` and no `requires`; the last may lack. Then their exports for C.
 METHODS = "to from".split()
-OPERATIONS = METHODS + "judge strips_by_kind shape_verdict start next_copy fill nest plan_text program_text".split()
+OPERATIONS = METHODS + "judge strips_by_kind shape_verdict start next_copy withdraw fill nest plan_text program_text".split()
 EXPORTS = "panel_nest panel_fill".split()
 # What the claims speak of beside that: file and definition. The names that a file Claims.antt of proofs/ uses count too.
 CLAIMED = [("Calls", n) for n in "afterCalls refusals stateOutcome plainAfter".split()] + [("Cases", "starred")]

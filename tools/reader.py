@@ -23,6 +23,7 @@ PARTS = [
     ("The leaf", "Leaf"),
     ("The start", "Start Answered"),
     ("The next copy", "NextCopy Reply"),
+    ("Taking a copy back", "Withdraw Replied"),
     ("The filling in a given order", "Accounts Fill Lent"),
     ("The plain planner, and calls", "Plain Calls"),
     ("Order and swaps", "CopyOrder Rounds"),
