@@ -7,9 +7,9 @@ import textwrap
 ROOT = pathlib.Path(__file__).resolve().parent.parent
 # The public operations, methods first: each is one public function with an `ensures` and no `requires`; the last may lack. Then their exports for C.
 METHODS = "to from".split()
-OPERATIONS = METHODS + "judge strips_by_kind shape_verdict start next_copy withdraw fill nest plan_text program_text".split()
+OPERATIONS = METHODS + "judge strips_by_kind shape_verdict start next_copy next_copies withdraw fill nest plan_text program_text".split()
 EXPORTS = "panel_nest panel_fill".split()
-# What the claims speak of beside that: file and definition. The names that a file Claims.antt of proofs/ uses count too.
+# What the claims speak of beside that: file and definition. The names that files Claims.antt and BatchClaims.antt of proofs/ use count too.
 CLAIMED = [("Calls", n) for n in "afterCalls refusals stateOutcome plainAfter".split()] + [("Cases", "starred")]
 DECLARES = re.compile(r"(?:unfoldable |abbrev |pub )+(record |data )?(?!mod )(\S+)")
 
@@ -117,7 +117,7 @@ def closure():
     for stem, name in CLAIMED:
         met = [d for (m, n), d in where.items() if n == name and m.split(".")[-1] == stem]
         todo += met if len(met) == 1 else die(f"{len(met)} definitions `{name}` in files {stem}.antt")
-    for claims in modules("*/proofs/**/Claims.antt").values():
+    for claims in modules("*/proofs/**/*Claims.antt").values():
         todo += [d for d in found(claims, claims.source) if isinstance(d, Definition)]
     seen = {}
     while todo:

@@ -23,15 +23,16 @@ PARTS = [
     ("The leaf", "Leaf"),
     ("The start", "Start Answered"),
     ("The next copy", "NextCopy Reply"),
+    ("The next copies at once", "NextCopies Answer"),
     ("Taking a copy back", "Withdraw Replied"),
     ("The filling in a given order", "Accounts Fill Lent"),
-    ("The plain planner, and calls", "Plain Calls"),
+    ("The plain planner, and calls", "Plain Calls BatchCalls"),
     ("Order and swaps", "CopyOrder Rounds"),
     ("The whole plan", "Nest"),
     ("Other corners: one argument for all eight frames", "FramedJobs"),
     ("The printed plan", "Text Printed Told"),
     ("The program", "Program"),
-    ("Sheets tried by hand", "Case4 Sheets Cases"),
+    ("Sheets tried by hand", "Case4 Sheets Cases BatchCases"),
 ]
 HEAD = """# What a reader must believe
 

@@ -6,3 +6,5 @@ pub mod Copies
 pub mod FramedKinds
 pub mod FramedPlan
 pub mod Claims
+pub mod BatchComputed
+pub mod BatchClaims

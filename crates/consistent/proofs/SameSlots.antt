@@ -30,7 +30,7 @@ unfolding columnFits rememberedOf
 column-same last zero = le-leb 0 (last + 1) (omega arith)
 column-same last (suc c) = ap (leb (suc c)) (add-one last) ∙ leb·suc-suc c last
 
-track-same : (taken last : ℕ) (next looks : List ℕ) (i : ℕ) → trackTest taken last (getD next i 0) (getD looks i 0) ≡ trackFits taken last (trackAt next looks i)
+pub track-same : (taken last : ℕ) (next looks : List ℕ) (i : ℕ) → trackTest taken last (getD next i 0) (getD looks i 0) ≡ trackFits taken last (trackAt next looks i)
 unfolding trackTest trackFits trackAt
 track-same taken last next looks i = ap₂ _&&_ (column-same last (getD next i 0)) (ap (λ n. leb (getD looks i 0) (n + taken)) (add-one last))
 
@@ -58,7 +58,7 @@ module _ (t : Tables) (room : List Float) (taken : ℕ) (next looks : List ℕ) 
   unfolding shapeAt boundsAt States.boundsAt
   bounds-same i = refl
 
-  last-of-slot : (i : ℕ) → lastFor (columnsOf (t .«sheet_bounds») (boundsAt (t .«inset_bounds») i) (t .resolution)) ≡ Search.lastOf p (shapeAt t room i)
+  pub last-of-slot : (i : ℕ) → lastFor (columnsOf (t .«sheet_bounds») (boundsAt (t .«inset_bounds») i) (t .resolution)) ≡ Search.lastOf p (shapeAt t room i)
   last-of-slot i =
       ap (λ b. lastFor (columnsOf (t .«sheet_bounds») b (t .resolution))) (bounds-same i)
       ∙ (ap₂ (λ b r. lastFor (columnsOf b (shapeAt t room i .bounds) r)) (sym eb) (sym er) ∙ last-is p (shapeAt t room i))

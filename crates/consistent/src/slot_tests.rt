@@ -61,7 +61,7 @@ fn last_for(k: Columns) -> usize
 
 // The remembered column is one of the orientation's, or none; its look count is at most what the
 // copies taken can have cost. `next` is 0 for none, or one more than the column.
-fn track_fits(k: Columns, next: usize, looks: usize, taken: usize) -> bool
+pub fn track_fits(k: Columns, next: usize, looks: usize, taken: usize) -> bool
     requires { ⌜ (k .count ≤ 4000000000) × (taken ≤ 4096) ⌝ }
     ensures { λ r. ⌜ r ≡ trackTest taken (lastFor k) next looks ⌝ }
 {

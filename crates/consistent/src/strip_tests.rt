@@ -110,7 +110,7 @@ pub fn layout_fits(right: f64, area: f64) -> bool
 }
 
 // A standing copy's gap (document 02, W7).
-fn gap_fits(gap: f64) -> bool
+pub fn gap_fits(gap: f64) -> bool
     ensures { λ r. ⌜ r ≡ gapFits gap ⌝ }
 {
     if gap >= 0.0 {

@@ -19,7 +19,8 @@ use Rattle.index.proofs.Steps.{keep-yes, keep-no, keep-none}
 use Rattle.index.proofs.Flat.{keep-append, flat-snoc, length-upFrom, getD-upFrom}
 use Rattle.enter.specs.inner.EntryRoom.{entriesIn, startOf, startsOf, Rooms, enterOf}
 use Rattle.enter.specs.span_marks.inner.NewEntries.{newIn}
-use Rattle.enter.proofs.span_marks.NewIn.{upFrom-append, cleared-to}
+use Rattle.index.proofs.entries.Raising.{cleared-to}
+use Rattle.enter.proofs.span_marks.NewIn.{upFrom-append}
 use Rattle.enter.specs.inner.Gaps.{Counted}
 use Rattle.gaps.specs.inner.OpenGaps.{before}
 use Rattle.gaps.proofs.Before.{before-next, before-first}

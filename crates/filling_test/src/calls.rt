@@ -1,4 +1,5 @@
-// The calls, in the slots that are lent, with their printed lines.
+// The calls, in the slots that are lent, with their printed lines. Those that take copies or take one back are in steps.rt.
+use crate::steps;
 use filling::State;
 use index::Bucket;
 use index::Entry;
@@ -7,20 +8,9 @@ use replay::lend;
 use replay::show;
 use report::NestResult;
 use start::replies::Started;
-use step::Stepped;
 
 fn show_start(r: Started) -> State {
     io::write_all(1, b"start ");
-    let v = r.verdict;
-    show::verdict(v);
-    let s = r.state;
-    show::state(s);
-    show::end();
-    s
-}
-
-fn show_step(r: Stepped) -> State {
-    io::write_all(1, b"next ");
     let v = r.verdict;
     show::verdict(v);
     let s = r.state;
@@ -78,126 +68,6 @@ fn start(
         &mut positions[..p],
     );
     show_start(r)
-}
-
-// The next copy, in the slots that are lent.
-fn next_copy(
-    state: State,
-    lengths: &[usize],
-    bytes: &[u8],
-    shapes: &[f64],
-    sheet: &[f64],
-    placed: &mut [f64],
-    sheet_entries: &[Entry],
-    placed_entries: &mut [Entry],
-    sheet_firsts: &[Bucket],
-    placed_firsts: &mut [Bucket],
-    intervals: &mut [f64],
-) -> State {
-    let j = lend::lent(lengths, 9, bytes.len());
-    let s0 = lend::lent(lengths, 0, shapes.len());
-    let s1 = lend::lent(lengths, 1, sheet.len());
-    let s2 = lend::lent(lengths, 2, placed.len());
-    let e1 = lend::lent(lengths, 3, sheet_entries.len());
-    let e2 = lend::lent(lengths, 4, placed_entries.len());
-    let f1 = lend::lent(lengths, 5, sheet_firsts.len());
-    let f2 = lend::lent(lengths, 6, placed_firsts.len());
-    let v = lend::lent(lengths, 7, intervals.len());
-    let r = next_copy::next_copy(
-        &bytes[..j],
-        state,
-        &shapes[..s0],
-        &sheet[..s1],
-        &mut placed[..s2],
-        &sheet_entries[..e1],
-        &mut placed_entries[..e2],
-        &sheet_firsts[..f1],
-        &mut placed_firsts[..f2],
-        &mut intervals[..v],
-    );
-    show_step(r)
-}
-
-// The copy at a place taken back, in the slots that are lent.
-fn withdraw(
-    place: usize,
-    state: State,
-    lengths: &[usize],
-    bytes: &[u8],
-    shapes: &[f64],
-    sheet: &[f64],
-    placed: &mut [f64],
-    sheet_entries: &[Entry],
-    placed_entries: &mut [Entry],
-    sheet_firsts: &[Bucket],
-    placed_firsts: &mut [Bucket],
-) -> State {
-    let j = lend::lent(lengths, 9, bytes.len());
-    let s0 = lend::lent(lengths, 0, shapes.len());
-    let s1 = lend::lent(lengths, 1, sheet.len());
-    let s2 = lend::lent(lengths, 2, placed.len());
-    let e1 = lend::lent(lengths, 3, sheet_entries.len());
-    let e2 = lend::lent(lengths, 4, placed_entries.len());
-    let f1 = lend::lent(lengths, 5, sheet_firsts.len());
-    let f2 = lend::lent(lengths, 6, placed_firsts.len());
-    let r = withdraw::withdraw(
-        &bytes[..j],
-        place,
-        state,
-        &shapes[..s0],
-        &sheet[..s1],
-        &mut placed[..s2],
-        &sheet_entries[..e1],
-        &mut placed_entries[..e2],
-        &sheet_firsts[..f1],
-        &mut placed_firsts[..f2],
-    );
-    show_step(r)
-}
-
-// The next copy (N), or the copy at place n taken back (W).
-fn step(
-    c: Command,
-    state: State,
-    lengths: &[usize],
-    bytes: &[u8],
-    shapes: &[f64],
-    sheet: &[f64],
-    placed: &mut [f64],
-    sheet_entries: &[Entry],
-    placed_entries: &mut [Entry],
-    sheet_firsts: &[Bucket],
-    placed_firsts: &mut [Bucket],
-    intervals: &mut [f64],
-) -> State {
-    if c.letter == 78 {
-        return next_copy(
-            state,
-            lengths,
-            bytes,
-            shapes,
-            sheet,
-            placed,
-            sheet_entries,
-            placed_entries,
-            sheet_firsts,
-            placed_firsts,
-            intervals,
-        );
-    }
-    withdraw(
-        c.n,
-        state,
-        lengths,
-        bytes,
-        shapes,
-        sheet,
-        placed,
-        sheet_entries,
-        placed_entries,
-        sheet_firsts,
-        placed_firsts,
-    )
 }
 
 // A filling, in the slots that are lent.
@@ -292,16 +162,7 @@ fn start_or_fill(
     state
 }
 
-// Whether a call takes a single copy, or takes one back.
-fn is_step(letter: u8) -> bool {
-    match letter {
-        78 => true,
-        87 => true,
-        _ => false,
-    }
-}
-
-// The calls: a single step, a start or a filling.
+// The calls: steps, a start or a filling.
 pub fn call(
     c: Command,
     state: State,
@@ -318,8 +179,8 @@ pub fn call(
     intervals: &mut [f64],
     positions: &mut [f64],
 ) -> State {
-    if is_step(c.letter) {
-        return step(
+    if steps::is_step(c.letter) {
+        return steps::step(
             c,
             state,
             lengths,

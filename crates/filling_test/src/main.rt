@@ -1,9 +1,10 @@
-// Replays scripts of calls: start, next copy, withdrawal, a filling in a given order, and the leaf, in rooms that
-// are filled with garbage and in states that are changed by hand. stdin has the commands that
+// Replays scripts of calls: start, next copy, the next n copies, withdrawal, a filling in a given order, and the leaf,
+// in rooms that are filled with garbage and in states that are changed by hand. stdin has the commands that
 // oracle/README.md describes; after each call one line has its answer and the state's hash, another
 // every room's. The stored answers are those of the oracle's planner with rooms (oracle/samples/filling.py),
 // never of this code.
 mod calls;
+mod steps;
 
 ghost use Prim.Native.Nat.{_≤_, _<_};
 use filling::State;
@@ -73,6 +74,7 @@ fn turns_left(letter: u8, left: u64) -> u64
 fn is_call(letter: u8) -> bool {
     match letter {
         70 => true,
+        77 => true,
         78 => true,
         83 => true,
         87 => true,

@@ -9,10 +9,10 @@ use lib.ListN.{length, getD}
 use lib.Seq.{slice, slice-cons}
 use lib.Dec.{T, leb, eqb, leb→le, eqb→eq}
 use lib.Ieee.{Float, binary64, lt}
-use borrow.Author.Tests.{le-leb, eq-eqb, ne-eqb}
+use borrow.Author.Tests.{le-leb, lt-leb, eq-eqb, ne-eqb}
 use Rattle.numbers.proofs.Doubles.{k, o, Finite}
 use Rattle.numbers.specs.Numbers.{smaller, larger}
-use Rattle.numbers.proofs.Truth.{either}
+use Rattle.numbers.proofs.Truth.{either, below-or-not}
 use Rattle.trapezoid.specs.declared.Trapezoid.{Trapezoid}
 use Rattle.trapezoid.specs.Strip.{stripAt, capacity}
 use Rattle.index.specs.declared.Index.{Index}
@@ -34,9 +34,20 @@ covers-low ix p b e = go (leb (bucketIn ix (p .x0)) b) (leb→le (bucketIn ix (p
     go true f h = f tt
     go false f h = absurd (mathlib.Core.Bool.true≢false (sym h))
 
-covers-yes : (ix : Index) (p : Trapezoid) (b : ℕ) → bucketIn ix (p .x0) ≤ b → b ≤ bucketIn ix (p .x1) → covers ix p b ≡ true
+pub covers-yes : (ix : Index) (p : Trapezoid) (b : ℕ) → bucketIn ix (p .x0) ≤ b → b ≤ bucketIn ix (p .x1) → covers ix p b ≡ true
 unfolding covers
 covers-yes ix p b h k = rw (le-leb (bucketIn ix (p .x0)) b h, le-leb b (bucketIn ix (p .x1)) k)
+
+pub covers-no : (ix : Index) (p : Trapezoid) (b : ℕ) → (bucketIn ix (p .x0) ≤ b → b ≤ bucketIn ix (p .x1) → ⊥) → covers ix p b ≡ false
+unfolding covers
+covers-no ix p b h =
+    elim (below-or-not b (bucketIn ix (p .x0))) [
+      | inl l ↦ rw (lt-leb (bucketIn ix (p .x0)) b l)
+      | inr l ↦ elim (below-or-not (bucketIn ix (p .x1)) b) [
+        | inl m ↦ rw (le-leb (bucketIn ix (p .x0)) b l, lt-leb b (bucketIn ix (p .x1)) m)
+        | inr m ↦ absurd (h l m)
+      ]
+    ]
 
 -- ---- a pair
 module _ (ix : Index) (I : Fair ix) (m : Moving) (M0 : Bounded 4000000 (m .x0)) (M1 : Bounded 4000000 (m .x1)) (p : Trapezoid) (P0 : Bounded 4000000 (p .x0)) (P1 : Bounded 4000000 (p .x1)) where

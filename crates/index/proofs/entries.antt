@@ -1,2 +1,4 @@
 pub mod Following
-pub mod StartsFound
+pub mod Raising
+pub mod Counting
+pub mod Comparing

@@ -37,7 +37,7 @@ use Rattle.step.specs.inner.Going.{rooms, Going, takenOf, answerOf, step
 use Rattle.step.proofs.Allowed.{kind, turns, listed, known, turns-are}
 use Rattle.step.proofs.Kept.{place-kept}
 
-refused-by : (o : Outcome) (k : Refusal) → verdictOf o ≡ Verdicts.Refused k → o ≡ Refused k
+pub refused-by : (o : Outcome) (k : Refusal) → verdictOf o ≡ Verdicts.Refused k → o ≡ Refused k
 refused-by (At c) k e = absurd (accepted≢refused e)
 refused-by Nowhere k e = absurd (accepted≢refused e)
 refused-by (Refused r) k e = ap Refused (same-refusal e)

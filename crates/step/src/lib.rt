@@ -24,7 +24,7 @@ pub struct Stepped {
 }
 
 // What stands beside the rooms.
-fn totals_of(state: State) -> Totals
+pub fn totals_of(state: State) -> Totals
     ensures { λ r. ⌜ r ≡ totalsOf state ⌝ }
 {
     let layout = state.layout;
@@ -43,7 +43,7 @@ fn no_tracks() -> [usize; 2048]
 }
 
 // The slots' numbers of the state in one table.
-fn tracks_of(state: State) -> [usize; 2048]
+pub fn tracks_of(state: State) -> [usize; 2048]
     ensures { λ r. ⌜ (length r ≡ slotNumbers) × (nextColumns r ≡ state .«next_column») × (lookCounts r ≡ state .«look_counts») ⌝ }
 {
     let next_column = state.next_column;

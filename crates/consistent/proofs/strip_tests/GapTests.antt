@@ -65,11 +65,11 @@ module _ (orientation : List ℕ) (gap : List Float) where
 
 -- ---- they are the definition's
 
-and-true : (a : Bool) → a && true ≡ a
+pub and-true : (a : Bool) → a && true ≡ a
 and-true true = refl
 and-true false = refl
 
-and-both : (a b c : Bool) → a && (b && c) ≡ (a && b) && c
+pub and-both : (a b c : Bool) → a && (b && c) ≡ (a && b) && c
 and-both true b c = refl
 and-both false b c = refl
 

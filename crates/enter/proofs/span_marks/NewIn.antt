@@ -6,12 +6,11 @@ use mathlib.Core.Path.{_≡_, refl, sym, ap, _∙_, subst}
 use mathlib.Core.Logic.{_⊎_, inl, inr}
 use mathlib.Core.Bool.{Bool, true, false, _&&_}
 use mathlib.Core.List.{List, [], _∷_, _++_}
-use lib.ListN.{length, getD, set, length-append}
-use lib.Seq.{getD-set-same, getD-set-other}
+use lib.ListN.{length, length-append}
 use lib.Dec.{T, leb, leb→le}
 use lib.Ieee.{Float}
 use borrow.Author.Tests.{le-leb}
-use Rattle.numbers.proofs.Truth.{either, below-or-not}
+use Rattle.numbers.proofs.Truth.{either}
 use Rattle.trapezoid.specs.Strip.{stripAt}
 use Rattle.index.specs.declared.Index.{Index}
 use Rattle.index.specs.Buckets.{upFrom, keep, bucketIn}
@@ -104,14 +103,3 @@ new-next ix standing from i lo hi b h x y =
     let s = count-step ix standing (i - from) from b (length (newIn ix standing (i - from) from b)) refl in
     let t : length (newIn ix standing (i - from) from b) + one (bucketIn ix (stripAt standing i .x0)) (bucketIn ix (stripAt standing i .x1)) b ≡ length (newIn ix standing (i - from + 1) from b) = subst (λ (k : ℕ). length (newIn ix standing (i - from) from b) + one (bucketIn ix (stripAt standing k .x0)) (bucketIn ix (stripAt standing k .x1)) b ≡ length (newIn ix standing (i - from + 1) from b)) e s in
     ap (λ (k : ℕ). length (newIn ix standing k from b)) f ∙ (sym t ∙ (ap (λ (k : ℕ). length (newIn ix standing (i - from) from b) + one k (bucketIn ix (stripAt standing i .x1)) b) (sym x) ∙ ap (λ (k : ℕ). length (newIn ix standing (i - from) from b) + one lo k b) (sym y)))
-
--- ---- a table set to one value from `first` on
-pub cleared-to : (m : List ℕ) (first b v : ℕ) → b < length m → ((d : ℕ) → first ≤ d → d < b → getD m d 0 ≡ v) → (d : ℕ) → first ≤ d → d < b + 1 → getD (set m b v) d 0 ≡ v
-cleared-to m first b v w z d h l = go (below-or-not d b)
-  where
-    early : d < b → d ≡ b → ⊥
-    early a q = omega arith
-
-    go : (d < b) ⊎ (b ≤ d) → getD (set m b v) d 0 ≡ v
-    go (inl a) = getD-set-other m b d v 0 (λ q. early a q) ∙ z d h a
-    go (inr a) = let q : b ≡ d = omega arith in subst (λ (k : ℕ). getD (set m b v) k 0 ≡ v) q (getD-set-same m b v 0 w)

@@ -1,22 +1,17 @@
 -- Laws of the walk. Assumes nothing.
-use Prim.Native.Nat.{ℕ, zero, suc, _+_, _-_, _*_, _<_, _≤_}
+use Prim.Native.Nat.{ℕ, suc, _+_, _-_, _<_, _≤_}
 use native.Mathlib.Omega.{arith}
 use native.Mathlib.Numerals.{add-one}
-use mathlib.Core.Path.{_≡_, refl, sym, ap, _∙_, subst}
+use mathlib.Core.Path.{_≡_, refl, sym, ap, _∙_}
 use mathlib.Core.Logic.{_⊎_, inl, inr}
-use mathlib.Core.Bool.{Bool, true, false, _&&_, true≢false}
-use mathlib.Core.List.{List, [], _∷_, _++_, flatMap}
-use lib.ListN.{length, getD, take, drop}
+use mathlib.Core.Bool.{Bool, true, false, true≢false}
+use mathlib.Core.List.{List, [], _∷_, _++_}
+use lib.ListN.{length, getD}
 use lib.Seq.{slice, slice-cons, slice-empty}
 use lib.Dec.{ltb, eqb}
-use lib.Ieee.{Float}
 use borrow.Author.Tests.{lt-ltb, le-ltb, eq-eqb, ne-eqb}
 use Rattle.numbers.proofs.Truth.{either}
-use Rattle.trapezoid.specs.Strip.{stripAt}
-use Rattle.index.specs.declared.Index.{Index}
-use Rattle.index.specs.Buckets.{upFrom}
-use Rattle.index.specs.Buckets.{keep, entriesOf}
-use Rattle.index.specs.inner.Listing.{covers, enteredFrom}
+use Rattle.index.specs.Buckets.{upFrom, keep}
 use Rattle.index.specs.declared.entries.Walked.{Walked}
 use Rattle.index.specs.declared.entries.Walked.the-variants.{At, Wrong}
 use Rattle.index.specs.entries.inner.Walk.{follows}
@@ -111,11 +106,3 @@ one-in test i e = rw (e, keep)
 pub one-out : (test : ℕ → Bool) (i : ℕ) → test i ≡ false → keep test (i ∷ []) ≡ []
 unfolding keep
 one-out test i e = rw (e, keep)
-
-pub flat-on : (f : ℕ → List ℕ) (n i : ℕ) → i < n → flatMap f (upFrom (n - i) i) ≡ f i ++ flatMap f (upFrom (n - (i + 1)) (i + 1))
-unfolding flatMap upFrom
-flat-on f n i h = let e : n - i ≡ suc (n - (i + 1)) = omega arith in rw (e, add-one i)
-
-pub flat-end : (f : ℕ → List ℕ) (n i : ℕ) → n ≤ i → flatMap f (upFrom (n - i) i) ≡ []
-unfolding flatMap upFrom
-flat-end f n i h = let e : n - i ≡ 0 = omega arith in rw e

@@ -2,7 +2,7 @@ use mathlib.Core.Path.{_≡_, _∙_, refl}
 use Prim.Native.Nat.{ℕ, _-_, _≤_, _<_}
 use native.Mathlib.Omega.{arith}
 use lib.ListN.{length, getD, length-set}
-use Rattle.enter.proofs.span_marks.NewIn.{cleared-to}
+use Rattle.index.proofs.entries.Raising.{cleared-to}
 use Rattle.enter.proofs.span_marks.clear.Statement.{statement}
 use Rattle.enter.proofs.span_marks.clear.Tie as tie
 use Rattle.enter.proofs.span_marks.clear.Reads as reads

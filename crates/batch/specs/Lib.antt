@@ -1,0 +1,3 @@
+pub mod NextCopies
+pub mod BatchCalls
+pub mod inner

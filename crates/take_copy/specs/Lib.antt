@@ -1,0 +1,3 @@
+pub mod copy_tests
+pub mod kept_tracks
+pub mod turn
