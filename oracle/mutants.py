@@ -21,7 +21,7 @@ from jobs import wide
 from jobs.bits import read_container
 from jobs.oracle import BUILD, HERE, ROOT
 from jobs.script import CALLS
-from wrong import changes, frames, planner, withdrawals
+from wrong import changes, frames, planner, stacks, withdrawals
 from wrong.changes import WIDE
 
 WORK = os.path.join(BUILD, "mutants")
@@ -29,7 +29,7 @@ CRATES = os.path.join(ROOT, "crates")
 # First words of a script's answers; no title begins so.
 ANSWERS = [*CALLS, "room", "rooms"]
 MUTANTS = planner.MUTANTS + changes.MUTANTS + frames.MUTANTS
-SCRIPT = changes.SCRIPT + frames.SCRIPT + withdrawals.SCRIPT
+SCRIPT = changes.SCRIPT + frames.SCRIPT + withdrawals.SCRIPT + stacks.SCRIPT
 EQUAL = planner.EQUAL + changes.EQUAL
 
 

@@ -1,4 +1,4 @@
-"""N random scripts of single steps, next copy and withdrawal: the program filling_test beside the oracle, whose planner
+"""N random scripts of next copies, withdrawals and stacks: the program filling_test beside the oracle, whose planner
 with rooms is compared with the plain planner and with the lifted look. compare.calls PROGRAM N SEED; where PROGRAM is -
 the oracle alone. See fill.sh."""
 import collections
@@ -39,8 +39,10 @@ def main():
         told = answered([ORACLE, "--script"], list_)
         mine = told if program == "-" else answered([program], list_)
         for i, (a, b) in enumerate(zip(told, mine)):
-            lines = [line.split(" ") for line in a.splitlines() if line.startswith(("start", "next"))]
+            lines = [line.split(" ") for line in a.splitlines() if line.startswith(("start", "next", "stack"))]
             counts.update(f"{name} {line[1]}" for name, line in zip(names[i], lines))
+            took = [int(line[2]) for line in lines if line[0] == "stack"]
+            counts.update({"stacks": len(took), "copies taken by stacks": sum(took)})
             if a != b or a.startswith("differ"):
                 differ += 1
                 wrong.append((f"job {done + i}", list_[i]))

@@ -3,7 +3,7 @@
 # filling_test, built by `rt check filling_test`) beside the lifted `Planner::fill`: positions, right,
 # unplaced area, look counts, refusals and every room. TEST=path names another program. The last line
 # is 'N jobs, D mismatches'; exits 1 if D is not 0. Jobs that differ stay in build/compare/fill.
-# fill.sh --calls N SEED: N random scripts of next copies and withdrawals in the same way, beside the
+# fill.sh --calls N SEED: N random scripts of next copies, withdrawals and stacks in the same way, beside the
 # oracle's planner with rooms, which is compared with the plain planner and at every look with the
 # lifted one; 'N scripts, D mismatches'; scripts that differ stay in build/compare/calls.
 # fill.sh --alone N SEED: the same scripts by the oracle alone.

@@ -16,9 +16,9 @@ NUMBERS = ["resolution", "sheet_bounds", "sheet_strips", "apart_strips", "inset_
            "order", "taken", "next_column", "look_counts", "placed_strips", "orientation", "x",
            "y", "gap", "unplaced_area", "right"]
 # The calls by their letters.
-NAMES = {"S": "start", "N": "next", "W": "withdraw", "F": "fill", "K": "leaf"}
+NAMES = {"S": "start", "N": "next", "M": "stack", "W": "withdraw", "F": "fill", "K": "leaf"}
 # First words of the lines that answer calls; no title begins so. A withdrawal answers as next copy does.
-CALLS = ["start", "next", "fill", "leaf"]
+CALLS = ["start", "next", "stack", "fill", "leaf"]
 
 
 class Script:
@@ -28,7 +28,8 @@ class Script:
         self.data = bytearray()
         self.seed = seed
         self.lengths = [0] * len(ROOMS)
-        # The number that each call must answer, or nothing where that is left to the oracle.
+        # The number that each call must answer, of a stack with how many copies it took; or nothing where that is left to
+        # the oracle.
         self.wanted = []
         # What each call is.
         self.calls = []
@@ -85,6 +86,12 @@ class Script:
         if self.lengths[INTERVALS]:
             self.garbage(INTERVALS)
         self.call("N", want, hashes)
+
+    def stack(self, n, want=None, hashes=True):
+        """The next n copies, with garbage in the interval room; wanted are the number and how many it took."""
+        if self.lengths[INTERVALS]:
+            self.garbage(INTERVALS)
+        self.call("M", want, hashes, n=n)
 
     def withdraw(self, place, want=None, hashes=True):
         """The copy at a place is taken back."""
@@ -145,6 +152,12 @@ class Call:
         return [sum(int(s[6 + n]) for s in self.slots) for n in (0, 1)]
 
 
+def agrees(line, want):
+    """Whether a call's line has what it must answer."""
+    wanted = want if isinstance(want, tuple) else (want,)
+    return line.split(" ")[1:1 + len(wanted)] == [str(n) for n in wanted]
+
+
 def answers(s):
     """The oracle's answers to a script, each call's number as it must be."""
     done = subprocess.run([ORACLE, "--script"], input=bytes(s.data), capture_output=True)
@@ -155,7 +168,7 @@ def answers(s):
     if len(calls) != len(s.wanted):
         raise SystemExit(f"{len(s.wanted)} calls, {len(calls)} answers")
     for i, (line, want) in enumerate(zip(calls, s.wanted)):
-        if want is not None and line.split(" ")[1] != str(want):
+        if want is not None and not agrees(line, want):
             raise SystemExit(f"call {i} must answer {want}: {line}")
     return text, calls
 

@@ -19,6 +19,7 @@ mod print;
 mod probed;
 mod rooms;
 mod script;
+mod stack;
 mod strips;
 mod surroundings;
 mod timed;

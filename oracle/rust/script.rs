@@ -11,6 +11,7 @@ use crate::own::Own;
 use crate::plain::{self, Request};
 use crate::print::{hex, offcut, position_room, positions};
 use crate::rooms::{numbers, Rooms, Sizes, ROOMS};
+use crate::stack::next_copies;
 use crate::watch::Watch;
 
 /// The longest rooms that a script can ask for, in slots: shapes, sheet, placed, sheet entries,
@@ -108,11 +109,12 @@ impl Script {
         self.out += "\n";
     }
 
-    fn state_line(&mut self, name: &str, number: u32) {
+    /// What a call answers, then the state.
+    fn state_line(&mut self, answer: &str) {
         let s = &self.state;
         let (right, area) = (hex(s.right), hex(s.unplaced_area));
         let state = state_hash(s);
-        self.out += &format!("{name} {number} {} {} {right} {area}", s.taken, s.placed_strips);
+        self.out += &format!("{answer} {} {} {right} {area}", s.taken, s.placed_strips);
         self.out += &format!(" {state:016x}\n");
     }
 
@@ -137,7 +139,7 @@ impl Script {
             }
         };
         self.left(&rooms);
-        self.state_line("start", number);
+        self.state_line(&format!("start {number}"));
         Ok(())
     }
 
@@ -149,8 +151,8 @@ impl Script {
         }
     }
 
-    /// Next copy: the job's refusal, then 31, then the planner with rooms.
-    fn next(&mut self) -> Result<(), String> {
+    /// Next copy: the job's refusal, then 31, then the planner with rooms; its number or 0.
+    fn next_copy(&mut self) -> Result<u32, String> {
         let mut rooms = self.lent();
         let number = match job::read(&self.job) {
             Err(n) => n,
@@ -169,6 +171,22 @@ impl Script {
         self.called(Request::Next, number, &rooms)
     }
 
+    fn next(&mut self) -> Result<(), String> {
+        let number = self.next_copy()?;
+        self.state_line(&format!("next {number}"));
+        Ok(())
+    }
+
+    /// The next n copies. The interval room is zeroed before them too.
+    fn stack(&mut self, n: usize) -> Result<(), String> {
+        let mut rooms = self.lent();
+        rooms.clear_intervals();
+        self.left(&rooms);
+        let taken = next_copies(n, || self.next_copy())?;
+        self.state_line(&format!("stack {} {}", taken.number, taken.took));
+        Ok(())
+    }
+
     /// Takes the copy at place n back: the job's refusal, then the planner with rooms. Of the rooms it
     /// is lent all but intervals and positions, which stay.
     fn withdraw(&mut self, n: usize) -> Result<(), String> {
@@ -177,17 +195,18 @@ impl Script {
             Err(n) => n,
             Ok(job) => self.state.withdraw(&job, &mut rooms, n),
         };
-        self.called(Request::Back(n), number, &rooms)
+        self.called(Request::Back(n), number, &rooms)?;
+        self.state_line(&format!("next {number}"));
+        Ok(())
     }
 
-    /// After a single step: its rooms, the comparisons and the answer.
-    fn called(&mut self, request: Request, number: u32, rooms: &Rooms) -> Result<(), String> {
+    /// After a single step: its rooms and the comparisons. Its number again.
+    fn called(&mut self, request: Request, number: u32, rooms: &Rooms) -> Result<u32, String> {
         self.left(rooms);
         if let Some(own) = &mut self.own {
             own.called(request, number, &self.state, rooms)?;
         }
-        self.state_line("next", number);
-        Ok(())
+        Ok(number)
     }
 
     /// The plan of a filling in the given order, or its refusal, compared with the lifted one and with
@@ -318,6 +337,7 @@ impl Script {
             b'E' => self.edit(c.a, c.n, c.m)?,
             b'S' => self.start()?,
             b'N' => self.next()?,
+            b'M' => self.stack(c.n)?,
             b'W' => self.withdraw(c.n)?,
             b'F' => self.fill()?,
             b'K' => self.leaf(c.n, c.m, c.a == 1),

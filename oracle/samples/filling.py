@@ -16,12 +16,15 @@ from jobs.random_calls import steps as drawn_steps
 from jobs.random_jobs import random_job
 from jobs.script import (INTERVALS, PLACED, PLACED_ENTRIES, PLACED_FIRSTS, POSITIONS, RECORD, ROOMS,
                          SHAPES, SHEET, SHEET_ENTRIES, SHEET_FIRSTS, Script, answers, needs, trace)
+from jobs.stack_faults import stack_faults
+from jobs.stacks import stacks
 from jobs.withdrawals import withdrawals
 
 SEED = 11
 FILLINGS = 330
 FRAMED = 48
 DRAWN = 70
+STACKED = 16
 LONGEST = 620
 DRAWN_ROOMS = [903, 604, 1805, 9001, 16384, 100, 300, 701, 242]
 # What each room refuses with.
@@ -223,15 +226,15 @@ def fillings(s, title, r, count, frames=None):
         s.fill()
 
 
-def drawn_calls(s, r, f, count):
-    """Random jobs, some of version 2, in random orders: next copies and withdrawals."""
-    s.title("drawn calls")
+def drawn_calls(s, title, r, f, count, stacks=0):
+    """Random jobs, some of version 2, in random orders: next copies and withdrawals, and so many stacks of one."""
+    s.title(title)
     s.rooms(DRAWN_ROOMS)
     for _, data, order in accepted(r, count, 20, lambda j, i: framed(j, f)):
         s.job(data)
         s.order(order)
         s.start()
-        drawn_steps(s, r, len(order), 3 + r.randrange(len(order) + 4), hashes=False)
+        drawn_steps(s, r, len(order), 3 + r.randrange(len(order) + 4), hashes=False, stacks=stacks)
         s.put("V")
 
 
@@ -275,7 +278,10 @@ def script():
     version_2(s)
     withdrawals(s, holed(), order)
     copy_faults(s, holed(), order)
-    drawn_calls(s, Draws(SEED + 4), frame_draws(SEED + 4), DRAWN)
+    drawn_calls(s, "drawn calls", Draws(SEED + 4), frame_draws(SEED + 4), DRAWN)
+    stacks(s, step_jobs(), holed(), order, many_slots())
+    stack_faults(s, holed(), order)
+    drawn_calls(s, "drawn calls of all three kinds", Draws(SEED + 5), frame_draws(SEED + 5), STACKED, 0.4)
     return s
 
 

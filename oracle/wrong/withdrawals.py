@@ -79,8 +79,8 @@ SCRIPT = [
     wrong("zeros only in the freed entries", ("        let later =", USED + "        let later ="), (ENTRIES, ENTRIES.replace(".fill", "[..used].fill"))),
     without("the freed bucket numbers left", FIRSTS),
     wrong("zeros only in the freed bucket numbers", (FIRSTS, FIRSTS.replace(".fill", "[..self.placed_strips + count].fill"))),
-    wrong("the interval room zeroed", ("script", "        self.called(Request::Back(n), number, &rooms)\n",
-                                       "        rooms.clear_intervals();\n        self.called(Request::Back(n), number, &rooms)\n")),
+    wrong("the interval room zeroed", ("script", "        self.called(Request::Back(n), number, &rooms)?;\n",
+                                       "        rooms.clear_intervals();\n        self.called(Request::Back(n), number, &rooms)?;\n")),
     # right
     without("right not found anew", RIGHT),
     wrong("right of all copies", (ENDS + RIGHT, "        self.right = right;\n"),
