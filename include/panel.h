@@ -5,9 +5,9 @@
    EXAMPLE  examples/c/panel.c is a whole program; the call at the end of this file is its heart.
 
    A job (the sheet, the kinds of panels, their quantities) goes in as bytes, a plan comes out as text and as a table of
-   positions. Nothing is allocated, read from a file, written to one or kept between calls: all memory is the caller's, beside
-   about 0.6 megabytes of stack during a call. Calls in several threads do not disturb each other where their rooms are
-   different ones. Of the C library memset and memcpy are called, nothing else.
+   positions; or a list of placed panels is judged. Nothing is allocated, read from a file, written to one or kept between
+   calls: all memory is the caller's, beside about 0.6 megabytes of stack during a call. Calls in several threads do not
+   disturb each other where their rooms are different ones. Of the C library memset and memcpy are called, nothing else.
 
    UNITS    Coordinates and the resolution are in mm, areas in mm2. Kinds, copies and orientations are numbered from 0, in
             the job's order.
@@ -48,22 +48,28 @@
             has 16 bits, and no more than there are numbers for; `shapes` has no such limit.
 
    REFUSALS Fields are judged as they are read: 1, 3 to 6; after the last 2, 7, 8; then 30; 10; 20 and 21 of the sheet; 20 of the
-            shapes; then the copies. The first that is met is given.
+            shapes; then the copies. The first that is met is given. panel_layout has no 10, 22 and 30; after the shapes come its
+            lines, each with 4, 9, 25, 26, 27, 20 and 21 in that order.
                1  the bytes end inside a field
                2  a filling bit is set, or a further byte follows
                3  the version is neither 1 nor 2
-               4  the resolution, a coordinate or an area is not finite
+               4  the resolution, a coordinate or an area is not finite; of a line its x or y
                5  a coordinate beyond +-100,000 mm, an area outside 0 to 1e12 mm2, a resolution outside 0.001 to 10,000 mm
                6  a count or quantity is outside its range
                7  more than 4,096 copies in all
                8  the sheet's width, along x its height, / resolution is above 1,000,000
+               9  panel_layout alone: the job lacks the line's kind, or the kind its orientation
               10  panel_fill alone: the order is not a rearrangement of the job's copies
               20  shapes, sheet, placed, sheet_firsts or placed_firsts is too short for the strips, or a strip of the sheet or of
                   the placed copies would be the 65,537th
               21  sheet_entries or placed_entries is too short
               22  intervals is too short
+              25  panel_layout alone: one copy more than the kind's quantity
+              26  panel_layout alone: x is outside its orientation's range and none of its columns, or y outside its range; anywhere,
+                  where the outline is wider or higher than the sheet
+              27  panel_layout alone: in the way of the sheet's edge, of a hole or of an earlier line's copy
               30  positions is too short for the job's copies, placed or not
-            The program `plan` has 11 besides: a job of more than 65,536 bytes. Here a job may have any length. */
+            The programs `plan` and `judge` have 11 besides: a job of more than 65,536 bytes. Here a job may have any length. */
 #ifndef PANEL_H
 #define PANEL_H
 
@@ -142,6 +148,28 @@ uint64_t panel_fill(
     uint16_t *placed_firsts, size_t placed_firsts_length,
     double *intervals, size_t intervals_length,
     double *positions, size_t positions_length);
+
+/* A layout from elsewhere, judged: panels are put down one after another, each held against the sheet and those before it.
+
+   given           four numbers to a line: kind, orientation, and a double's bits for x and for y, as `put` lines have them; only
+                   read. A remainder of one to three numbers is no line. In placing order: a plan's own lines are sure to be
+                   accepted in the order in which they were placed, and not in that in which they are printed
+   line            its first place gets the number of lines that were accepted before the answer: of all of them, or of those
+                   before the bad one; 0 where the job is refused. Without a place nothing is written
+   the others      as above; intervals and positions are not needed
+
+   Returned is 0 or the refusal's number. All rooms but `line` are left zero, accepted or refused. */
+uint64_t panel_layout(
+    const uint8_t *bytes, size_t bytes_length,
+    const uint64_t *given, size_t given_length,
+    double *shapes, size_t shapes_length,
+    double *sheet, size_t sheet_length,
+    double *placed, size_t placed_length,
+    uint16_t *sheet_entries, size_t sheet_entries_length,
+    uint16_t *placed_entries, size_t placed_entries_length,
+    uint16_t *sheet_firsts, size_t sheet_firsts_length,
+    uint16_t *placed_firsts, size_t placed_firsts_length,
+    size_t *line, size_t line_length);
 
 #ifdef __cplusplus
 }

@@ -29,10 +29,12 @@ PARTS = [
     ("The plain planner, and calls", "Plain Calls BatchCalls"),
     ("Order and swaps", "CopyOrder Rounds"),
     ("The whole plan", "Nest"),
+    ("Layouts from elsewhere", "Layouts Legal PlanLayout"),
     ("Other corners: one argument for all eight frames", "FramedJobs"),
     ("The printed plan", "Text Printed Told"),
     ("The program", "Program"),
-    ("Sheets tried by hand", "Case4 Sheets Cases BatchCases"),
+    ("A judged layout: its reply, its text", "PutLines Judging"),
+    ("Sheets tried by hand", "Case4 Sheets Cases BatchCases LayoutCases"),
 ]
 HEAD = """# What a reader must believe
 

@@ -16,6 +16,9 @@ pub fn refusal_number(r: Refusal) -> u64
         Refusal::IntervalRoom => 22,
         Refusal::OrderUsedUp => 23,
         Refusal::NotStanding => 24,
+        Refusal::TooManyOfKind => 25,
+        Refusal::OutsideRange => 26,
+        Refusal::InTheWay => 27,
         Refusal::PositionRoom => 30,
         Refusal::Inconsistent => 31,
     }

@@ -8,3 +8,6 @@ pub mod FramedPlan
 pub mod Claims
 pub mod BatchComputed
 pub mod BatchClaims
+pub mod OwnPlans
+pub mod LayoutComputed
+pub mod LayoutClaims

@@ -3,3 +3,4 @@ pub mod JobNumbers
 pub mod LookNumbers
 pub mod FramedJobs
 pub mod BatchCases
+pub mod LayoutCases

@@ -163,7 +163,7 @@ module _ (j : Job) (w : Rooms) where
   unfolding tablesOf
   bounds-read i h = let l = length-bySlot (slotShape (plannerOf j)) in bounds-slot Slots i (omega arith) ∙ ap (λ s. s .bounds) (slot-at i h)
 
-  shape-read : (i : ℕ) → i < 1024 → shapeAt (tablesOf (plannerOf j)) Room i ≡ slotShape (plannerOf j) i
+  pub shape-read : (i : ℕ) → i < 1024 → shapeAt (tablesOf (plannerOf j)) Room i ≡ slotShape (plannerOf j) i
   unfolding shapeAt
   shape-read i h = rw (apart-read i h, inset-read i h, bounds-read i h)
 

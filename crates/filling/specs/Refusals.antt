@@ -4,7 +4,7 @@ use mathlib.Core.Bool.{Bool, true, false}
 use Rattle.bits.specs.Reading as Reading
 use Rattle.filling.specs.declared.Refusal.{Refusal}
 use Rattle.filling.specs.declared.Refusal.the-variants.{Job, MissingShape, WrongOrder, StripRoom, EntryRoom, IntervalRoom, OrderUsedUp, NotStanding}
-use Rattle.filling.specs.declared.Refusal.the-variants.{PositionRoom, Inconsistent}
+use Rattle.filling.specs.declared.Refusal.the-variants.{TooManyOfKind, OutsideRange, InTheWay, PositionRoom, Inconsistent}
 use Rattle.filling.specs.declared.Verdict.{Verdict}
 use Rattle.filling.specs.declared.Verdict.the-variants.{Accepted, Refused}
 
@@ -26,6 +26,12 @@ numberOf IntervalRoom = 22
 numberOf OrderUsedUp = 23
 -- document 02, W4: "a copy that is not standing"
 numberOf NotStanding = 24
+-- document 02, W6: "25 for too many copies"
+numberOf TooManyOfKind = 25
+-- "26 outside the range"
+numberOf OutsideRange = 26
+-- "27 in the way"
+numberOf InTheWay = 27
 -- "the position room holds fewer copies than the job has"
 numberOf PositionRoom = 30
 -- "a single step's state and rooms disagree"

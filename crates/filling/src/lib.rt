@@ -12,6 +12,9 @@ pub enum Refusal {
     IntervalRoom,
     OrderUsedUp,
     NotStanding,
+    TooManyOfKind,
+    OutsideRange,
+    InTheWay,
     PositionRoom,
     Inconsistent,
 }

@@ -18,7 +18,7 @@ use Rattle.filling.specs.State.{orientationCounts, slotRows, partAt, apartRoom,
 use Rattle.filling.specs.Start.{firstState, startOf}
 use Rattle.filling.specs.Leaf.{lacks, partIn, stripsByKind}
 use Rattle.filling.proofs.Sizes.{sized}
-use Rattle.numbers.proofs.Truth.{both-second}
+use Rattle.numbers.proofs.Truth.{both-first, both-second}
 use Rattle.index.proofs.Flat.{getD-upFrom}
 use Rattle.filling.proofs.Begin.{first-linked, start-accepted}
 use Rattle.leaf.proofs.ByKind.{verdict-had}
@@ -35,10 +35,18 @@ slot-read f d k (n ∷ ns) (suc i) o h =
     let e : 16 * (suc k + i) + o ≡ 16 * (k + suc i) + o = omega arith in
     slot-read f d (suc k) ns i o h ∙ ap f e
 
+-- an orientation that the job has
 module _ (j : Job) (k o : ℕ) (h : lacks j k o ≡ false) where
-  turns : o < getD (orientationCounts j) k 0
+  pub has-kind : k < length (j .kinds)
   unfolding lacks
-  turns =
+  has-kind =
+      let a = ltb k (length (j .kinds)) in
+      let b = ltb o (getD (orientationCounts j) k 0) in
+      ltb-true k (length (j .kinds)) (both-first a b (not-false (a && b) h))
+
+  pub has-turn : o < getD (orientationCounts j) k 0
+  unfolding lacks
+  has-turn =
       let a = ltb k (length (j .kinds)) in
       let b = ltb o (getD (orientationCounts j) k 0) in
       ltb-true o (getD (orientationCounts j) k 0) (both-second a b (not-false (a && b) h))
@@ -49,7 +57,7 @@ module _ (j : Job) (k o : ℕ) (h : lacks j k o ≡ false) where
     shape-is =
         let z : 16 * k + o ≡ 16 * (0 + k) + o = omega arith in
         ap (shapeAt t (w .shapes)) z
-        ∙ sym (slot-read (shapeAt t (w .shapes)) noShape 0 (orientationCounts j) k o turns)
+        ∙ sym (slot-read (shapeAt t (w .shapes)) noShape 0 (orientationCounts j) k o has-turn)
         ∙ ap (λ (q : Planner). getD (getD (q .shapes) k []) o noShape) p
 
     part-is : (flag : Bool)

@@ -13,8 +13,9 @@ use filling::Refusal;
 use filling::Verdict;
 use job::JobRead;
 
-// Whether the job that was read into the tables lacks the orientation of the kind.
-fn lacks(rows: &[u64], kinds: u64, kind: usize, orientation: usize) -> bool
+// Whether the job that was read into the tables lacks the orientation of the kind. Only crates of ours
+// call it.
+pub fn lacks(rows: &[u64], kinds: u64, kind: usize, orientation: usize) -> bool
     requires { ⌜ (kinds ≤ 64) × (256 ≤ length (now rows)) ⌝ }
     ensures { λ r. ⌜ ((j : Job) (areas : List Float) → Tabled j (now (rows .entry)) areas → length (j .kinds) ≡ kinds → r ≡ lacks j kind orientation) ⌝ }
 {

@@ -10,11 +10,11 @@ use borrow.Author.Tests.{lt-ltb, le-ltb}
 use Rattle.numbers.proofs.Truth.{below-or-not}
 use Rattle.nesting.specs.Text.{decimalUpTo, decimal, hexDigit, hexUpTo, hex}
 
-up-small : (d n : ℕ) → n < 10 → decimalUpTo (suc d) n ≡ (48 + n) ∷ []
+pub up-small : (d n : ℕ) → n < 10 → decimalUpTo (suc d) n ≡ (48 + n) ∷ []
 unfolding decimalUpTo
 up-small d n h = rw (lt-ltb n 10 h, decimalUpTo)
 
-up-large : (d n : ℕ) → 10 ≤ n → decimalUpTo (suc d) n ≡ decimalUpTo d (n / 10) ++ ((48 + n % 10) ∷ [])
+pub up-large : (d n : ℕ) → 10 ≤ n → decimalUpTo (suc d) n ≡ decimalUpTo d (n / 10) ++ ((48 + n % 10) ∷ [])
 unfolding decimalUpTo
 up-large d n h = rw (le-ltb n 10 h, decimalUpTo)
 

@@ -1,5 +1,5 @@
 // What C and Rust may link (`rt staticlib plan_exports`, include/panel.h), under plain names: the text of a
-// whole plan; a filling in a given order.
+// whole plan; a filling in a given order; a layout from elsewhere, judged.
 ghost use mathlib.Core.Path.{_≡_};
 ghost use Rattle.filling.specs.Rooms.{lentOf};
 ghost use Rattle.plan_text.specs.Told.{textReplyOf};
@@ -7,6 +7,7 @@ use index::Bucket;
 use index::Entry;
 
 pub mod given;
+pub mod layout;
 
 // Where the text ends, or 0 for a buffer of less than 589,824 bytes.
 #[no_mangle]

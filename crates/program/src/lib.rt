@@ -26,19 +26,19 @@ const INTERVAL_SLOTS: usize = 8192;
 // 4,096 positions, six numbers to a position.
 const POSITION_SLOTS: usize = 24576;
 
-fn strip_room() -> [f64; STRIP_SLOTS]
+pub fn strip_room() -> [f64; STRIP_SLOTS]
     ensures { λ r. ⌜ r ≡ stripRoom ⌝ }
 {
     [0.0; STRIP_SLOTS]
 }
 
-fn entry_room() -> [Entry; ENTRY_SLOTS]
+pub fn entry_room() -> [Entry; ENTRY_SLOTS]
     ensures { λ r. ⌜ r ≡ entryRoom ⌝ }
 {
     [0; ENTRY_SLOTS]
 }
 
-fn first_room() -> [Bucket; FIRST_SLOTS]
+pub fn first_room() -> [Bucket; FIRST_SLOTS]
     ensures { λ r. ⌜ r ≡ firstRoom ⌝ }
 {
     [0; FIRST_SLOTS]

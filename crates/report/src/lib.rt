@@ -59,6 +59,30 @@ pub fn refused(k: Refusal) -> NestResult
     }
 }
 
+// Zeros in the rooms of strips, entries and first buckets.
+pub fn clear_rooms(
+    shapes: &mut [f64],
+    sheet: &mut [f64],
+    placed: &mut [f64],
+    sheet_entries: &mut [Entry],
+    placed_entries: &mut [Entry],
+    sheet_firsts: &mut [Bucket],
+    placed_firsts: &mut [Bucket],
+)
+    ensures { λ _. ⌜ (now (shapes .exit) ≡ zeros posZero (now (shapes .entry))) × (now (sheet .exit) ≡ zeros posZero (now (sheet .entry)))
+        × (now (placed .exit) ≡ zeros posZero (now (placed .entry))) × (now («sheet_entries» .exit) ≡ zeros 0 (now («sheet_entries» .entry)))
+        × (now («placed_entries» .exit) ≡ zeros 0 (now («placed_entries» .entry))) × (now («sheet_firsts» .exit) ≡ zeros 0 (now («sheet_firsts» .entry)))
+        × (now («placed_firsts» .exit) ≡ zeros 0 (now («placed_firsts» .entry))) ⌝ }
+{
+    rooms::zero(shapes);
+    rooms::zero(sheet);
+    rooms::zero(placed);
+    rooms::zero_numbers(sheet_entries);
+    rooms::zero_numbers(placed_entries);
+    rooms::zero_numbers(sheet_firsts);
+    rooms::zero_numbers(placed_firsts);
+}
+
 // Zeros in the work rooms.
 pub fn clear(
     shapes: &mut [f64],
@@ -75,14 +99,16 @@ pub fn clear(
         × (now («placed_entries» .exit) ≡ zeros 0 (now («placed_entries» .entry))) × (now (intervals .exit) ≡ zeros posZero (now (intervals .entry)))
         × (now («sheet_firsts» .exit) ≡ zeros 0 (now («sheet_firsts» .entry))) × (now («placed_firsts» .exit) ≡ zeros 0 (now («placed_firsts» .entry))) ⌝ }
 {
-    rooms::zero(shapes);
-    rooms::zero(sheet);
-    rooms::zero(placed);
-    rooms::zero_numbers(sheet_entries);
-    rooms::zero_numbers(placed_entries);
+    clear_rooms(
+        shapes,
+        sheet,
+        placed,
+        sheet_entries,
+        placed_entries,
+        sheet_firsts,
+        placed_firsts,
+    );
     rooms::zero(intervals);
-    rooms::zero_numbers(sheet_firsts);
-    rooms::zero_numbers(placed_firsts);
 }
 
 // The plan of a filling that ended so, its positions on the sheet in their room. Only crates of ours

@@ -215,7 +215,7 @@ module _ (apart : List Float) (x y : Float) (n : ℕ) (placed : List Float) wher
   strips-count h = let e = strips-length h in let z : length strips / 6 ≡ n + k = omega arith in z
 
   module _ (fits : 6 * (n + k) ≤ length placed) where
-    strips-take : strips ≡ take (6 * (n + k)) (after k)
+    pub strips-take : strips ≡ take (6 * (n + k)) (after k)
     strips-take = strips-are ∙ sym (after-take k fits)
 
     -- the room begins with them, and the rest is as it was

@@ -5,12 +5,14 @@ use native.Mathlib.Nat.{le-refl}
 use native.Mathlib.Numerals.{add-one}
 use mathlib.Core.Path.{_≡_, refl, sym, ap, _∙_, subst, subst⁻¹}
 use mathlib.Core.Bool.{Bool, true, false}
+use mathlib.Core.Logic.{inl, inr}
 use mathlib.Core.List.{List, _++_}
 use lib.ListN.{length, getD, take, drop}
 use lib.Dec.{ltb, leb}
 use lib.Ieee.{Float}
 use borrow.Author.Tests.{lt-ltb, le-ltb, le-leb, lt-leb, leb-true, leb-false}
 use Rattle.numbers.specs.Numbers.{_⊕_}
+use Rattle.numbers.proofs.Truth.{either}
 use Rattle.trapezoid.specs.declared.Trapezoid.{Trapezoid}
 use Rattle.trapezoid.specs.Strip.{stripAt, capacity, movedBy}
 use Rattle.trapezoid.specs.inner.Writing.{setStrip}
@@ -26,7 +28,9 @@ use Rattle.enter.proofs.Starts.{enter-fits}
 use Rattle.filling.specs.Rooms.{laid}
 use Rattle.store.specs.declared.Stored.{Stored}
 use Rattle.store.specs.declared.Stored.the-variants.{NoStrips, NoEntries, Done}
-use Rattle.store.specs.inner.Storing.{movedTo, widthAt, widthsTo, Left, left, together, storeOf, FirstsLaid}
+use Rattle.store.specs.declared.Rest.{Rest}
+use Rattle.store.specs.declared.Rest.the-variants.{Enough, Short}
+use Rattle.store.specs.inner.Storing.{movedTo, widthAt, widthsTo, restOf, Left, left, together, storeOf, FirstsLaid}
 use Rattle.store.proofs.Strips.{after-length, after-before, after-strip, strips-count, after-laid, strips-same}
 use Rattle.store.proofs.Widths.{entries-same, starts-same, entries-more}
 use Rattle.store.proofs.Firsts.{firsts-stored}
@@ -185,6 +189,26 @@ widths-up ix apart x j (suc d) =
     let s = widths-next ix apart x (j + d) (widthsTo ix apart x (j + d)) (widthAt ix (stripAt apart (j + d)) x) refl refl in
     rw e (omega arith)
 
+-- what is left of a room, by its test
+pub rest-enough : (room n : ℕ) → leb n room ≡ true → restOf room n ≡ Enough (room - n)
+unfolding restOf
+rest-enough room n e = rw (e, restOf)
+
+pub rest-short : (room n : ℕ) → leb n room ≡ false → restOf room n ≡ Short
+unfolding restOf
+rest-short room n e = rw (e, restOf)
+
+-- and the test by what is left
+abbrev pub enough : Rest → Bool
+enough (Enough r) = true
+enough Short = false
+
+pub rest-fits : (room n : ℕ) (q : Rest) → q ≡ restOf room n → enough q ≡ leb n room
+rest-fits room n q e = elim (either (leb n room)) [
+  | inl t ↦ ap enough (e ∙ rest-enough room n t) ∙ sym t
+  | inr f ↦ ap enough (e ∙ rest-short room n f) ∙ sym f
+]
+
 -- what is left of the room after the first j strips
 pub record Counting (ix : Index) (apart : List Float) (x : Float) (room rest j : ℕ) : Type 0 where
   pub upto : j ≤ capacity apart
@@ -201,19 +225,20 @@ module _ (ix : Index) (apart : List Float) (x : Float) (room rest j c : ℕ) (g 
     pub counting-next : w ≤ rest → Counting ix apart x room (rest - w) (j + 1)
     counting-next l = record { upto = omega arith; same = (let a = g .same in let b = next in omega arith) }
 
-    pub counting-over : rest < w → false ≡ leb (widthsTo ix apart x (capacity apart)) room
+    pub counting-over : rest < w → Short ≡ restOf room (widthsTo ix apart x (capacity apart))
     counting-over l =
         let k : j + 1 + (capacity apart - (j + 1)) ≡ capacity apart = omega arith in
         let u : widthsTo ix apart x (j + 1) ≤ widthsTo ix apart x (capacity apart) = subst (λ (z : ℕ). widthsTo ix apart x (j + 1) ≤ widthsTo ix apart x z) k (widths-up ix apart x (j + 1) (capacity apart - (j + 1))) in
         let a = g .same in
         let b = next in
-        sym (lt-leb (widthsTo ix apart x (capacity apart)) room (omega arith))
+        sym (rest-short room (widthsTo ix apart x (capacity apart)) (lt-leb (widthsTo ix apart x (capacity apart)) room (omega arith)))
 
-  pub counting-end : c ≤ j → true ≡ leb (widthsTo ix apart x (capacity apart)) room
+  pub counting-end : c ≤ j → Enough rest ≡ restOf room (widthsTo ix apart x (capacity apart))
   counting-end h =
       let z : j ≡ capacity apart = (let u = g .upto in omega arith) in
       let a : room ≡ rest + widthsTo ix apart x (capacity apart) = subst (λ (k : ℕ). room ≡ rest + widthsTo ix apart x k) z (g .same) in
-      sym (le-leb (widthsTo ix apart x (capacity apart)) room (omega arith))
+      let b : rest ≡ room - widthsTo ix apart x (capacity apart) = omega arith in
+      ap Enough b ∙ sym (rest-enough room (widthsTo ix apart x (capacity apart)) (le-leb (widthsTo ix apart x (capacity apart)) room (omega arith)))
 
 -- ---- one strip's width
 pub width-none : (ix : Index) (q : Trapezoid) (x : Float) (l f : ℕ) → f ≡ bucketIn ix (q .x0 ⊕ x) → l ≡ bucketIn ix (q .x1 ⊕ x) → l < f → 0 ≡ widthAt ix q x

@@ -125,6 +125,10 @@ module _ (ix : Index) (apart : List Float) (x y : Float) (s : List Float) (n k :
       sums : (a b c w d v t : ℕ) → a ≡ b + w → w ≡ v → b ≡ c + d → t ≡ d + v → a ≡ c + t
       sums a b c w d v t p q r u = omega arith
 
+  -- as many more as they have widths
+  pub entries-sum : length (entriesOf ix s (n + k)) ≡ length (entriesOf ix s n) + widthsTo ix apart x k
+  entries-sum = sym (start-last ix s (n + k)) ∙ (starts-more k (omega arith) ∙ ap (λ (m : ℕ). m + widthsTo ix apart x k) (start-last ix s n))
+
   -- with the entries that lie there
   pub entries-more : (e st : List ℕ) → Laid ix s n e st → length (entriesOf ix s (n + k)) ≡ getD st buckets 0 + widthsTo ix apart x k
   entries-more e st L = sym (start-last ix s (n + k)) ∙ (starts-more k (omega arith) ∙ ap (λ (m : ℕ). m + widthsTo ix apart x k) (sym (laid-starts ix s n e st L buckets (omega arith))))

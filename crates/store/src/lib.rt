@@ -7,7 +7,7 @@ ghost use lib.Dec.{leb};
 ghost use Rattle.trapezoid.specs.Strip.{capacity};
 ghost use Rattle.index.specs.Buckets.{buckets};
 ghost use Rattle.index.specs.inner.Listing.{Laid, FirstBuckets};
-ghost use Rattle.store.specs.inner.Storing.{movedTo, widthAt, widthsTo, left, storeOf, Entered, FirstsEntered};
+ghost use Rattle.store.specs.inner.Storing.{movedTo, widthAt, widthsTo, restOf, left, storeOf, Entered, FirstsEntered};
 use index::Bucket;
 use index::Entry;
 use index::Index;
@@ -20,8 +20,14 @@ pub enum Stored {
     Done,
 }
 
+// What is left of a room for entries, or that it is too short.
+pub enum Rest {
+    Enough(usize),
+    Short,
+}
+
 // The apart strips, moved, go into the room from number n on.
-fn store_moved(apart: &[f64], x: f64, y: f64, placed: &mut [f64], n: usize)
+pub fn store_moved(apart: &[f64], x: f64, y: f64, placed: &mut [f64], n: usize)
     requires { ⌜ 6 * (n + capacity (now apart)) ≤ length (now placed) ⌝ }
     ensures { λ _. ⌜ now (placed .exit) ≡ movedTo (now (apart .entry)) x y n (now (placed .entry)) (capacity (now (apart .entry))) ⌝ }
 {
@@ -46,9 +52,9 @@ fn width_at(ix: Index, q: Trapezoid, x: f64) -> usize
     last + 1 - first
 }
 
-// Whether the apart strips, moved by x, have at most `left` entries.
-fn entries_fit(ix: Index, apart: &[f64], x: f64, left: usize) -> bool
-    ensures { λ r. ⌜ r ≡ leb (widthsTo ix (now (apart .entry)) x (capacity (now (apart .entry)))) left ⌝ }
+// What is left of the room for `left` entries after those of the apart strips, moved by x.
+pub fn entries_rest(ix: Index, apart: &[f64], x: f64, left: usize) -> Rest
+    ensures { λ r. ⌜ r ≡ restOf left (widthsTo ix (now (apart .entry)) x (capacity (now (apart .entry)))) ⌝ }
 {
     let count = trapezoid::capacity(apart);
     let mut rest = left;
@@ -57,12 +63,22 @@ fn entries_fit(ix: Index, apart: &[f64], x: f64, left: usize) -> bool
         let q = trapezoid::load(apart, j);
         let width = width_at(ix, q, x);
         if rest < width {
-            return false;
+            return Rest::Short;
         }
         rest -= width;
         j += 1;
     }
-    true
+    Rest::Enough(rest)
+}
+
+// Whether the apart strips, moved by x, have at most `left` entries.
+fn entries_fit(ix: Index, apart: &[f64], x: f64, left: usize) -> bool
+    ensures { λ r. ⌜ r ≡ leb (widthsTo ix (now (apart .entry)) x (capacity (now (apart .entry)))) left ⌝ }
+{
+    match entries_rest(ix, apart, x, left) {
+        Rest::Enough(_) => true,
+        Rest::Short => false,
+    }
 }
 
 // A copy's strips, moved, go after the n placed strips, into the entries and into the first buckets.

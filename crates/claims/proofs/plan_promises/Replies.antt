@@ -124,12 +124,16 @@ pub nest-replies : (bytes : List ℕ) (l : Lent)
     × (nestOf bytes l .verdict ≡ Accepted → KeptAs bytes l (nestOf bytes l))
 nest-replies bytes l = replies l (KeptAs bytes l) (nestOf bytes l) (nest-is bytes l)
 
--- a whole plan leaves no standing strip: every bucket number is zero, whatever it answers
-pub nest-firsts : (bytes : List ℕ) (l : Lent)
-    → (nestOf bytes l .lent .rooms .sheet-firsts ≡ zeros 0 (l .rooms .sheet-firsts))
-    × (nestOf bytes l .lent .rooms .placed-firsts ≡ zeros 0 (l .rooms .placed-firsts))
-nest-firsts bytes l = zero-numbers (nestOf bytes l .lent .rooms) (l .rooms) (go (nestOf bytes l) (nest-is bytes l))
+-- a whole plan leaves zeros in every work room, whatever it answers
+pub nest-rooms : (bytes : List ℕ) (l : Lent) → nestOf bytes l .lent .rooms ≡ zeroRooms (l .rooms)
+nest-rooms bytes l = go (nestOf bytes l) (nest-is bytes l)
   where
     go : (r : Planned) → PlanIs l (KeptAs bytes l) r → r .lent .rooms ≡ zeroRooms (l .rooms)
     go r (plan-no k e) = ap (λ (q : Planned). q .lent .rooms) e ∙ not-planned-rooms k l
     go r (plan-yes d h) = ap (λ (q : Planned). q .lent .rooms) (h .4) ∙ planned-rooms (h .0) l (h .1 .state) (h .1 .improvements)
+
+-- no standing strip either: every bucket number is zero
+pub nest-firsts : (bytes : List ℕ) (l : Lent)
+    → (nestOf bytes l .lent .rooms .sheet-firsts ≡ zeros 0 (l .rooms .sheet-firsts))
+    × (nestOf bytes l .lent .rooms .placed-firsts ≡ zeros 0 (l .rooms .placed-firsts))
+nest-firsts bytes l = zero-numbers (nestOf bytes l .lent .rooms) (l .rooms) (nest-rooms bytes l)

@@ -72,13 +72,14 @@ core-refusal j s w iv r h e = let c = next-of (orderOf j s) (s .taken) h in plac
 -- ---- a filling in a rearranged order
 
 module _ (bytes : List ℕ) (j : Job) (e : readJob bytes ≡ accepted j) (l : Lent) (pos : ltb (positionCapacity (l .positions)) (j .copies) ≡ false) (prep : prepareVerdict (plannerOf j) (l .rooms) ≡ Accepted) where
-  begins : (order : List ℕ) → rearranged j order ≡ true → startVerdict j order l ≡ Accepted
+  pub begins : (order : List ℕ) → rearranged j order ≡ true → startVerdict j order l ≡ Accepted
   unfolding startVerdict refuseIf
   begins order r = rw (pos, r, prep)
 
   -- an order and its filling
   pub record Filled (order : List ℕ) (s : State) : Type 0 where
     pub rearranges : rearranged j order ≡ true
+    pub fills : fillOrder j l order ≡ filled s
     pub rooms : Rooms
     pub plain : Plain
     pub held : Held bytes j e order s rooms plain
@@ -86,7 +87,7 @@ module _ (bytes : List ℕ) (j : Job) (e : readJob bytes ≡ accepted j) (l : Le
   pub filled-is : (order : List ℕ) → rearranged j order ≡ true → (s : State) → fillOrder j l order ≡ filled s → Filled order s
   filled-is order r s f =
       let k = fill-held bytes order l j e (begins order r) s f in
-      record { rearranges = r; rooms = k .0; plain = _; held = k .1 }
+      record { rearranges = r; fills = f; rooms = k .0; plain = _; held = k .1 }
 
   fill-stop : (order : List ℕ) (n : ℕ) (s : State) (w : Rooms) (q : Plain) → Held bytes j e order s w q → s .taken + n ≤ length order → (r : Refusal) → fillFrom j (l .intervals) n s w ≡ stopped r → RoomRefusal r
   unfolding fillFrom

@@ -43,7 +43,7 @@ unfolding flatParts
 length-parts [] = refl
 length-parts (b ∷ l) = let e = length-parts l in omega arith
 
-bounds-long : (p : Planner) → length (tablesOf p .«inset_bounds») ≡ 4096
+pub bounds-long : (p : Planner) → length (tablesOf p .«inset_bounds») ≡ 4096
 unfolding tablesOf
 bounds-long p =
     let a = length-bounds (map (λ s. s .bounds) (bySlot (slotShape p))) in

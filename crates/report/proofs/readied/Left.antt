@@ -45,7 +45,7 @@ whole : Verdict → Plan → Rooms → List Float → List Float → Planned
 whole v p w i o = record { verdict = v; plan = p; lent = record { rooms = w; intervals = i; positions = o } }
 
 -- the work rooms, all zero
-rooms-are : (l : Lent) (shapes sheet placed : List Float) (sheet-entries placed-entries sheet-firsts placed-firsts : List ℕ)
+pub rooms-are : (l : Lent) (shapes sheet placed : List Float) (sheet-entries placed-entries sheet-firsts placed-firsts : List ℕ)
     → shapes ≡ zeros posZero (l .rooms .shapes) → sheet ≡ zeros posZero (l .rooms .sheet) → placed ≡ zeros posZero (l .rooms .placed)
     → sheet-entries ≡ zeros 0 (l .rooms .sheet-entries) → placed-entries ≡ zeros 0 (l .rooms .placed-entries)
     → sheet-firsts ≡ zeros 0 (l .rooms .sheet-firsts) → placed-firsts ≡ zeros 0 (l .rooms .placed-firsts)

@@ -154,7 +154,7 @@ module _ {j : Job} {bytes : List ℕ} {at : ℕ} {h : Header} {rows : List ℕ} 
     (Z : Zeroed l shapes₀ sheet₀ placed₀ entries₀ placed-entries₀ intervals₀ positions₀ firsts₀ placed-firsts₀)
     (q : Answers.Prepared) (shapes sheet : List Float) (entries firsts : List ℕ)
     (E : PreparedIs q (plannerOf j) (Rooms₀.given shapes₀ sheet₀ entries₀ firsts₀) shapes sheet entries firsts) where
-  same-verdict : prepareVerdict (plannerOf j) (l .rooms) ≡ q .verdict
+  pub same-verdict : prepareVerdict (plannerOf j) (l .rooms) ≡ q .verdict
   same-verdict = sym (E .verdict-is ∙ verdict-zeroed (plannerOf j) l shapes₀ sheet₀ entries₀ firsts₀ (Z .shapes-zero) (Z .sheet-zero) (Z .sheet-entries-zero) (Z .sheet-firsts-zero))
 
   module _ (e : q .verdict ≡ Accepted) where

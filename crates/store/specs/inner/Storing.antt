@@ -4,7 +4,7 @@ use mathlib.Core.Path.{_≡_}
 use mathlib.Core.Bool.{Bool, true, false}
 use mathlib.Core.List.{List, _++_}
 use lib.ListN.{length, take}
-use lib.Dec.{ltb}
+use lib.Dec.{ltb, leb}
 use lib.Ieee.{Float}
 use Rattle.numbers.specs.Numbers.{_⊕_}
 use Rattle.trapezoid.specs.declared.Trapezoid.{Trapezoid}
@@ -16,6 +16,8 @@ use Rattle.index.specs.inner.Listing.{Laid, FirstBuckets}
 use Rattle.enter.specs.inner.EntryRoom.{startsOf}
 use Rattle.filling.specs.Shapes.{movedStrips}
 use Rattle.filling.specs.Rooms.{laid}
+use Rattle.store.specs.declared.Rest.{Rest}
+use Rattle.store.specs.declared.Rest.the-variants.{Enough, Short}
 use Rattle.store.specs.declared.Stored.{Stored}
 use Rattle.store.specs.declared.Stored.the-variants.{NoStrips, NoEntries, Done}
 
@@ -32,6 +34,10 @@ widthAt ix q x = bucketIn ix (q .x1 ⊕ x) + 1 - bucketIn ix (q .x0 ⊕ x)
 unfoldable pub widthsTo : Index → List Float → Float → ℕ → ℕ
 widthsTo ix apart x zero = 0
 widthsTo ix apart x (suc j) = widthsTo ix apart x j + widthAt ix (stripAt apart j) x
+
+-- what is left of a room for so many entries
+unfoldable pub restOf : ℕ → ℕ → Rest
+restOf room n = elim (leb n room) [ true ↦ Enough (room - n) | false ↦ Short ]
 
 pub record Left : Type 0 where
   pub answer : Stored

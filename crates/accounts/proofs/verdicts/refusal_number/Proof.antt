@@ -38,6 +38,15 @@ enum-told-8 c = search needs
 enum-told-9 : tie.Need-enum-told-9
 enum-told-9 c = search needs
 
+enum-told-10 : tie.Need-enum-told-10
+enum-told-10 c = search needs
+
+enum-told-11 : tie.Need-enum-told-11
+enum-told-11 c = search needs
+
+enum-told-12 : tie.Need-enum-told-12
+enum-told-12 c = search needs
+
 returns : tie.Need-returns
 unfolding numberOf
 returns c = c .refusal-number .ensures ∙ ap numberOf (sym (c .before .before .r .given .1))
@@ -78,6 +87,18 @@ returns-10 : tie.Need-returns-10
 unfolding numberOf
 returns-10 c = ap numberOf (sym (c .enum-told9 .given .1))
 
+returns-11 : tie.Need-returns-11
+unfolding numberOf
+returns-11 c = ap numberOf (sym (c .enum-told10 .given .1))
+
+returns-12 : tie.Need-returns-12
+unfolding numberOf
+returns-12 c = ap numberOf (sym (c .enum-told11 .given .1))
+
+returns-13 : tie.Need-returns-13
+unfolding numberOf
+returns-13 c = ap numberOf (sym (c .enum-told12 .given .1))
+
 pub refusal-number-spec : {M : Type 1} → statement M
 refusal-number-spec =
     tie.close
@@ -93,6 +114,9 @@ refusal-number-spec =
     enum-told-7
     enum-told-8
     enum-told-9
+    enum-told-10
+    enum-told-11
+    enum-told-12
     returns
     returns-2
     returns-3
@@ -102,4 +126,7 @@ refusal-number-spec =
     returns-7
     returns-8
     returns-9
-    returns-10)
+    returns-10
+    returns-11
+    returns-12
+    returns-13)

@@ -1,0 +1,4 @@
+pub mod Slots
+pub mod Storing
+pub mod Verdicts
+pub mod Lines

@@ -1,0 +1,3 @@
+pub mod Layouts
+pub mod Legal
+pub mod PlanLayout
