@@ -4,8 +4,8 @@
 Each wrong planner is the planner by hand (rust/, option --by-hand) with a few
 words changed. It is built, run on the jobs that the crate plan_test replays
 and its texts are held against the stored ones; those of WIDE on the jobs and
-rooms of wide_test, those of SCRIPT on the script of filling_test. They stand in
-wrong/.
+rooms of wide_test, those of SCRIPT on the script of filling_test, those of LAYOUTS on
+the lists of layout_test. They stand in wrong/.
 
 mutants.py [NAME..]          a line for each: how many jobs catch it, the first's label
 mutants.py --table           the same as a table in Markdown
@@ -18,10 +18,11 @@ import subprocess
 import sys
 
 from jobs import wide
-from jobs.bits import read_container
+from jobs.bits import read_container, write_container
+from jobs.lists import read_stored
 from jobs.oracle import BUILD, HERE, ROOT
 from jobs.script import CALLS
-from wrong import changes, frames, planner, stacks, withdrawals
+from wrong import changes, frames, layouts, planner, stacks, withdrawals
 from wrong.changes import WIDE
 
 WORK = os.path.join(BUILD, "mutants")
@@ -30,7 +31,8 @@ CRATES = os.path.join(ROOT, "crates")
 ANSWERS = [*CALLS, "room", "rooms"]
 MUTANTS = planner.MUTANTS + changes.MUTANTS + frames.MUTANTS
 SCRIPT = changes.SCRIPT + frames.SCRIPT + withdrawals.SCRIPT + stacks.SCRIPT
-EQUAL = planner.EQUAL + changes.EQUAL
+LAYOUTS = layouts.LAYOUTS + layouts.EQUAL
+EQUAL = planner.EQUAL + changes.EQUAL + layouts.EQUAL
 
 
 def changed(name, edits):
@@ -58,10 +60,10 @@ def build(name, edits):
     return program
 
 
-def caught(program, jobs, told):
+def caught(program, jobs, told, *options):
     """Labels of the jobs whose text differs."""
     out = os.path.join(WORK, "answers")
-    done = subprocess.run([program, "--by-hand", "--batch", jobs, "--out", out],
+    done = subprocess.run([program, *options, "--by-hand", "--batch", jobs, "--out", out],
                           stdout=subprocess.DEVNULL, stderr=subprocess.DEVNULL)
     if done.returncode:
         return ["(it stops)"]
@@ -97,6 +99,14 @@ def caught_script(program):
     return labels
 
 
+def caught_layouts(program):
+    """Labels of layout_test's lists that are judged otherwise."""
+    folder, lists = os.path.join(CRATES, "layout_test"), os.path.join(WORK, "lists")
+    write_container(lists, read_stored(read_container(os.path.join(folder, "stdin"))))
+    lines = open(os.path.join(folder, "stdout")).read().splitlines()
+    return caught(program, lists, list(zip(lines[::2], (f"{line}\n".encode() for line in lines[1::2]))), "--judge")
+
+
 def stored(crate):
     """A crate's stored jobs' file, and the stored text of each (lines from one label to the next)."""
     jobs = os.path.join(CRATES, crate, "stdin")
@@ -125,12 +135,13 @@ def main():
     n = survived = 0
     if table:
         print("| from | wrong planner | jobs that catch it | the first |\n|---|---|---|---|")
-    for one in MUTANTS + WIDE + SCRIPT + EQUAL:
+    for one in MUTANTS + WIDE + SCRIPT + layouts.LAYOUTS + EQUAL:
         group, name, edits = one
         if names and name not in names:
             continue
         program = build(name, edits)
-        labels = caught_wide(program) if one in WIDE else caught_script(program) if one in SCRIPT else caught(program, jobs, told)
+        labels = (caught_wide(program) if one in WIDE else caught_script(program) if one in SCRIPT
+                  else caught_layouts(program) if one in LAYOUTS else caught(program, jobs, told))
         equal = one in EQUAL
         n += 1
         survived += not labels and not equal

@@ -1,7 +1,8 @@
 #!/usr/bin/env python3
 """Makes what is stored of the oracle's answers, always the same: the files stdin and stdout of the
-crates filling_test, job_test, long_job_test, look_test, plan_test, strips_test, swaps_test and
-wide_test, by the modules of samples/, and the jobs and plans of examples/.
+crates filling_test, job_test, layout_test, long_job_test, look_test, plan_test, strips_test,
+swaps_test, wide_test and of the program judge, by the modules of samples/, and the jobs, plans
+and lists of examples/.
 
 store.py [NAME..]            writes the files of each NAME (job for job_test, ..; examples), or all
 store.py --check [NAME..]    writes nothing; the last line is 'N files, D differ'
@@ -12,12 +13,14 @@ import sys
 
 from jobs.oracle import ROOT
 
-# The swaps are made of stored plans and an example.
-NAMES = ["strips", "look", "job", "filling", "plan", "examples", "swaps", "wide", "long_job"]
+# The swaps are made of stored plans and an example, the lists of layout_test of stored plans.
+NAMES = ["strips", "look", "job", "filling", "plan", "examples", "swaps", "wide", "long_job", "layout", "judge"]
 
 
 def folder(name):
-    return os.path.join(ROOT, "examples") if name == "examples" else os.path.join(ROOT, "crates", name + "_test")
+    if name == "examples":
+        return os.path.join(ROOT, "examples")
+    return os.path.join(ROOT, "crates", name if name == "judge" else name + "_test")
 
 
 def same(path, data):

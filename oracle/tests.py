@@ -1,7 +1,7 @@
 #!/usr/bin/env python3
 """Tests of the oracle itself: the starred cases of document 01, the offcuts, gaps and frames of document 02, the order
 of refusals where two hold, and every room exact and one short by --rooms; withdrawals (withdraw_tests.py), stacks
-(stack_tests.py)."""
+(stack_tests.py), layouts (layout_tests.py)."""
 import re
 import subprocess
 import sys
@@ -12,6 +12,7 @@ from jobs.frame_cases import edge_order, frame_cases, frame_jobs, tied, version_
 from jobs.frames import FRAMES, LOWER_LEFT, back, name, unframed, unframed_set
 from jobs.oracle import ORACLE, answers, without_gaps
 from jobs.script import RECORD, ROOMS
+from layout_tests import layout_tests
 from stack_tests import stack_tests
 from withdraw_tests import withdraw_tests
 
@@ -363,6 +364,7 @@ def main():
         test()
     withdraw_tests(expect)
     stack_tests(expect)
+    layout_tests(expect)
     print(f"{tried} tests, {len(failed)} failed")
     sys.exit(len(failed) > 0)
 

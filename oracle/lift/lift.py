@@ -33,6 +33,8 @@ ITEMS = [
 RANGES = [
     ("look", "impl<C: CancelSignal> Planner<", "let x = if column",
      "y = y.max(", 1),
+    ("columns", "impl<C: CancelSignal> Planner<", "let b = shape.inset_bounds", "};", 0),
+    ("column", "impl<C: CancelSignal> Planner<", "let x = if column", "};", 0),
     ("nest", "pub fn nest(", "// Required parts before fillers", ".collect();", 0),
 ]
 
@@ -65,6 +67,29 @@ AROUND = {
         let mut intervals = std::mem::take(out);
 """, """        *out = intervals;
         (x, y)
+    }
+}
+"""),
+    "columns": ("""struct Columns {
+    xs: (f64, f64),
+    ys: (f64, f64),
+    columns: usize,
+    last: usize,
+}
+impl Planner<'_, Signal> {
+    fn columns(&self, shape: &Shape) -> Option<Columns> {
+        let (sb, part, o) = (self.sheet_bounds, 0, 0);
+        let mut next_column = [[0; 1]; 1];
+        for _ in 0..1 {
+""", """            return Some(Columns { xs: (x_low, x_high), ys, columns, last });
+        }
+        None
+    }
+}
+"""),
+    "column": ("""impl Planner<'_, Signal> {
+    fn column(&self, column: usize, columns: usize, (x_low, x_high): (f64, f64)) -> f64 {
+""", """        x
     }
 }
 """),

@@ -133,7 +133,7 @@ fn shapes(job: &Job, room: &mut [f64]) -> Result<Vec<Slot>, Stop> {
     Ok(slots)
 }
 
-/// Start in a given order, in rooms of zeros: 30, 10, the sheet's 20 and 21, the shapes' 20.
+/// Start in a given order, in rooms of zeros: 30, 10, then what cannot be prepared.
 pub fn start(job: &Job, order: &[usize], rooms: &mut Rooms) -> Result<State, Stop> {
     if capacity(rooms.positions.len(), POSITION) < job.copies() {
         return Err(Stop::Refused(30));
@@ -141,6 +141,11 @@ pub fn start(job: &Job, order: &[usize], rooms: &mut Rooms) -> Result<State, Sto
     if !rearrangement(job, order) {
         return Err(Stop::Refused(10));
     }
+    prepare(job, order, rooms)
+}
+
+/// What a job has before its first copy: the sheet's 20 and 21, the shapes' 20.
+pub fn prepare(job: &Job, order: &[usize], rooms: &mut Rooms) -> Result<State, Stop> {
     let loops = Frame::of(job).loops(&job.sheet);
     let (sheet, strips) = (bounds(&loops), trapezoids(&loops, true));
     let mut sheet_strips = 0;
@@ -226,7 +231,13 @@ fn search(
 }
 
 /// Stores the winner's strips, moved: 20, then 21, before the first write.
-fn place(state: &mut State, slot: usize, x: f64, y: f64, rooms: &mut Rooms) -> Result<(), Stop> {
+pub fn place(
+    state: &mut State,
+    slot: usize,
+    x: f64,
+    y: f64,
+    rooms: &mut Rooms,
+) -> Result<(), Stop> {
     let apart = state.slots[slot].apart.clone();
     let strips: Vec<Strip> = apart.map(|i| moved(&load(&rooms.shapes, i), x, y)).collect();
     let most = standing(rooms.placed.len(), rooms.placed_firsts.len());

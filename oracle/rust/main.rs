@@ -11,6 +11,7 @@ mod frame;
 mod hash;
 mod index;
 mod job;
+mod layout;
 mod modes;
 mod nesting;
 mod own;
@@ -46,6 +47,8 @@ pub struct Options {
     calls: Option<usize>,
     trace: bool,
     script: bool,
+    judge: bool,
+    list: bool,
     answer: bool,
     draws: bool,
     after: bool,
@@ -86,6 +89,8 @@ fn parse(args: &[String]) -> Result<Options, String> {
             "--calls" => o.calls = Some(number(value()?)? as usize),
             "--trace" => o.trace = true,
             "--script" => o.script = true,
+            "--judge" => o.judge = true,
+            "--list" => o.list = true,
             "--answer" => o.answer = true,
             "--draws" => o.draws = true,
             "--after" => o.after = true,
@@ -197,15 +202,19 @@ fn other_text(bytes: &[u8], o: &Options) -> Result<Option<String>, String> {
             _ => Err("--strips part or --strips sheet".into()),
         };
     }
+    if o.judge {
+        return layout::judge_text(bytes, o.by_hand).map(Some);
+    }
     if o.program() && bytes.len() > LONGEST {
         return Ok(Some(print::refusal(11)));
     }
-    if !(o.answer || o.lifted_only || o.by_hand || o.time.is_some()) {
+    if !(o.answer || o.list || o.lifted_only || o.by_hand || o.time.is_some()) {
         return Ok(None);
     }
     let text = match (job::read(bytes), o.time) {
         (Err(n), _) => print::refusal(n),
         (Ok(_), _) if o.answer => "ok\n".into(),
+        (Ok(job), _) if o.list => layout::list_text(&job, &o.sizes()?)?,
         (Ok(job), Some(runs)) => modes::time(&job, runs),
         (Ok(job), None) if o.by_hand => modes::by_hand_text(&job, &o.sizes()?)?,
         (Ok(job), None) => modes::lifted_text(&job),

@@ -90,6 +90,11 @@ fn filled(layout: Layout) -> Filled {
     }
 }
 
+/// The pieces of an index, and its entries.
+fn counts(index: &Index) -> (usize, usize) {
+    (index.pieces.len(), index.buckets.iter().map(Vec::len).sum())
+}
+
 /// The lifted planner of a job, and an index of its own for single looks.
 pub struct Lifted<'a> {
     frame: Framing,
@@ -195,6 +200,47 @@ impl<'a> Lifted<'a> {
         for piece in &self.planner.shapes[kind][o].apart {
             self.placed_parts.add(piece.moved(x, y));
         }
+    }
+
+    /// A point of the sheet in the job's frame.
+    pub fn to(&self, p: P2) -> P2 {
+        self.frame.to(p)
+    }
+
+    /// Document 02, W6: whether x lies between the lifted ends or at a lifted column, and y between its
+    /// ends; not where the lifted lines pass the orientation over.
+    pub fn in_range(&self, (kind, o): (usize, usize), x: f64, y: f64) -> bool {
+        let Some(c) = self.planner.columns(&self.planner.shapes[kind][o]) else {
+            return false;
+        };
+        let ends = x >= c.xs.0 && x <= c.xs.1;
+        let stands = ends || (0..=c.last).any(|n| self.planner.column(n, c.columns, c.xs) == x);
+        stands && y >= c.ys.0 && y <= c.ys.1
+    }
+
+    /// Whether y lies in none of the intervals that the lifted index lists for all heights.
+    pub fn clear_at(&mut self, (kind, o): (usize, usize), x: f64, y: f64) -> bool {
+        let (shape, all) = (&self.planner.shapes[kind][o], (f64::NEG_INFINITY, f64::INFINITY));
+        self.intervals.clear();
+        self.planner.sheet.forbidden(&shape.inset, x, all, &mut self.intervals);
+        self.placed_parts.forbidden(&shape.apart, x, all, &mut self.intervals);
+        !self.intervals.iter().any(|&(low, high)| y > low && y < high)
+    }
+
+    /// How many strips and entries the sheet has, and the copies entered so far.
+    pub fn sheet_counts(&self) -> (usize, usize) {
+        counts(&self.planner.sheet)
+    }
+    pub fn placed_counts(&self) -> (usize, usize) {
+        counts(&self.placed_parts)
+    }
+
+    /// The strips of all shapes of a job.
+    pub fn shape_strips(&self, job: &Job) -> usize {
+        let kinds = job.parts.iter().enumerate();
+        let slots = kinds.flat_map(|(k, p)| (0..p.orientations.len()).map(move |o| (k, o)));
+        let shapes = slots.map(|(k, o)| &self.planner.shapes[k][o]);
+        shapes.map(|s| s.apart.len() + s.inset.len()).sum()
     }
 
     /// The standing strips entered so far, and the index's lists in a row.
