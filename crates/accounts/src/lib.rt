@@ -1,5 +1,7 @@
 // What a filling answers (document 01, "Order and swaps" and "The printed plan"): the positions by
 // kind, then copy, and the counts.
+#![tactic(auto)]
+
 pub mod order;
 pub mod tables;
 pub mod verdicts;

@@ -1,6 +1,8 @@
 // The planner's inner functions under plain names (`rt staticlib bench_exports`), for this project's
 // comparisons with the Rust and its benchmarks alone. What a function requires its caller owes, and
 // nothing here tests it. A shop links plan_exports.
+#![tactic(auto)]
+
 ghost use Rattle.std.specs.Prelude.{◌+◌, ◌*◌, ◌/◌, ◌≤◌, ◌<◌, length, set, true, false, ◌≡◌};
 ghost use Rattle.trapezoid.specs.Strip.{capacity};
 ghost use Rattle.strips.specs.Strips.{trapezoids};

@@ -1,5 +1,7 @@
 // The parts of a round (document 01, "Order and swaps"): a copy is drawn, whether two kinds may be
 // swapped, the swap, and the better of two fillings is kept.
+#![tactic(auto)]
+
 pub mod round_laws;
 
 ghost use Rattle.std.specs.Prelude.{◌≡◌, ◌⊎◌, false, not, ◌&&◌, ◌||◌, List, ℕ, ◌+◌, ◌-◌, ◌*◌, ◌%◌, ◌≤◌, ◌<◌, ◌^◌, length, get_or, Float};

@@ -1,5 +1,7 @@
 // Bits written into a lent room (document 01, "The job's bits"). What does not fit the room is only
 // counted. The functions are called by this project's crates alone.
+#![tactic(auto)]
+
 ghost use Rattle.std.specs.Prelude.{◌≡◌, ℕ, ◌+◌, ◌*◌, ◌-◌, ◌/◌, ◌%◌, ◌^◌, ◌≤◌, ◌<◌, min, List, [], ◌++◌, length, set, take, replicate};
 ghost use Rattle.bit_writer.specs.Packed.{binary, packed, in_room};
 ghost use Rattle.bit_writer.specs.inner.BitWriting.{Sound, written, Wrote, Put, Closed};

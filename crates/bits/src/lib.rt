@@ -1,6 +1,8 @@
 // Fields of a job (document 01, "The job's bits"): bits of a byte slice, and the counts, doubles
 // and points that they stand for, each judged as it is read. The functions with a `requires` are
 // called by this project's crates alone.
+#![tactic(auto)]
+
 ghost use Rattle.std.specs.Prelude.{◌≡◌, List, ℕ, ◌+◌, ◌*◌, ◌/◌, ◌%◌, ◌^◌, ◌≤◌, ◌<◌, min, length};
 ghost use Rattle.bits.specs.Bits.{field_at};
 ghost use Rattle.bits.specs.Reading.{job_refusal_number, bits};

@@ -1,5 +1,7 @@
 // The choice among orientations (document 01, "Filling"): the smallest x + b2 wins, then the
 // smallest y + b3, then the first listed.
+#![tactic(auto)]
+
 ghost use Rattle.std.specs.Prelude.{◌≡◌, ℕ, ◌+◌, ◌*◌, ◌/◌, ◌≤◌, ◌<◌, ◌^◌, length, get_or, take, drop};
 ghost use Rattle.trapezoid.specs.Strip.{capacity};
 ghost use Rattle.index.specs.inner.Listing.{FirstBuckets};

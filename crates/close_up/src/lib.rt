@@ -1,5 +1,7 @@
 // Closing up where a copy went (document 02, W4): an order, the places of a layout; the placed strips,
 // their entries and first buckets. Only crates of ours call these functions.
+#![tactic(auto)]
+
 ghost use Rattle.std.specs.Prelude.{◌≡◌, ◌+◌, ◌-◌, ◌*◌, ◌≤◌, ◌<◌, ◌++◌, length, take, drop};
 ghost use Rattle.numbers.specs.Numbers.{pos_zero};
 ghost use Rattle.trapezoid.specs.Strip.{capacity};

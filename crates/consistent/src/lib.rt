@@ -1,5 +1,7 @@
 // Whether a single step's state and rooms agree (document 01, refusal 31): the definition's tests,
 // one function each, those first on which the safety of others rests.
+#![tactic(auto)]
+
 pub mod agreed;
 pub mod copy_tests;
 pub mod room_tests;

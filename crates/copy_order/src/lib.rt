@@ -1,6 +1,8 @@
 // The order of the copies (document 01, "Order and swaps"): the kinds are sorted, then each stands as
 // often as its quantity. rows and areas are the tables of the crate kinds. Only crates of ours call
 // its functions.
+#![tactic(auto)]
+
 ghost use Rattle.std.specs.Prelude.{◌≡◌, not, ◌&&◌, ◌||◌, ℕ, ◌+◌, ◌*◌, ◌≤◌, ◌<◌, length, get_or, replicate, ltb, eqb};
 ghost use mathlib.Core.List.{List, ◌++◌, flat_map};
 ghost use Rattle.std.specs.Float.{nan};

@@ -1,5 +1,7 @@
 // Entering a copy's strips into the buckets' entries: in place, in one pass from the back. Their first
 // buckets are written too.
+#![tactic(auto)]
+
 pub mod span_marks;
 
 ghost use Rattle.std.specs.Prelude.{◌≡◌, true, false, ℕ, ◌+◌, ◌-◌, ◌*◌, ◌≤◌, ◌<◌, max, length, get_or};

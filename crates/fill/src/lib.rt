@@ -1,6 +1,8 @@
 // The public operation `fill`: a filling of a job in a given order (document 01, "the filling in a
 // given order"). Accepted, it leaves the positions; the other rooms, and all of them where it is
 // refused, are left zero.
+#![tactic(auto)]
+
 ghost use Rattle.std.specs.Prelude.{◌≡◌};
 ghost use Rattle.filling.specs.Rooms.{Lent, lent_of};
 ghost use Rattle.filling.specs.Fill.{fill_of};

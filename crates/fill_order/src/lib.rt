@@ -1,5 +1,7 @@
 // The filling in a given order (document 01, "Filling"): one copy after another, over tables and
 // rooms that are prepared.
+#![tactic(auto)]
+
 ghost use Rattle.std.specs.Prelude.{true, ◌≡◌, ◌*◌, ◌≤◌, ◌<◌, length, replicate};
 ghost use Rattle.index.specs.Buckets.{buckets};
 ghost use Rattle.rooms.specs.tracks.inner.Tracks.{next_columns, look_counts_from, track_numbers, spot_numbers};

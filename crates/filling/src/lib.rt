@@ -1,5 +1,7 @@
 // What filling (document 01, "Filling") answers and keeps, as the definitions in specs/ speak of it.
 // The crates above hold the code.
+#![tactic(auto)]
+
 pub mod promises;
 
 // Why a call is refused: document 01's tables; `number_of` of specs/Refusals.antt gives the numbers.

@@ -3,6 +3,8 @@
 // oracle/README.md describes; after each call one line has its answer and the state's hash, another
 // every room's. The stored answers are those of the oracle's planner with rooms (oracle/samples/filling.py),
 // never of this code.
+#![tactic(auto)]
+
 mod calls;
 mod steps;
 

@@ -1,5 +1,7 @@
 // Frames (document 02, W1): nesting.rs's Frame. A sheet point p is planned at `to` of it; a place in
 // the frame lies at `from` of it on the sheet.
+#![tactic(auto)]
+
 ghost use Rattle.std.specs.Bool.{beq};
 ghost use Rattle.std.specs.Prelude.{◌≡◌, ◌+◌, ◌*◌, ◌≤◌, length, take};
 ghost use Rattle.kinds.specs.sets.Sets.{a_set};

@@ -1,4 +1,6 @@
 // Room between the buckets: all moved up by the new entries before them, or those of one strip.
+#![tactic(auto)]
+
 ghost use Rattle.std.specs.Prelude.{◌≡◌, ℕ, ◌+◌, ◌≤◌, ◌<◌, ◌^◌, List, length, get_or, set};
 ghost use Rattle.index.specs.Buckets.{buckets, strip_numbers};
 ghost use Rattle.gaps.specs.inner.OpenGaps.{before, Marked, Opened, Inserted, Stepped};

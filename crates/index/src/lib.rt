@@ -1,4 +1,6 @@
 // The index over the standing strips, and the forbidden intervals that it lists (document 01, "Index").
+#![tactic(auto)]
+
 pub mod entries;
 
 ghost use Rattle.std.specs.Prelude.{◌≡◌, ℕ, ◌+◌, ◌-◌, ◌*◌, ◌/◌, ◌≤◌, ◌<◌, min, length, get_or};

@@ -1,5 +1,7 @@
 // The job (document 01, "The job's bits" and refusals 1 to 8): bytes in, a job or why it is refused
 // out. A job's kinds lie in the tables of the crate kinds; its sets are read when they are needed.
+#![tactic(auto)]
+
 ghost use Rattle.std.specs.Prelude.{◌≡◌, ◌+◌, ◌*◌, ◌≤◌, ◌<◌, length};
 ghost use Rattle.numbers.specs.Numbers.{◌⊖◌};
 ghost use Rattle.job.specs.Jobs.{frame_of, after_frame, a_header, ended, left, right, judge_end, read_job, verdict_of};

@@ -1,5 +1,7 @@
 // What C and Rust may link (`rt staticlib job_exports`, include/panel.h) to edit jobs, under plain names: a
 // job's bytes to its tables, and back (document 02, W9).
+#![tactic(auto)]
+
 ghost use Rattle.std.specs.Prelude.{◌≡◌, [], ◌∷◌, set};
 ghost use Rattle.std.proofs.Math.ListN as list;
 ghost use Rattle.std.proofs.lemmas.List.Edits.{sets};

@@ -1,5 +1,7 @@
 // Replays stored jobs: stdin has a container of jobs (oracle/README.md), and for each a line is
 // printed: ok, or no and the number of its refusal. The file stdout holds the oracle's answers.
+#![tactic(auto)]
+
 use job::Verdict;
 use replay::records::Part;
 

@@ -2,6 +2,8 @@
 // standard input, and prints `accepted` and the number of lines, or `no`, the number of the refusal and
 // the line that it speaks of.
 
+#![tactic(auto)]
+
 fn main() {
     judge_text::print_judgement::read_and_print();
 }

@@ -1,5 +1,7 @@
 // The public operation `judge_layout` (document 02, W6, "Layouts from the bureau"): a job and a list of
 // placed panels is accepted, or refused at its first bad line. All rooms are left zero.
+#![tactic(auto)]
+
 ghost use Rattle.std.specs.Prelude.{◌≡◌, List, ◌≤◌, length, Float};
 ghost use Rattle.job.specs.Jobs.{Job, read_job};
 ghost use Rattle.filling.specs.Rooms.{Rooms, rooms_of};

@@ -1,6 +1,8 @@
 // The lines of a layout from elsewhere, one after another (document 02, W6): each is judged against the
 // job, the sheet and the lines before it; then its strips stand. Only crates of ours call `judge_lines`:
 // tables and rooms must be those of a job.
+#![tactic(auto)]
+
 ghost use Rattle.std.specs.Prelude.{◌≡◌, List, [], ℕ, ◌+◌, ◌*◌, ◌≤◌, length, get_or, take, drop, Float};
 ghost use Rattle.index.specs.Buckets.{standing_capacity};
 ghost use Rattle.job.specs.Jobs.{Job, frame_of};

@@ -1,5 +1,7 @@
 // The text that the program `judge` prints for its input (document 02, W6): a list of `put` lines and a
 // job right after it, judged in the rooms that `plan` lends.
+#![tactic(auto)]
+
 pub mod print_judgement;
 
 ghost use Rattle.std.specs.Prelude.{◌≤◌, ◌≡◌, length};

@@ -1,5 +1,7 @@
 // Kinds, written (document 02, W9): a kind's fields and sets from a job's tables, judged as the reader judges them,
 // and put as bits. The functions are called by this project's crates alone.
+#![tactic(auto)]
+
 ghost use Rattle.std.specs.Prelude.{◌≡◌, ℕ, ◌+◌, ◌*◌, ◌≤◌, ◌<◌, length, Float};
 ghost use mathlib.Core.List.{List, flat_map};
 ghost use Rattle.kinds.specs.Kinds.{head_at};

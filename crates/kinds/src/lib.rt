@@ -2,6 +2,8 @@
 // (quantity, fill, priority as 32 bits, orientations), areas its area, and places for each slot,
 // 16 × kind + orientation, the bit positions of its apart and its inset set. The functions are
 // called by this project's crates alone.
+#![tactic(auto)]
+
 pub mod sets;
 
 ghost use Rattle.std.specs.Prelude.{◌≡◌, ◌+◌, ◌*◌, ◌≤◌, ◌<◌, [], length, take};

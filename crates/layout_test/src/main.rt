@@ -4,6 +4,8 @@
 // `judged` with the refusal's number or 0 and the line that it speaks of, and ` left` where a lent slot is
 // not zero after the call. The file stdout holds the oracle's answers (oracle/samples/layout.py), never
 // those of this code.
+#![tactic(auto)]
+
 ghost use Rattle.std.specs.Prelude.{◌≡◌, ◌≤◌, length};
 
 use index::{Bucket, Entry};

@@ -1,5 +1,7 @@
 // Layouts from elsewhere (document 02, W6): the list's lines and what is answered; definitions in
 // specs/, and in proofs/ what is proved of them. The crates above hold the code.
+#![tactic(auto)]
+
 use filling::Verdict;
 use numbers::Double;
 

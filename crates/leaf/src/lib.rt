@@ -1,6 +1,8 @@
 // The leaf that hands back the inset strips or the apart strips of one orientation (document 01,
 // "Filling"), and refusal 9. Slots are 16 × kind + orientation. Both operations read the job for each
 // call: a shop's program calls them after a start, and no filling does.
+#![tactic(auto)]
+
 ghost use Rattle.std.specs.Prelude.{◌≡◌, List, ◌+◌, ◌*◌, ◌≤◌, ◌<◌, length, get_or, Float};
 ghost use Rattle.job.specs.Jobs.{Job};
 ghost use Rattle.filling.specs.Leaf.{lacks, shape_verdict, strips_by_kind};

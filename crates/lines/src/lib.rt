@@ -1,6 +1,8 @@
 // The lines of the printed plan (document 01, "The printed plan") as bytes in a lent buffer. Every
 // function writes at `at` and answers where it ended. Only crates of ours call them: the buffer must
 // be long enough.
+#![tactic(auto)]
+
 ghost use Rattle.std.specs.Prelude.{◌+◌, ◌≤◌, ◌<◌, ◌≡◌, [], ◌∷◌, length};
 ghost use Rattle.nesting.specs.Text.{decimal, hex_digit, hex_up_to, hex, line};
 ghost use Rattle.lines.specs.inner.Writing.{Wrote};

@@ -1,5 +1,7 @@
 // One look (document 01, "Filling"): inset strips against the sheet's strips, apart strips against
 // the strips of the placed copies.
+#![tactic(auto)]
+
 pub mod height;
 
 ghost use Rattle.std.specs.Prelude.{◌≡◌, ◌/◌, length};

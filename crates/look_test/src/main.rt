@@ -5,6 +5,8 @@
 // `se`, `ss` and `sf` are the sheet's entries, starts and first buckets, `pe`, `ps` and `pf` those of
 // the placed strips `put`.
 // The stored answers are those of the lifted Rust (oracle/samples/look.py), never of this code.
+#![tactic(auto)]
+
 mod input;
 mod show;
 

@@ -1,4 +1,6 @@
 // Moving entries up in their room, and buckets' starts with them.
+#![tactic(auto)]
+
 ghost use Rattle.std.specs.Prelude.{ℕ, ◌+◌, ◌≤◌, ◌<◌, length, get_or};
 ghost use Rattle.moves.specs.inner.Moves.{Moved, Shifted};
 

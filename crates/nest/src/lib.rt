@@ -1,6 +1,8 @@
 // The public operation `nest`: the whole plan of a job (document 01, "A refused whole plan returns
 // only the number and zeros every lent room; an accepted one leaves its positions, with zeros after
 // them and in the work rooms").
+#![tactic(auto)]
+
 ghost use Rattle.std.specs.Prelude.{◌≡◌};
 ghost use Rattle.filling.specs.Rooms.{Lent, lent_of};
 ghost use Rattle.nesting.specs.Nest.{nest_of};

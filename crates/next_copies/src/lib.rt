@@ -1,4 +1,6 @@
 // The public operation `next_copies` (document 02, W5): the next n copies in one call.
+#![tactic(auto)]
+
 pub mod copies_job;
 pub mod take_all;
 

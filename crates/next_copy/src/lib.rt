@@ -1,4 +1,6 @@
 // The public operation `next_copy` (document 01): a single step over a state and its rooms.
+#![tactic(auto)]
+
 ghost use Rattle.std.specs.Prelude.{◌≡◌};
 ghost use Rattle.filling.specs.NextCopy.{next_copy_of};
 ghost use Rattle.filling.specs.Rooms.{rooms_of};

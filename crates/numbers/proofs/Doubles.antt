@@ -1,5 +1,5 @@
 -- The laws at binary64, with the values implicit: what the crates above cite. Assumes nothing.
-use Rattle.std.proofs.Common.{◌≡◌, ℕ, ◌+◌, ◌-◌, ◌^◌, ◌<◌, ◌≤◌, not, T, ◌⊎◌, ap, ◌∙◌, inl, inr, arith}
+use Rattle.std.proofs.Common.{◌≡◌, ℕ, ◌+◌, ◌^◌, ◌<◌, ◌≤◌, not, T, ◌⊎◌, ap, ◌∙◌, inl, inr, arith}
 use Rattle.numbers.proofs.Truth.{holds, fails, either}
 use lib.Ieee.{Float, binary64, fits, lt, le, add, sub, mul, div}
 use lib.Ieee.Fits.{cond-fits}

@@ -1,5 +1,5 @@
 -- Which bit patterns are finite. Assumes nothing.
-use Rattle.std.proofs.Common.{◌≡◌, ℕ, zero, suc, ◌+◌, ◌-◌, ◌*◌, ◌/◌, ◌%◌, ◌<◌, ◌≤◌, Bool, true, false, cond, not, T, eqb, ltb, leb, ℤ, sym, refl, ap, ◌∙◌, subst, inl, inr, true≢false, mod-lt, arith, lit<, eqb→eq, ltb→lt, lt→ltb}
+use Rattle.std.proofs.Common.{◌≡◌, ℕ, zero, suc, ◌+◌, ◌*◌, ◌/◌, ◌%◌, ◌<◌, ◌≤◌, Bool, true, false, cond, not, T, eqb, ltb, leb, ℤ, sym, refl, ap, ◌∙◌, subst, inl, inr, true≢false, mod-lt, arith, lit<, eqb→eq, ltb→lt, lt→ltb}
 use lib.Dec.{eqb_refl}
 use lib.Ieee.{Float, nan, inf, fin, Format, binary32, binary64, prec, low, odd, of_fields, of_bits, eq, ones, hid, is_nan, nan_bits, fits, to_bits, up, down}
 use lib.Ieee.Bits.{of_bits-fits, nan_bits_is}
@@ -85,11 +85,11 @@ unfolding eq
 fin_self true m k = rw (is_true (eqb (m * up k * down k) (m * up k * down k)) (eqb_refl (m * up k * down k)))
 fin_self false m k = rw (is_true (eqb (m * up k * down k) (m * up k * down k)) (eqb_refl (m * up k * down k)))
 
-pub nan_bits : (x : Float) → eq x x ≡ false → 9221120237041090560 ≡ to_bits binary64 x
+pub nan_bits_lem : (x : Float) → eq x x ≡ false → 9221120237041090560 ≡ to_bits binary64 x
 unfolding to_bits
-nan_bits nan e = refl
-nan_bits (inf s) e = absurd (true≢false (sym (inf_self s) ∙ e))
-nan_bits (fin s m k) e = absurd (true≢false (sym (fin_self s m k) ∙ e))
+nan_bits_lem nan e = refl
+nan_bits_lem (inf s) e = absurd (true≢false (sym (inf_self s) ∙ e))
+nan_bits_lem (fin s m k) e = absurd (true≢false (sym (fin_self s m k) ∙ e))
 
 pub nan-fits : T (fits binary64 nan)
 unfolding fits

@@ -1,11 +1,15 @@
 // Numbers (document 01, module 1): smaller, larger, order and rounding down of doubles, and a
 // double from a job's bits. Contracts speak of IEEE 754 as the kit's lib.Ieee states it.
-ghost use mathlib.Core.Path.{_≡_};
-ghost use lib.Ieee.{binary64, lt, ofBits, toBits, toUnsigned};
-ghost use lib.Ieee.Scale.{finite};
-ghost use Rattle·numbers·specs.specs.Numbers.{smaller, larger, plus_zero, double_of};
+#![tactic(auto)]
+
+ghost use Rattle.std.specs.Prelude.{◌≡◌, from_bits, to_bits};
+ghost use Rattle.std.specs.Float.{binary64};
+ghost use Rattle.std.specs.Float.Ieee.{lt, to_unsigned};
+ghost use Rattle.std.specs.Float.Ieee.Scale.{finite};
+ghost use Rattle.numbers.specs.Numbers.{smaller, larger, plus_zero, double_of};
 
 // A job's double: finite with any minus zero made plus zero, or an infinity or a NaN.
+#[derive(Drop)]
 pub enum Double {
     Finite(f64),
     NotFinite,
@@ -13,28 +17,28 @@ pub enum Double {
 
 // The smaller of two, the first where they are equal.
 pub fn smaller(a: f64, b: f64) -> f64
-    ensures { λ r. ⌜ r ≡ smaller a b ⌝ }
+    ensures { result ≡ smaller a b }
 {
     if b < a { b } else { a }
 }
 
 // The larger of two, the first where they are equal.
 pub fn larger(a: f64, b: f64) -> f64
-    ensures { λ r. ⌜ r ≡ larger a b ⌝ }
+    ensures { result ≡ larger a b }
 {
     if a < b { b } else { a }
 }
 
 // The order: whether a is below b.
 pub fn less(a: f64, b: f64) -> bool
-    ensures { λ r. ⌜ r ≡ lt a b ⌝ }
+    ensures { result ≡ lt a b }
 {
     a < b
 }
 
 // A minus zero becomes plus zero.
 pub fn plus_zero(x: f64) -> f64
-    ensures { λ r. ⌜ r ≡ plus_zero x ⌝ }
+    ensures { result ≡ plus_zero x }
 {
     if x == 0.0 {
         return 0.0;
@@ -44,7 +48,7 @@ pub fn plus_zero(x: f64) -> f64
 
 // x rounded down and held to 0..2^64 - 1: 0 for what is negative, 2^64 - 1 for what is too large.
 pub fn floor(x: f64) -> u64
-    ensures { λ r. ⌜ r ≡ toUnsigned 64 x ⌝ }
+    ensures { result ≡ to_unsigned 64 x }
 {
     if x >= 18446744073709551616.0 {
         return 0xffff_ffff_ffff_ffff;
@@ -57,14 +61,14 @@ pub fn floor(x: f64) -> u64
 
 // Whether n is the bit pattern of a finite double.
 fn finite_bits(n: u64) -> bool
-    ensures { λ r. ⌜ r ≡ finite (ofBits binary64 n) ⌝ }
+    ensures { result ≡ finite (from_bits binary64 n) }
 {
     n % 0x8000_0000_0000_0000 < 0x7ff0_0000_0000_0000
 }
 
 // The double with the bit pattern n.
 pub fn from_bits(n: u64) -> Double
-    ensures { λ r. ⌜ r ≡ double_of n ⌝ }
+    ensures { result ≡ double_of n }
 {
     if finite_bits(n) {
         let x = f64::from_bits(n);
@@ -76,9 +80,9 @@ pub fn from_bits(n: u64) -> Double
     Double::NotFinite
 }
 
-// The bits of x; of all NaNs' the pattern that `toBits` names.
+// The bits of x; of all NaNs' the pattern that `to_bits` names.
 pub fn bits_of(x: f64) -> u64
-    ensures { λ r. ⌜ r ≡ toBits binary64 x ⌝ }
+    ensures { result ≡ to_bits binary64 x }
 {
     if x == x {
         return f64::to_bits(x);

@@ -1,6 +1,8 @@
 // Placing the next copy (document 01, "Filling"): every orientation is searched, then the winner is
 // stored, or the copy has no place. 22, 20 and 21 are met in this order, before the first write to
 // strips, entries and first buckets.
+#![tactic(auto)]
+
 pub mod next;
 
 ghost use Rattle.std.specs.Prelude.{◌≡◌, ℕ, ◌+◌, ◌*◌, ◌/◌, ◌≤◌, ◌<◌, ◌^◌, length, get_or, take};

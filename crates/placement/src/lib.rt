@@ -1,5 +1,7 @@
 // Whether a place lies in its ranges, and clear of what stands (document 02, W6, "Layouts from the
 // bureau"): the forbidden intervals are met one after another, and none is kept.
+#![tactic(auto)]
+
 pub mod range;
 
 ghost use Rattle.std.specs.Prelude.{◌≡◌};

@@ -1,5 +1,7 @@
 // What C and Rust may link (`rt staticlib plan_exports`, include/panel.h), under plain names: the text of a
 // whole plan; a filling in a given order; a layout from elsewhere, judged.
+#![tactic(auto)]
+
 ghost use Rattle.std.specs.Prelude.{◌≡◌};
 ghost use Rattle.filling.specs.Rooms.{lent_of};
 ghost use Rattle.plan_text.specs.Told.{text_reply_of};

@@ -1,5 +1,7 @@
 // The whole plan of an accepted job: 30, then what is prepared (20, 21), then the copies in their
 // order and the swap search (document 01, "30 is tested as soon as the job is accepted").
+#![tactic(auto)]
+
 pub mod fill_job;
 
 ghost use Rattle.std.specs.Prelude.{◌≡◌, ◌*◌, ◌≤◌, length};

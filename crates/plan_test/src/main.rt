@@ -1,6 +1,8 @@
 // Replays stored jobs as the program `plan` answers them: stdin has a container of jobs
 // (oracle/README.md), and for each a line `job` with its label and then its plan is printed. The
 // file stdout holds the oracle's answers (oracle/samples/plan.py).
+#![tactic(auto)]
+
 use replay::records::Part;
 
 // Prints the answer to the job that the first n bytes are.

@@ -1,5 +1,7 @@
 // The public operation `plan_text`: the whole plan of a job as its printed text (document 01, "The
 // printed plan").
+#![tactic(auto)]
+
 ghost use Rattle.std.specs.Prelude.{◌≡◌, ◌≤◌, ◌++◌, length, take, drop};
 ghost use Rattle.filling.specs.Rooms.{zeros, lent_of};
 ghost use Rattle.plan_text.specs.Told.{text_reply_of};

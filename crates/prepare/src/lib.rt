@@ -1,6 +1,8 @@
 // What an accepted job has before its filling: the sheet's strips, entries and first buckets, the
 // shapes' strips, bounds and parts (document 01, "Then come the sheet's strips (20) and entries (21), the shapes'
 // strips by kind and orientation, apart before inset (20)").
+#![tactic(auto)]
+
 pub mod sheet;
 
 ghost use Rattle.std.specs.Prelude.{◌≡◌, ◌≤◌, length};

@@ -1,5 +1,7 @@
 // The text that the program `plan` prints for its input (document 01, "The printed plan"): `no 11` for a
 // job of more than 65,536 bytes, else its plan, or its refusal, in the rooms that the program lends.
+#![tactic(auto)]
+
 pub mod print_plan;
 
 ghost use Rattle.std.specs.Prelude.{◌≤◌, ◌≡◌, [], ◌∷◌, length};

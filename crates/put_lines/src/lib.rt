@@ -1,5 +1,7 @@
 // A layout's list as text (document 02, W6: "as `put` gives them"): `put` lines as `plan` prints
 // them, and a job's bytes right after the last one.
+#![tactic(auto)]
+
 ghost use Rattle.std.specs.Prelude.{◌+◌, ◌*◌, ◌^◌, ◌≤◌, ◌≡◌, ◌&&◌, length, leb, eqb};
 ghost use Rattle.put_lines.specs.PutLines.{byte_at, digit_of, digits_from, field_after, decimal_after, hex_after, line_from, begins};
 ghost use Rattle.put_lines.specs.inner.Storing.{list_in, Stored};

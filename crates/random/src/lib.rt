@@ -1,4 +1,6 @@
 // Draws (document 01, module 2): SplitMix64 as published in splitmix64.c (Sebastiano Vigna, 2015).
+#![tactic(auto)]
+
 ghost use Rattle.std.specs.Prelude.{◌≡◌, ◌*◌, ◌%◌, ◌^◌};
 ghost use Rattle.random.specs.SplitMix64.{next_state, mixed};
 

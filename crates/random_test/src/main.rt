@@ -1,5 +1,7 @@
 // Replays published SplitMix64 outputs: the first from state 0, the first five from state 1234567.
 // The file stdout holds the published numbers.
+#![tactic(auto)]
+
 fn print_draws(seed: u64, count: u64) {
     let mut state = seed;
     let mut i = 0;

@@ -1,5 +1,7 @@
 // A job's bytes to its tables (document 02, W9: "The office edits jobs"): four numbers and the area
 // of each kind, and the counts and coordinates of all sets, in lent rooms.
+#![tactic(auto)]
+
 mod sets;
 pub mod stores;
 

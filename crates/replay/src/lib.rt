@@ -1,5 +1,7 @@
 // What the program filling_test does beside its calls: commands of a script (oracle/README.md), garbage
 // in rooms, numbers changed one at a time, hashes and printed lines. Only test programs call it.
+#![tactic(auto)]
+
 pub mod command;
 pub mod edit;
 pub mod hash;

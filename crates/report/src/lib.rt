@@ -1,5 +1,7 @@
 // The reply of a whole plan (document 01, "The printed plan"): its verdict, its plan, its positions on
 // the sheet (document 02, W1), and zeros in the work rooms.
+#![tactic(auto)]
+
 pub mod offcut;
 pub mod on_sheet;
 pub mod readied;

@@ -1,4 +1,6 @@
 // Zeros in lent rooms: every slot, those of a remainder too.
+#![tactic(auto)]
+
 pub mod tracks;
 
 ghost use Rattle.std.specs.Prelude.{◌≡◌};

@@ -1,5 +1,7 @@
 // The column search (document 01, "Filling"): the column step, and the search of one orientation
 // from its remembered column.
+#![tactic(auto)]
+
 pub mod columns;
 
 ghost use Rattle.std.specs.Prelude.{◌≡◌, ℕ, ◌+◌, ◌-◌, ◌/◌, ◌≤◌, ◌<◌, ◌^◌, length, get_or, set};

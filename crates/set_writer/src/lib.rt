@@ -1,5 +1,7 @@
 // Sets of loops, written (document 02, W9): numbers of a job's tables, judged as the reader judges them, and put
 // as bits. The functions are called by this project's crates alone.
+#![tactic(auto)]
+
 ghost use Rattle.std.specs.Prelude.{◌≡◌, ℕ, ◌+◌, ◌*◌, ◌≤◌, ◌<◌, length, get_or, Float};
 ghost use mathlib.Core.List.{List, flat_map};
 ghost use Rattle.std.specs.Float.{nan, binary64};

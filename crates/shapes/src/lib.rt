@@ -2,6 +2,8 @@
 // inset"): their strips, their parts of the room and their inset bounds, by slot. A slot is
 // 16 × kind + orientation. Only crates of ours call it, so it may require that the tables are long
 // enough.
+#![tactic(auto)]
+
 pub mod set_strips;
 pub mod slots;
 

@@ -1,5 +1,7 @@
 // The strips of one slab (document 01, "Strips"): crossings of its edges, sorted, and winding.
 // Edges, rows and strips lie in lent tables; `one_slab` is what the crate `strips` calls.
+#![tactic(auto)]
+
 mod winding;
 pub mod xs;
 

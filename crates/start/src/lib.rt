@@ -1,4 +1,6 @@
 // The start (document 01: "a start (it leaves strips and entries for single steps)").
+#![tactic(auto)]
+
 pub mod ordered;
 pub mod replies;
 

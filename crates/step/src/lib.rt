@@ -1,4 +1,6 @@
 // A single step (document 01): the next copy of a state and its rooms.
+#![tactic(auto)]
+
 pub mod step_job;
 
 ghost use Rattle.std.specs.Prelude.{◌≡◌, ◌+◌, ◌≤◌, ◌<◌, length};

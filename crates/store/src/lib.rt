@@ -1,5 +1,7 @@
 // Storing a placed copy (document 01, "Filling"): its apart strips are moved and entered, their first
 // buckets written; 20 and 21 are tested for the whole copy before the first write.
+#![tactic(auto)]
+
 ghost use Rattle.std.specs.Prelude.{◌≡◌, ◌+◌, ◌*◌, ◌≤◌, ◌<◌, length, leb};
 ghost use Rattle.trapezoid.specs.Strip.{capacity};
 ghost use Rattle.index.specs.Buckets.{buckets};

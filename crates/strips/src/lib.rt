@@ -2,6 +2,8 @@
 // A set's points lie as x, y, x, y, ..; each loop ends before the point that `ends` says. The work
 // tables are lent by the caller. Only crates of ours call these functions, so they may require that
 // the tables are long enough and that the loops lie in the points.
+#![tactic(auto)]
+
 ghost use Rattle.std.specs.Prelude.{◌≡◌, not, ◌++◌, ℕ, ◌+◌, ◌-◌, ◌*◌, ◌≤◌, ◌<◌, length, get_or};
 ghost use Rattle.std.specs.Float.{nan};
 ghost use Rattle.std.specs.Float.Ieee.{eq};

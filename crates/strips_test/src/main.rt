@@ -3,6 +3,8 @@
 // of loops; number of points in two bytes; then two bytes for the end of each of 64 loops), then each
 // point's x and y by their bits, 16 bytes. The stored answers are those of the lifted Rust
 // (oracle/samples/strips.py), never of this code.
+#![tactic(auto)]
+
 ghost use Rattle.std.specs.Prelude.{◌≡◌, true, ◌+◌, ◌*◌, ◌≤◌, ◌<◌, length, take};
 ghost use Rattle.strips.specs.inner.Tables.{Loops};
 

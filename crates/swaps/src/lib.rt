@@ -1,6 +1,8 @@
 // The swap search (document 01, "Order and swaps"): the copies are filled in their order, then each
 // round swaps two of them and fills anew; the better filling is kept. A filling lies in one half of
 // two tables: a turn fills the half that is not kept.
+#![tactic(auto)]
+
 pub mod search_plan;
 
 ghost use Rattle.std.specs.Prelude.{true, false, ◌≡◌, ◌+◌, ◌*◌, ◌≤◌, ◌<◌, ◌^◌, length};

@@ -2,6 +2,8 @@
 // for each a line `job` with its label is printed, then the final order, the improvements and the
 // state of the draws, or `no` and the number of the refusal. The file stdout holds the oracle's
 // answers (oracle/samples/swaps.py); oracle/compare/swaps.sh compares many jobs.
+#![tactic(auto)]
+
 ghost use Rattle.std.specs.Prelude.{◌≡◌, ◌*◌, ◌≤◌, length};
 ghost use Rattle.job.specs.Jobs.{Job};
 ghost use Rattle.filling_laws.specs.fill_laws.inner.Prepared.{Prepared, SheetFirsts};

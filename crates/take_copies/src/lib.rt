@@ -1,5 +1,7 @@
 // Copies taken one after another over a state's arrays (document 02, W5). Only crates of ours call
 // these functions.
+#![tactic(auto)]
+
 ghost use Rattle.std.specs.Prelude.{◌≡◌, true, List, ℕ, ◌+◌, ◌-◌, ◌≤◌, ◌<◌, length, Float};
 ghost use Rattle.numbers.specs.Numbers.{pos_zero};
 ghost use Rattle.index.specs.Buckets.{buckets};

@@ -1,6 +1,8 @@
 // The text of a reply (document 01, "The printed plan") as bytes in a lent buffer. Every function
 // answers where it ended. Only crates of ours call them: the tables must be an accepted job's, and
 // the buffer must be long enough; 589,824 bytes are for every plan.
+#![tactic(auto)]
+
 pub mod printed;
 
 ghost use Rattle.std.specs.Prelude.{ℕ, ◌+◌, ◌*◌, ◌≤◌, ◌<◌, ◌≡◌, List, [], ◌∷◌, length, get_or, take, Float};

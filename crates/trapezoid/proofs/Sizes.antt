@@ -2,12 +2,11 @@
 use Prim.Native.Nat.{ℕ, ◌+◌, ◌*◌, ◌^◌, ◌≤◌, ◌<◌}
 use native.Mathlib.Omega.{arith}
 use native.Mathlib.Nat.{mul-le-mul_right}
-use mathlib.Core.Path.{◌≡◌, refl}
 use mathlib.Core.Bool.{Bool, true, false, not, cond}
 use lib.Dec.{T}
 use lib.Ieee.{Float, le}
-use Rattle.numbers.specs.Numbers.{◌⊕◌, ◌⊖◌, ◌⊗◌, ◌⊘◌}
-use Rattle.numbers.proofs.Doubles.{k, o, u, Finite, Number, Upto, Small, Share, finite, le_no, add_upto, sub_upto, add-number, sub_number, add_mono, sub_mono, sub-pos, sub_nonneg, div_share, share_upto}
+use Rattle.numbers.specs.Numbers.{◌⊕◌, ◌⊖◌, ◌⊘◌}
+use Rattle.numbers.proofs.Doubles.{k, o, u, Number, Upto, Small, Share, finite, le_no, add_upto, sub_upto, add-number, sub_number, add_mono, sub_mono, sub-pos, sub_nonneg, div_share, share_upto}
 use Rattle.trapezoid.specs.declared.Trapezoid.{Trapezoid}
 use Rattle.trapezoid.specs.declared.Heights.{Heights}
 use Rattle.trapezoid.specs.Strip.{between, heights_at, moved_by}

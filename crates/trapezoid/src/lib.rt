@@ -1,5 +1,7 @@
 // The strip: nesting.rs's Trapezoid, its heights at an x, its move, and how strips lie in a lent
 // room, six slots each. Everything that loads or stores a strip goes through `load` and `store`.
+#![tactic(auto)]
+
 ghost use Rattle.std.specs.Prelude.{◌≡◌, cond, ◌+◌, ◌*◌, ◌≤◌, length};
 ghost use Rattle.trapezoid.specs.Strip.{strip_at, capacity, heights_at, moved_by, part_of};
 ghost use Rattle.trapezoid.specs.inner.Writing.{set_strip};

@@ -4,6 +4,8 @@
 // job; a byte 3 asks for a filling, and then the number of its copies, all of kind 0, stands for the
 // slots. For each a line `job` with its label is printed, then its plan, or the filling's number and
 // positions. The file stdout holds the oracle's answers (oracle/samples/wide.py), never those of this code.
+#![tactic(auto)]
+
 ghost use Rattle.std.specs.Prelude.{◌≡◌, ◌≤◌, length};
 
 use index::{Bucket, Entry};

@@ -1,4 +1,6 @@
 // The public operation `withdraw` (document 02, W4): a standing copy is taken back.
+#![tactic(auto)]
+
 pub mod standing;
 pub mod withdraw_copy;
 pub mod withdraw_job;

@@ -1,5 +1,7 @@
 // The writer of jobs (document 02, W9): a job as tables in, its bytes out. The functions with a
 // `requires` are called by this project's crates alone.
+#![tactic(auto)]
+
 ghost use Rattle.std.specs.Prelude.{◌≡◌, ℕ, ◌+◌, ◌*◌, ◌≤◌, ◌<◌, List, length, take, replicate, Float};
 ghost use Rattle.bits.specs.Reading as reading;
 ghost use Rattle.kinds.specs.sets.Sets.{Set, a_set};

@@ -7,6 +7,8 @@
 // number, how many counts and coordinates there are, and the hash of the header and of all four rooms; where they
 // are refused, nothing is written. The file stdout holds the oracle's answers (oracle/samples/write.py), never
 // those of this code.
+#![tactic(auto)]
+
 ghost use Rattle.std.specs.Prelude.{◌≤◌};
 
 use job::Header;
