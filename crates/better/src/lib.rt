@@ -91,7 +91,7 @@ fn may_swap(rows: &[u64], order: &[usize], i: usize, k: usize) -> bool
 }
 
 // What is drawn before a turn: the state of the draws, two places, and whether the order is filled.
-#[derive(Drop)]
+#[derive(Clone, Copy)]
 pub struct Drawn {
     pub random: u64,
     pub i: usize,
@@ -150,7 +150,7 @@ fn better_than(a: Totals, b: Totals) -> bool
 
 // What is kept beside the tables: the state of the draws, the totals, the improvements, and which half
 // of the tables has the filling.
-#[derive(Drop)]
+#[derive(Clone, Copy)]
 pub struct Best {
     pub random: u64,
     pub totals: Totals,
@@ -158,7 +158,7 @@ pub struct Best {
     pub kept: usize,
 }
 
-#[derive(Drop)]
+#[derive(Clone, Copy)]
 pub struct Round {
     pub verdict: Verdict,
     pub best: Best,

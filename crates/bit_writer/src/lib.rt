@@ -7,7 +7,7 @@ ghost use Rattle.bit_writer.specs.Packed.{binary, packed, in_room};
 ghost use Rattle.bit_writer.specs.inner.BitWriting.{Sound, written, Wrote, Put, Closed};
 
 // A writer: the whole bytes that are written, and the bits of the next byte so far, with their number.
-#[derive(Drop)]
+#[derive(Clone, Copy)]
 pub struct BitWriter {
     pub bytes: usize,
     pub held: u64,

@@ -10,7 +10,7 @@ ghost use Rattle.bits.specs.inner.Answers.{past, point_read, count_of, taken};
 ghost use Rattle.bits.specs.Fields.{judge_count, judge_points, counted, count, point_count, coordinate_range, judge_number, measured, number, point};
 
 // Why a job is refused: document 01's numbers 1 to 8, in this order.
-#[derive(Drop)]
+#[derive(Clone, Copy)]
 pub enum Refusal {
     Truncated,
     TrailingData,
@@ -39,7 +39,7 @@ pub fn refusal_number(k: Refusal) -> u64
 }
 
 // What taking bits finds.
-#[derive(Drop)]
+#[derive(Clone, Copy)]
 pub enum Taken {
     Bits(u64),
     End,
@@ -132,21 +132,21 @@ pub fn read_field(bytes: &[u8], at: usize, width: usize) -> Taken
 }
 
 // A count, or why it is refused.
-#[derive(Drop)]
+#[derive(Clone, Copy)]
 pub enum Counted {
     Count(u64),
     NoCount(Refusal),
 }
 
 // A double, or why it is refused.
-#[derive(Drop)]
+#[derive(Clone, Copy)]
 pub enum Measured {
     Value(f64),
     NoValue(Refusal),
 }
 
 // A point's x and y and the position after it, or why it is refused.
-#[derive(Drop)]
+#[derive(Clone, Copy)]
 pub enum PointRead {
     Point(f64, f64, usize),
     NoPoint(Refusal),

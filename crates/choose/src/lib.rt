@@ -19,7 +19,7 @@ use search::columns::Columns;
 use strips::Rect;
 
 // Where the strips of a slot lie: 16 * kind + orientation is its slot.
-#[derive(Drop)]
+#[derive(Clone, Copy)]
 pub struct Part {
     pub apart_start: usize,
     pub apart_count: usize,
@@ -29,7 +29,7 @@ pub struct Part {
 
 // A place that an orientation's search found, with the clear height above it: right is x + b2, top is
 // y + b3.
-#[derive(Drop)]
+#[derive(Clone, Copy)]
 pub struct Choice {
     pub orientation: usize,
     pub x: f64,
@@ -41,7 +41,7 @@ pub struct Choice {
 
 // What every search of a plan shares: the sheet's index and bounds, the resolution, and the apart
 // strips, which begin the shapes room.
-#[derive(Drop)]
+#[derive(Clone, Copy)]
 pub struct Grid {
     pub index: Index,
     pub bounds: Rect,
@@ -64,7 +64,7 @@ pub fn grid_of(tables: Tables) -> Grid
 }
 
 // The choice that wins, none, or that a look's intervals exceed the room.
-#[derive(Drop)]
+#[derive(Clone, Copy)]
 pub enum Winner {
     At(Choice),
     Nowhere,

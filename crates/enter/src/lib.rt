@@ -27,7 +27,7 @@ fn later(a: usize, b: usize) -> usize
 }
 
 // Whether the room holds the new entries; if so how many, from which bucket on and before which.
-#[derive(Drop)]
+#[derive(Clone, Copy)]
 struct Window {
     fits: bool,
     more: usize,

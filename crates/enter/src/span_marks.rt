@@ -18,7 +18,7 @@ pub fn width_of(lo: usize, hi: usize) -> usize
 }
 
 // The first and the last bucket of a strip.
-#[derive(Drop)]
+#[derive(Clone, Copy)]
 pub struct Span {
     pub lo: usize,
     pub hi: usize,

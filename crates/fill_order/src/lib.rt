@@ -18,7 +18,7 @@ use index::{Bucket, Entry};
 use place::Totals;
 
 // What a filling answers beside the layout: accepted, or the refusal first met.
-#[derive(Drop)]
+#[derive(Clone, Copy)]
 pub struct Filled {
     pub verdict: Verdict,
     pub totals: Totals,

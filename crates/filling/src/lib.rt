@@ -5,7 +5,7 @@
 pub mod promises;
 
 // Why a call is refused: document 01's tables; `number_of` of specs/Refusals.antt gives the numbers.
-#[derive(Drop)]
+#[derive(Clone, Copy)]
 pub enum Refusal {
     Job(bits::Refusal),
     MissingShape,
@@ -22,14 +22,14 @@ pub enum Refusal {
     Inconsistent,
 }
 
-#[derive(Drop)]
+#[derive(Clone, Copy)]
 pub enum Verdict {
     Accepted,
     Refused(Refusal),
 }
 
 // What a start prepares. A slot is 16 × kind + orientation.
-#[derive(Drop)]
+#[derive(Clone, Copy)]
 pub struct Tables {
     pub resolution: f64,
     pub sheet_bounds: strips::Rect,
@@ -45,7 +45,7 @@ pub struct Tables {
 }
 
 // For each place in the order 0 for none, or 1 + orientation with x, y and the clear height above.
-#[derive(Drop)]
+#[derive(Clone, Copy)]
 pub struct Layout {
     pub orientation: [usize; 4096],
     pub x: [f64; 4096],
@@ -56,7 +56,7 @@ pub struct Layout {
 }
 
 // What stands between two calls of next copy, beside the strip and entry rooms.
-#[derive(Drop)]
+#[derive(Clone, Copy)]
 pub struct State {
     pub tables: Tables,
     // The kind at each place in the order.
@@ -71,7 +71,7 @@ pub struct State {
 }
 
 // What a filling or a whole plan answers beside the positions; look counts by slot.
-#[derive(Drop)]
+#[derive(Clone, Copy)]
 pub struct Plan {
     pub placed: usize,
     pub unplaced: usize,

@@ -14,13 +14,13 @@ use kinds::sets::SetRead;
 
 // A start corner and a fill axis, by their numbers in nesting.rs's order: lower left, lower right,
 // upper left, upper right; x, y.
-#[derive(Drop)]
+#[derive(Clone, Copy)]
 pub struct Frame {
     pub corner: u64,
     pub axis: u64,
 }
 
-#[derive(Drop)]
+#[derive(Clone, Copy)]
 pub struct Point {
     pub x: f64,
     pub y: f64,

@@ -9,7 +9,7 @@ ghost use Rattle.index.specs.entries.inner.Cursors.{raised, sum_of, Counts, Begu
 use crate::{Bucket, Entry, Index};
 
 // Where the entries that were looked for end, or that the entries are others.
-#[derive(Drop)]
+#[derive(Clone, Copy)]
 pub enum Walked {
     At(usize),
     Wrong,

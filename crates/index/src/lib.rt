@@ -22,21 +22,21 @@ pub type Bucket = u16;
 const STRIP_NUMBERS: usize = 65536;
 
 // The buckets: Index::BUCKETS of them, each `width` wide, the first from x0 on.
-#[derive(Drop)]
+#[derive(Clone, Copy)]
 pub struct Index {
     pub x0: f64,
     pub width: f64,
 }
 
 // An open interval of heights: neither end lies in it.
-#[derive(Drop)]
+#[derive(Clone, Copy)]
 pub struct Interval {
     pub from: f64,
     pub to: f64,
 }
 
 // What a moving strip and a standing strip have in common: nothing, or an interval of forbidden heights.
-#[derive(Drop)]
+#[derive(Clone, Copy)]
 pub enum Meeting {
     Apart,
     Forbidden(Interval),
@@ -44,7 +44,7 @@ pub enum Meeting {
 
 // A moving strip (document 01): a strip moved by x, the ends to which it moves, and the lowest and
 // the highest allowed height.
-#[derive(Drop)]
+#[derive(Clone, Copy)]
 pub struct Moving {
     pub strip: Trapezoid,
     pub x: f64,

@@ -13,7 +13,7 @@ use kinds::KindsRead;
 use kinds::sets::SetRead;
 
 // What stands before the sheet; start corner and fill axis by their numbers (see Frame).
-#[derive(Drop)]
+#[derive(Clone, Copy)]
 pub struct Header {
     pub version: u64,
     pub corner: u64,
@@ -35,7 +35,7 @@ pub fn frame_of(h: Header) -> Frame
 }
 
 // The header and the position after it, or why it is refused.
-#[derive(Drop)]
+#[derive(Clone, Copy)]
 pub enum HeaderRead {
     Front(Header, usize),
     NoHeader(Refusal),
@@ -166,7 +166,7 @@ pub fn width_of(room: &[f64], n: usize) -> f64
 }
 
 // What is judged after the last field.
-#[derive(Drop)]
+#[derive(Clone, Copy)]
 pub enum Judged {
     Passed,
     Failed(Refusal),
@@ -189,7 +189,7 @@ fn judge_end(bytes: &[u8], p: usize, copies: u64, width: f64, resolution: f64) -
 }
 
 // The header, the bit position of the sheet's set and the copies in all; or why the job is refused.
-#[derive(Drop)]
+#[derive(Clone, Copy)]
 pub enum JobRead {
     Good(Header, u32, u64),
     NoJob(Refusal),
@@ -244,7 +244,7 @@ fn read_job(
 }
 
 // A job as it was read: its answer and its tables.
-#[derive(Drop)]
+#[derive(Clone, Copy)]
 pub struct ReadJob {
     pub answer: JobRead,
     pub rows: [u64; 256],
@@ -279,7 +279,7 @@ pub fn read(bytes: &[u8]) -> ReadJob
 }
 
 // The header and the copies in all, or why the job is refused.
-#[derive(Drop)]
+#[derive(Clone, Copy)]
 pub enum Verdict {
     Accepted(Header, u64),
     Refused(Refusal),

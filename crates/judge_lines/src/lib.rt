@@ -24,14 +24,14 @@ use search::columns::Columns;
 use store::Rest;
 
 // What the lines before leave: so many strips stand, and there is room for so many entries more.
-#[derive(Drop)]
+#[derive(Clone, Copy)]
 pub struct Standing {
     pub strips: usize,
     pub entries: usize,
 }
 
 // A line's strips stand, or why it is refused.
-#[derive(Drop)]
+#[derive(Clone, Copy)]
 pub enum Line {
     Stands(Standing),
     Bad(Refusal),

@@ -127,7 +127,7 @@ fn head_at(rows: &[u64], areas: &[f64], k: usize) -> KindHead
 }
 
 // The kinds that are put and their copies, or why one is refused.
-#[derive(Drop)]
+#[derive(Clone, Copy)]
 pub enum KindsPut {
     Kinds(Walk, u64),
     NoKinds(Refusal),

@@ -76,7 +76,7 @@ fn read_orientations(
 }
 
 // A kind's fields before its sets; the priority as 32 bits.
-#[derive(Drop)]
+#[derive(Clone, Copy)]
 pub struct KindHead {
     pub quantity: u64,
     pub fill: u64,
@@ -85,7 +85,7 @@ pub struct KindHead {
     pub orientations: u64,
 }
 
-#[derive(Drop)]
+#[derive(Clone, Copy)]
 pub enum HeadRead {
     Head(KindHead),
     NoHead(Refusal),
@@ -129,7 +129,7 @@ fn read_head(bytes: &[u8], at: usize) -> HeadRead
 }
 
 // A kind's fields and the position after it, or why it is refused.
-#[derive(Drop)]
+#[derive(Clone, Copy)]
 pub enum KindRead {
     OneKind(KindHead, usize),
     NoKind(Refusal),
@@ -175,7 +175,7 @@ fn put_head(rows: &mut [u64], areas: &mut [f64], kind: usize, h: KindHead)
 }
 
 // The copies of all kinds and the position after them, or why one is refused.
-#[derive(Drop)]
+#[derive(Clone, Copy)]
 pub enum KindsRead {
     AllKinds(u64, usize),
     NoKinds(Refusal),

@@ -8,21 +8,21 @@ ghost use Rattle.kinds.specs.sets.inner.Answers.{run_read, loop_read, set_read, 
 use bits::{Counted, PointRead, Refusal};
 
 // The position after what was read into a table, or why it is refused.
-#[derive(Drop)]
+#[derive(Clone, Copy)]
 pub enum Run {
     Past(usize),
     Stopped(Refusal),
 }
 
 // The points of the set after one more loop, and the position after it; or why it is refused.
-#[derive(Drop)]
+#[derive(Clone, Copy)]
 pub enum LoopRead {
     Loop(usize, usize),
     NoLoop(Refusal),
 }
 
 // A set's loops, its points and the position after it; or why it is refused.
-#[derive(Drop)]
+#[derive(Clone, Copy)]
 pub enum SetRead {
     Loops(usize, usize, usize),
     NoSet(Refusal),

@@ -6,7 +6,7 @@ use filling::Verdict;
 use numbers::Double;
 
 // A line of a layout: kind, orientation, x and y as `put` gives them.
-#[derive(Drop)]
+#[derive(Clone, Copy)]
 pub struct PutLine {
     pub kind: u64,
     pub orientation: u64,
@@ -16,7 +16,7 @@ pub struct PutLine {
 
 // Accepted or the refusal, and the number of the line that it speaks of: of the lines accepted before
 // it; where all are accepted, of all.
-#[derive(Drop)]
+#[derive(Clone, Copy)]
 pub struct Judgement {
     pub verdict: Verdict,
     pub line: usize,

@@ -8,7 +8,7 @@ ghost use Rattle.look.specs.height.inner.Raising.{lift, raised, lower, from_last
 use index::Interval;
 
 // A look's answer (document 01; 02, W7): a free height and the clear height above it, or full.
-#[derive(Drop)]
+#[derive(Clone, Copy)]
 pub enum Look {
     Free(f64, f64),
     Full,

@@ -13,7 +13,7 @@ use crate::height::Look;
 use index::{Bucket, Entry, Index};
 
 // A look's answer, or that its counted intervals exceed the room.
-#[derive(Drop)]
+#[derive(Clone, Copy)]
 pub enum Answer {
     NoRoom,
     Seen(Look),

@@ -251,7 +251,7 @@ fn numbers_of(head: &[u8]) -> usize
 }
 
 // Where the sheet's, placed, inset and apart strips end, and the numbers of the intervals.
-#[derive(Drop)]
+#[derive(Clone, Copy)]
 struct Ends {
     sheet: usize,
     placed: usize,

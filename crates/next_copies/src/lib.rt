@@ -16,7 +16,7 @@ use job::JobRead;
 
 // How many copies were taken, those without a place included; the refusal that ended it, if one did; the
 // state after the last copy that was taken.
-#[derive(Drop)]
+#[derive(Clone, Copy)]
 pub struct Taken {
     pub took: usize,
     pub verdict: Verdict,

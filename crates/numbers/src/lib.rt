@@ -9,7 +9,7 @@ ghost use Rattle.std.specs.Float.Ieee.Scale.{finite};
 ghost use Rattle.numbers.specs.Numbers.{smaller, larger, plus_zero, double_of};
 
 // A job's double: finite with any minus zero made plus zero, or an infinity or a NaN.
-#[derive(Drop)]
+#[derive(Clone, Copy)]
 pub enum Double {
     Finite(f64),
     NotFinite,

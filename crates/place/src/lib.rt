@@ -22,7 +22,7 @@ use store::Stored;
 use strips::Rect;
 
 // What the tables say of a copy: its kind's first slot, number of orientations and area.
-#[derive(Drop)]
+#[derive(Clone, Copy)]
 pub struct Copy {
     pub slot: usize,
     pub orientations: usize,
@@ -44,7 +44,7 @@ pub fn copy_at(order: &[usize], rows: &[u64], areas: &[f64], i: usize) -> Copy
 }
 
 // What stands beside the rooms: the number of the placed strips, right and the unplaced area.
-#[derive(Drop)]
+#[derive(Clone, Copy)]
 pub struct Totals {
     pub placed_strips: usize,
     pub right: f64,
@@ -52,14 +52,14 @@ pub struct Totals {
 }
 
 // Where the copy stands, that it has no place, or why it is refused.
-#[derive(Drop)]
+#[derive(Clone, Copy)]
 pub enum Outcome {
     At(Choice),
     Nowhere,
     Refused(Refusal),
 }
 
-#[derive(Drop)]
+#[derive(Clone, Copy)]
 pub struct Step {
     pub outcome: Outcome,
     pub totals: Totals,

@@ -19,7 +19,7 @@ use shapes::ShapesLaid;
 use strips::Rect;
 
 // What is prepared: accepted or the refusal; the tables; where the sheet's buckets start.
-#[derive(Drop)]
+#[derive(Clone, Copy)]
 pub struct Prepared {
     pub verdict: Verdict,
     pub tables: Tables,

@@ -12,7 +12,7 @@ use index::{Bucket, Entry, Index};
 use strips::{Rect, Stored};
 
 // The sheet's bounds and how many strips it has; or refusal 20 or 21.
-#[derive(Drop)]
+#[derive(Clone, Copy)]
 pub enum SheetLaid {
     Strips(Rect, usize),
     NoStrips,

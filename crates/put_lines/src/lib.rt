@@ -7,14 +7,14 @@ ghost use Rattle.put_lines.specs.PutLines.{byte_at, digit_of, digits_from, field
 ghost use Rattle.put_lines.specs.inner.Storing.{list_in, Stored};
 
 // A number as far as its digits are read, and where they end.
-#[derive(Drop)]
+#[derive(Clone, Copy)]
 pub struct Digits {
     pub value: u64,
     pub end: usize,
 }
 
 // A field's number, where the next field begins, and whether all is so written up to there.
-#[derive(Drop)]
+#[derive(Clone, Copy)]
 pub struct Field {
     pub value: u64,
     pub next: usize,
@@ -22,7 +22,7 @@ pub struct Field {
 }
 
 // What is used of a line, where the next line begins, and whether it is so written.
-#[derive(Drop)]
+#[derive(Clone, Copy)]
 pub struct Line {
     pub kind: u64,
     pub orientation: u64,
@@ -34,7 +34,7 @@ pub struct Line {
 
 // What a list's text reads as: so many lines, and where the job begins; the number of the line that
 // is not so written, counted from 0; or more lines than the room has.
-#[derive(Drop)]
+#[derive(Clone, Copy)]
 pub enum ListRead {
     Lines(usize, usize),
     Malformed(usize),

@@ -20,7 +20,7 @@ use job::{Header, JobRead};
 
 // The header of a job whose tables are laid, how many counts and how many coordinates it has; or why
 // they are not.
-#[derive(Drop)]
+#[derive(Clone, Copy)]
 pub enum Reply {
     Tables(Header, usize, usize),
     Refused(Refusal),

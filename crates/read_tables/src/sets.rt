@@ -11,7 +11,7 @@ use crate::stores;
 use kinds::sets::SetRead;
 
 // How many counts and coordinates there are so far.
-#[derive(Drop)]
+#[derive(Clone, Copy)]
 pub struct Filled {
     pub counts: usize,
     pub coordinates: usize,

@@ -4,7 +4,7 @@
 ghost use Rattle.std.specs.Prelude.{◌≤◌};
 
 // So many bytes, at the beginning of the room; or the input ended, or the room was too short.
-#[derive(Drop)]
+#[derive(Clone, Copy)]
 pub enum Part {
     Bytes(usize),
     Nothing,

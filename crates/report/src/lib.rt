@@ -23,7 +23,7 @@ use index::{Bucket, Entry};
 use place::Totals;
 
 // What a whole plan answers: accepted or its refusal, and the plan, all zero where it is refused.
-#[derive(Drop)]
+#[derive(Clone, Copy)]
 pub struct NestResult {
     pub verdict: Verdict,
     pub plan: Plan,

@@ -6,7 +6,7 @@ ghost use Rattle.search.specs.columns.inner.Stands.{columns_of, reversed_of, reg
 use strips::Rect;
 
 // Column c, 0 to count, stands at x_low + c * resolution, column count + 1 at x_high.
-#[derive(Drop)]
+#[derive(Clone, Copy)]
 pub struct Columns {
     pub x_low: f64,
     pub x_high: f64,

@@ -19,7 +19,7 @@ use look::height::Look;
 
 // The column that a search yields, with its free height and the clear height above it; or that a
 // look's intervals exceed the room.
-#[derive(Drop)]
+#[derive(Clone, Copy)]
 pub enum Found {
     At(usize, f64, f64),
     Nowhere,

@@ -36,14 +36,14 @@ pub fn number_at(numbers: &[f64], i: usize) -> f64
 }
 
 // How far a job's tables are walked, and the writer that writes it.
-#[derive(Drop)]
+#[derive(Clone, Copy)]
 pub struct Walk {
     pub counts: usize,
     pub coordinates: usize,
     pub writer: BitWriter,
 }
 
-#[derive(Drop)]
+#[derive(Clone, Copy)]
 pub enum Walked {
     On(Walk),
     Not(Refusal),

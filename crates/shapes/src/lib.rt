@@ -16,7 +16,7 @@ use frames::Frame;
 use strips::Stored;
 
 // How many apart strips and inset strips were laid, or that they exceed the room (document 01's 20).
-#[derive(Drop)]
+#[derive(Clone, Copy)]
 pub enum ShapesLaid {
     Strips(usize, usize),
     NoRoom,

@@ -10,7 +10,7 @@ ghost use Rattle.slabs.specs.Slab.{up, insert, spans, height_at, crossing, ahead
 ghost use Rattle.slabs.specs.inner.Tables.{down, edge_at, row_at, set_row, crossing_of, crossing_at, behind, Placed, put, hold};
 
 // An edge from p to q, with the smaller and the larger of its x's.
-#[derive(Drop)]
+#[derive(Clone, Copy)]
 pub struct Edge {
     pub px: f64,
     pub py: f64,
@@ -21,7 +21,7 @@ pub struct Edge {
 }
 
 // A crossing as it lies in the work table: d is 1.0 or -1.0.
-#[derive(Drop)]
+#[derive(Clone, Copy)]
 pub struct Row {
     pub ya: f64,
     pub yb: f64,

@@ -7,7 +7,7 @@ use filling::{Layout, Refusal, State, Tables, Verdict};
 use strips::Rect;
 
 // Whether the start was refused, and the state before the first copy; all zero where it was.
-#[derive(Drop)]
+#[derive(Clone, Copy)]
 pub struct Started {
     pub verdict: Verdict,
     pub state: State,

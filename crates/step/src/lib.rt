@@ -15,7 +15,7 @@ use index::{Bucket, Entry};
 use place::{Step, Totals};
 
 // What a single step answers: its verdict, and the state after it.
-#[derive(Drop)]
+#[derive(Clone, Copy)]
 pub struct Stepped {
     pub verdict: Verdict,
     pub state: State,

@@ -12,7 +12,7 @@ use index::{Bucket, Entry, Index};
 use trapezoid::Trapezoid;
 
 // Refusal 20, refusal 21, or that the copy is stored.
-#[derive(Drop)]
+#[derive(Clone, Copy)]
 pub enum Stored {
     NoStrips,
     NoEntries,
@@ -20,7 +20,7 @@ pub enum Stored {
 }
 
 // What is left of a room for entries, or that it is too short.
-#[derive(Drop)]
+#[derive(Clone, Copy)]
 pub enum Rest {
     Enough(usize),
     Short,

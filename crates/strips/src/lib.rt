@@ -13,7 +13,7 @@ ghost use Rattle.strips.specs.inner.Tables.{slanted, Loops, Stowed, strips_store
 ghost use Rattle.strips.specs.Strips.{distinct, widened, bounds, edge, after, loop_edges, edges, strips_between, slabs, trapezoids};
 
 // A bounding box, in nesting.rs's order: smallest x, smallest y, largest x, largest y.
-#[derive(Drop)]
+#[derive(Clone, Copy)]
 pub struct Rect {
     pub left: f64,
     pub bottom: f64,
@@ -22,7 +22,7 @@ pub struct Rect {
 }
 
 // How many strips were stored, or that they do not fit (document 01's 20).
-#[derive(Drop)]
+#[derive(Clone, Copy)]
 pub enum Stored {
     Count(usize),
     NoRoom,

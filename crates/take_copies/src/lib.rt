@@ -22,7 +22,7 @@ use place::Totals;
 use take_copy::turn::Turn;
 
 // How many copies were taken, and what the last turn came to.
-#[derive(Drop)]
+#[derive(Clone, Copy)]
 pub struct Run {
     pub took: usize,
     pub last: Turn,

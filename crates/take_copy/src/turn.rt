@@ -29,7 +29,7 @@ use place::{Copy, Outcome, Step, Totals};
 
 // What a copy more comes to: whether it is taken, what stands beside the rooms then, and whether 31
 // lets the next one pass.
-#[derive(Drop)]
+#[derive(Clone, Copy)]
 pub struct Turn {
     pub verdict: Verdict,
     pub totals: Totals,

@@ -8,7 +8,7 @@ ghost use Rattle.trapezoid.specs.inner.Writing.{set_strip};
 
 // A strip (document 01): between x0 and x1, from the low side to the high side, each given by its
 // height at x0 and at x1.
-#[derive(Drop)]
+#[derive(Clone, Copy)]
 pub struct Trapezoid {
     pub x0: f64,
     pub x1: f64,
@@ -19,7 +19,7 @@ pub struct Trapezoid {
 }
 
 // The heights of a strip's two sides at one x.
-#[derive(Drop)]
+#[derive(Clone, Copy)]
 pub struct Heights {
     pub low: f64,
     pub high: f64,

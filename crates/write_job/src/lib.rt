@@ -23,7 +23,7 @@ use numbers::Double;
 use set_writer::{Walk, Walked};
 
 // The bytes of a job that is written, or why it is not.
-#[derive(Drop)]
+#[derive(Clone, Copy)]
 pub enum Reply {
     Written(usize),
     Refused(Refusal),
@@ -195,7 +195,7 @@ fn sheet_width(f: Frame, counts: &[u64], coordinates: &[f64]) -> f64
 }
 
 // The writer after a job's fields and the job's copies; or why it is refused.
-#[derive(Drop)]
+#[derive(Clone, Copy)]
 pub enum JobPut {
     Fields(BitWriter, u64),
     NoFields(Refusal),

@@ -1,0 +1,18 @@
+use Prim.Native.Nat.{◌≤◌, ◌-◌}
+use lib.ListN.{length, length-set}
+use lib.Ieee.{lt}
+use mathlib.Core.Path.{◌≡◌, refl, ◌∙◌}
+use mathlib.Core.Logic.{⊎_elim, inl, inr}
+use native.Mathlib.Omega.{arith}
+use Rattle.slabs.proofs.Sorting.{over, over_start}
+use Rattle.slabs.specs.Slab.{insert}
+use Rattle.slabs.specs.inner.Tables.{down}
+use Rattle.slabs.proofs.xs.Lines.{at, insert-number, insert-number-last}
+use borrow.Author.Rules.{rules}
+use Rattle.slabs.proofs.xs.insert_x.Given as goal
+
+abbrev pub invariant-loop-k : goal.invariant-loop-k
+invariant-loop-k l = (l.k ≤ l.n) × (length l.line ≡ length l.initial.line) × (over (at l.line) l.k (l.n - l.k) (insert lt l.x (down (at l.line) l.k)) ≡ insert lt l.x (down (at l.initial.line) l.n))
+
+abbrev pub decreases-loop-k : goal.decreases-loop-k
+decreases-loop-k l = l.k

@@ -1,0 +1,19 @@
+use Prim.Native.Nat.{◌+◌, ◌≤◌, ◌-◌, ◌*◌}
+use lib.ListN.{length, get_or}
+use lib.Ieee.{Float, nan, lt}
+use mathlib.Core.Path.{◌≡◌, refl, ◌∙◌}
+use mathlib.Core.List.{List, ◌++◌}
+use native.Mathlib.Omega.{arith}
+use Rattle.slabs.specs.Slab.{up, sort}
+use Rattle.slabs.specs.inner.Tables.{down}
+use Rattle.slabs.proofs.xs.Lines.{at}
+use Rattle.slabs.specs.xs.inner.Xs.{x_at}
+use Rattle.slabs.proofs.xs.SortedXs.{sort-none, sort_more}
+use Rattle.slabs.proofs.xs.Runs.{inserted}
+use Rattle.slabs.proofs.xs.insert_xs.Given as goal
+
+abbrev pub invariant-loop-i : goal.invariant-loop-i
+invariant-loop-i w = (w.first ≤ w.i) × (w.i ≤ w.n) × (w.k ≡ w.m + (w.n - w.i)) × (length w.line ≡ length w.initial.line) × ((l : List Float) → down (at w.initial.line) w.m ≡ sort lt l → down (at w.line) w.k ≡ sort lt (up (x_at w.points) w.i (w.n - w.i) ++ l))
+
+abbrev pub decreases-loop-i : goal.decreases-loop-i
+decreases-loop-i l = l.i

@@ -1,0 +1,20 @@
+use Prim.Native.Nat.{◌+◌, ◌≤◌, ◌-◌}
+use lib.ListN.{length}
+use lib.Ieee.{Float, lt}
+use mathlib.Core.Path.{◌≡◌, refl, ap, ◌∙◌}
+use mathlib.Core.List.{List, ◌++◌}
+use native.Mathlib.Omega.{arith}
+use Rattle.slabs.specs.Slab.{up, sort}
+use Rattle.slabs.specs.inner.Tables.{down}
+use Rattle.slabs.proofs.Sorting.{up_all}
+use Rattle.slabs.proofs.xs.Lines.{at}
+use Rattle.slabs.specs.xs.inner.Xs.{x_at, sides}
+use Rattle.slabs.proofs.xs.Runs.{sides_all, run_sorted, run_merged}
+use Rattle.slabs.proofs.xs.sort_xs.Given as goal
+
+abbrev pub invariant-loop-i : goal.invariant-loop-i
+invariant-loop-i l = (l.i ≤ l.initial.i) × (l.i ≤ l.n) × (l.n ≤ l.m + l.i) × (l.m + l.i ≤ l.n + 2) × (length l.line ≡ length l.initial.line) × (length l.run ≡ length l.initial.run) ×
+    (down (at l.line) l.m ≡ sort lt (up (x_at l.points) l.i (l.n - l.i) ++ sides l.sheet l.left l.right))
+
+abbrev pub decreases-loop-i : goal.decreases-loop-i
+decreases-loop-i l = l.i
