@@ -1,7 +1,6 @@
 -- `slabs::before` meets its contract. Assumes nothing.
 use Rattle.slabs.specs.Slab.{before}
 use Rattle.slabs.specs.inner.Tables.{crossing_of}
-use borrow.Author.Rules.{rules}
 use Rattle.slabs.proofs.before.Goals as goal
 
 pub returns-then-s-t : goal.returns-then-s-t

@@ -1,6 +1,5 @@
 -- `slabs::behind` meets its contract. Assumes nothing.
 use mathlib.Core.Path.{sym, ◌∙◌}
-use borrow.Author.Rules.{rules}
 use Rattle.slabs.proofs.Forward.{stays, goes}
 use Rattle.slabs.specs.inner.Tables.{crossing_of}
 use Rattle.slabs.proofs.behind.Goals as goal

@@ -1,7 +1,6 @@
 -- `slabs::cross` meets its contract. Assumes nothing.
 use Rattle.slabs.specs.Slab.{crossing}
 use Rattle.slabs.proofs.Rows.{cross_on, cross_back}
-use borrow.Author.Rules.{rules}
 use Rattle.slabs.proofs.cross.Goals as goal
 
 pub returns-then-e : goal.returns-then-e

@@ -1,14 +1,8 @@
 use Prim.Native.Nat.{◌+◌, ◌≤◌, ◌-◌}
 use lib.ListN.{length}
-use mathlib.Core.Path.{◌≡◌, refl, ap, ◌∙◌}
-use mathlib.Core.List.{List}
-use native.Mathlib.Omega.{arith}
-use Rattle.slabs.specs.declared.Edge.{Edge}
-use Rattle.slabs.proofs.Rows.{gather_none, gather_on, gather_off}
-use Rattle.slabs.proofs.Sorting.{up_all}
+use mathlib.Core.Path.{◌≡◌}
 use Rattle.slabs.specs.Slab.{up, crossings}
 use Rattle.slabs.specs.inner.Tables.{down, crossing_at, edge_at}
-use borrow.Author.Rules.{rules}
 use Rattle.slabs.proofs.gather.Given as goal
 
 abbrev pub invariant-loop-i : goal.invariant-loop-i

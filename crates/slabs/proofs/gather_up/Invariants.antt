@@ -1,10 +1,8 @@
 use Prim.Native.Nat.{◌≤◌, ◌-◌}
 use lib.ListN.{length}
-use mathlib.Core.Path.{◌≡◌, refl, ◌∙◌}
-use native.Mathlib.Omega.{arith}
-use Rattle.slabs.proofs.Forward.{Gathered, forward_none, forward_on, forward_off, forward_all}
+use mathlib.Core.Path.{◌≡◌}
+use Rattle.slabs.proofs.Forward.{Gathered}
 use Rattle.slabs.specs.inner.Tables.{crossing_at, edge_at}
-use borrow.Author.Rules.{rules}
 use Rattle.slabs.proofs.gather_up.Given as goal
 
 abbrev pub invariant-loop-i : goal.invariant-loop-i

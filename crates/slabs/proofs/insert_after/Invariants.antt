@@ -1,13 +1,9 @@
 use Prim.Native.Nat.{◌≤◌, ◌-◌}
 use lib.ListN.{length}
-use mathlib.Core.Path.{◌≡◌, refl, ◌∙◌}
-use mathlib.Core.Logic.{⊎_elim, inl, inr}
-use native.Mathlib.Omega.{arith}
-use Rattle.slabs.proofs.Forward.{after_row, after_row_last, after_stops}
-use Rattle.slabs.proofs.Sorting.{over, over_start}
+use mathlib.Core.Path.{◌≡◌}
+use Rattle.slabs.proofs.Sorting.{over}
 use Rattle.slabs.specs.Slab.{insert}
 use Rattle.slabs.specs.inner.Tables.{down, behind, crossing_of, crossing_at}
-use borrow.Author.Rules.{rules}
 use Rattle.slabs.proofs.insert_after.Given as goal
 
 abbrev pub invariant-loop-k : goal.invariant-loop-k

@@ -4,7 +4,6 @@ use mathlib.Core.List.{List}
 use lib.IntN.{pos}
 use Rattle.slabs.specs.Slab.{walk, slab, Crossing}
 use Rattle.slabs.specs.inner.Tables.{hold}
-use borrow.Author.Rules.{rules}
 use Rattle.slabs.proofs.one_slab.Goals as goal
 
 pub returns : goal.returns

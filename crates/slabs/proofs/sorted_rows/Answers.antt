@@ -1,6 +1,5 @@
 -- `slabs::sorted_rows` meets its contract. Assumes nothing.
 use native.Mathlib.Omega.{arith}
-use borrow.Author.Rules.{rules}
 use Rattle.slabs.proofs.sorted_rows.Goals as goal
 
 pub returns-then-m-count : goal.returns-then-m-count

@@ -1,8 +1,7 @@
 -- `slabs::wind` meets its contract. Assumes nothing.
-use Prim.Native.Nat.{◌+◌, ◌≤◌, ◌<◌}
-use lib.ListN.{length}
+use Prim.Native.Nat.{◌<◌}
 use lib.Ieee.{lt}
-use mathlib.Core.Path.{◌≡◌, refl, ap, ◌∙◌}
+use mathlib.Core.Path.{refl, ap, ◌∙◌}
 use native.Mathlib.Omega.{arith}
 use mathlib.Core.Bool.{Bool, ◌&&◌}
 use lib.IntN.{ℤ, pos, ◌-ℤ◌, +ℤ_invr}
@@ -14,14 +13,14 @@ use Rattle.slabs.proofs.wind.Goals as goal
 
 pub loop-k-init : goal.loop-k-init
 loop-k-init c = let a = c.args in (
-      search rules,
-      search rules,
-      omega arith,
-      refl,
-      ap
-          (λ (z : ℤ). hold (record { room = a.room.now; count = a.n }) (walk a.sheet a.top a.xa a.xb z a.bottom a.bottom
-          (down (crossing_at a.rows.now) a.m))) (+ℤ_invr (pos a.m)),
-    )
+  search rules,
+  search rules,
+  omega arith,
+  refl,
+  ap
+      (λ (z : ℤ). hold (record { room = a.room.now; count = a.n }) (walk a.sheet a.top a.xa a.xb z a.bottom a.bottom
+      (down (crossing_at a.rows.now) a.m))) (+ℤ_invr (pos a.m)),
+)
 
 pub turned-w-requires : goal.turned-w-requires
 turned-w-requires c = (omega arith, omega arith)
@@ -42,9 +41,9 @@ loop-k-preserved c = let c1 = c in
       omega arith,
       turned-low (lt zero_bits r.result.d) l.loop-k.w t.result l.loop-k.k a.m t.ensures p l.loop-k.invariant.1,
       turned-high (lt zero_bits r.result.d) l.loop-k.w t.result l.loop-k.k a.m t.ensures p l.loop-k.invariant.1 l.loop-k.invariant.2,
-      g.auto.1.0 ∙ l.loop-k.invariant.3,
+      g.auto.room ∙ l.loop-k.invariant.3,
       wind_step a.sheet a.top a.xa a.xb a.rows.now a.m l.loop-k.k l.loop-k.w t.result p (omega (arith, p, l.loop-k.invariant.1))
-          l.loop-k.la l.loop-k.lb l.loop-k.room g.new.1.0 l.loop-k.count g.result
+          l.loop-k.la l.loop-k.lb l.loop-k.room g.new.room l.loop-k.count g.result
           r.result c10.runs-was.result c8.runs-is.result c6.closes-closed.result c7.strip-s.result c1.pick-la.result c.pick-lb.result
           r.ensures t.ensures c10.runs-was.ensures c8.runs-is.ensures c7.strip-s.ensures c6.closes-closed.ensures g.ensures c1.pick-la.ensures
           c.pick-lb.ensures ∙ l.loop-k.invariant.4,
@@ -52,7 +51,7 @@ loop-k-preserved c = let c1 = c in
 
 pub shape_of-room : goal.shape_of-room
 shape_of-room c = let c8 = c in
-    c.close.auto.1.0 ∙ c8.loop-k.invariant.3
+    c.close.auto.room ∙ c8.loop-k.invariant.3
 
 pub returns : goal.returns
 returns c = let c4 = c in

@@ -1,14 +1,9 @@
-use Prim.Native.Nat.{◌+◌, ◌≤◌, ◌<◌}
+use Prim.Native.Nat.{◌+◌, ◌≤◌}
 use lib.ListN.{length}
-use lib.Ieee.{lt}
-use mathlib.Core.Path.{◌≡◌, refl, ap, ◌∙◌}
-use native.Mathlib.Omega.{arith}
-use mathlib.Core.Bool.{Bool, ◌&&◌}
-use lib.IntN.{ℤ, pos, ◌-ℤ◌, +ℤ_invr}
-use Rattle.slabs.proofs.Walks.{wind_step, wind_last, turned-low, turned-high}
+use mathlib.Core.Path.{◌≡◌}
+use lib.IntN.{pos, ◌-ℤ◌}
 use Rattle.slabs.specs.Slab.{walk}
-use Rattle.slabs.specs.inner.Tables.{hold, down, crossing_at, zero_bits}
-use borrow.Author.Rules.{rules}
+use Rattle.slabs.specs.inner.Tables.{hold, down, crossing_at}
 use Rattle.slabs.proofs.wind.Given as goal
 
 abbrev pub invariant-loop-k : goal.invariant-loop-k

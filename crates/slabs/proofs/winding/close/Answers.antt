@@ -2,7 +2,6 @@
 use mathlib.Core.Path.{ap, sym, ◌∙◌}
 use mathlib.Core.Bool.{Bool, ◌&&◌}
 use Rattle.slabs.proofs.Storing.{piece-kept, piece-none}
-use borrow.Author.Rules.{rules}
 use Rattle.slabs.proofs.winding.close.Goals as goal
 
 pub returns-then-keep : goal.returns-then-keep

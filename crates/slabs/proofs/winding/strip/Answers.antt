@@ -1,6 +1,5 @@
 -- `slabs::winding::strip` meets its contract. Assumes nothing.
 use Rattle.slabs.specs.Slab.{strip}
-use borrow.Author.Rules.{rules}
 use Rattle.slabs.proofs.winding.strip.Goals as goal
 
 pub returns : goal.returns

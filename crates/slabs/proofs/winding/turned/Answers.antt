@@ -1,5 +1,4 @@
 -- `slabs::winding::turned` meets its contract. Assumes nothing.
-use borrow.Author.Rules.{rules}
 use Rattle.slabs.proofs.winding.turned.Goals as goal
 
 pub returns-then-d : goal.returns-then-d

@@ -1,14 +1,11 @@
 use Prim.Native.Nat.{◌≤◌, ◌-◌}
-use lib.ListN.{length, length-set}
+use lib.ListN.{length}
 use lib.Ieee.{lt}
-use mathlib.Core.Path.{◌≡◌, refl, ◌∙◌}
-use mathlib.Core.Logic.{⊎_elim, inl, inr}
-use native.Mathlib.Omega.{arith}
-use Rattle.slabs.proofs.Sorting.{over, over_start}
+use mathlib.Core.Path.{◌≡◌}
+use Rattle.slabs.proofs.Sorting.{over}
 use Rattle.slabs.specs.Slab.{insert}
 use Rattle.slabs.specs.inner.Tables.{down}
-use Rattle.slabs.proofs.xs.Lines.{at, insert-number, insert-number-last}
-use borrow.Author.Rules.{rules}
+use Rattle.slabs.proofs.xs.Lines.{at}
 use Rattle.slabs.proofs.xs.insert_x.Given as goal
 
 abbrev pub invariant-loop-k : goal.invariant-loop-k

@@ -1,13 +1,10 @@
 -- `slabs::xs::insert_xs` meets its contract. Assumes nothing.
-use Prim.Native.Nat.{◌+◌, ◌≤◌, ◌-◌, ◌*◌}
-use lib.ListN.{length, get_or}
-use lib.Ieee.{Float, nan, lt}
-use mathlib.Core.Path.{◌≡◌, refl, ◌∙◌}
-use mathlib.Core.List.{List, ◌++◌}
+use Prim.Native.Nat.{◌-◌, ◌*◌}
+use lib.ListN.{get_or}
+use lib.Ieee.{Float, nan}
+use mathlib.Core.Path.{refl, ◌∙◌}
+use mathlib.Core.List.{List}
 use native.Mathlib.Omega.{arith}
-use Rattle.slabs.specs.Slab.{up, sort}
-use Rattle.slabs.specs.inner.Tables.{down}
-use Rattle.slabs.proofs.xs.Lines.{at}
 use Rattle.slabs.specs.xs.inner.Xs.{x_at}
 use Rattle.slabs.proofs.xs.SortedXs.{sort-none, sort_more}
 use Rattle.slabs.proofs.xs.Runs.{inserted}
@@ -20,12 +17,12 @@ loop-i-init c = let a = c.args in
 pub loop-i-preserved : goal.loop-i-preserved
 unfolding x_at
 loop-i-preserved c = let l = c.loop-i in let a = c.args in let g = c.insert_x in (
-      omega arith,
-      omega arith,
-      omega arith,
-      g.auto.line ∙ l.invariant.3,
-      λ (s : List Float). λ e. sort_more s (x_at a.points.now) l.i a.n (omega arith) l.invariant.1 l.line g.new.line l.k (get_or a.points.now (2 * (l.i - 1)) nan) refl g.ensures (l.invariant.4 s e),
-    )
+  omega arith,
+  omega arith,
+  omega arith,
+  g.auto.line ∙ l.invariant.3,
+  λ (s : List Float). λ e. sort_more s (x_at a.points.now) l.i a.n (omega arith) l.invariant.1 l.line g.new.line l.k (get_or a.points.now (2 * (l.i - 1)) nan) refl g.ensures (l.invariant.4 s e),
+)
 
 pub shape_of-line : goal.shape_of-line
 shape_of-line c = c.loop-i.invariant.3

@@ -1,15 +1,12 @@
-use Prim.Native.Nat.{◌+◌, ◌≤◌, ◌-◌, ◌*◌}
-use lib.ListN.{length, get_or}
-use lib.Ieee.{Float, nan, lt}
-use mathlib.Core.Path.{◌≡◌, refl, ◌∙◌}
+use Prim.Native.Nat.{◌+◌, ◌≤◌, ◌-◌}
+use lib.ListN.{length}
+use lib.Ieee.{Float, lt}
+use mathlib.Core.Path.{◌≡◌}
 use mathlib.Core.List.{List, ◌++◌}
-use native.Mathlib.Omega.{arith}
 use Rattle.slabs.specs.Slab.{up, sort}
 use Rattle.slabs.specs.inner.Tables.{down}
 use Rattle.slabs.proofs.xs.Lines.{at}
 use Rattle.slabs.specs.xs.inner.Xs.{x_at}
-use Rattle.slabs.proofs.xs.SortedXs.{sort-none, sort_more}
-use Rattle.slabs.proofs.xs.Runs.{inserted}
 use Rattle.slabs.proofs.xs.insert_xs.Given as goal
 
 abbrev pub invariant-loop-i : goal.invariant-loop-i

@@ -1,6 +1,5 @@
 -- `slabs::xs::leads` meets its contract. Assumes nothing.
 use Rattle.slabs.proofs.xs.Lines.{led, led_none}
-use borrow.Author.Rules.{rules}
 use lib.ListN.{get_or}
 use lib.Ieee.{nan, lt}
 use Prim.Native.Nat.{◌-◌}

@@ -1,11 +1,9 @@
 -- `slabs::xs::merge_run` meets its contract. Assumes nothing.
-use Prim.Native.Nat.{◌+◌, ◌-◌, ◌≤◌, ◌<◌}
-use lib.ListN.{length, length-set}
+use Prim.Native.Nat.{◌+◌, ◌-◌, ◌<◌}
+use lib.ListN.{length-set}
 use lib.Ieee.{lt}
-use mathlib.Core.Path.{◌≡◌, refl, ◌∙◌}
+use mathlib.Core.Path.{refl, ◌∙◌}
 use native.Mathlib.Omega.{arith}
-use Rattle.slabs.specs.inner.Tables.{down, merge}
-use Rattle.slabs.proofs.Merging.{above}
 use Rattle.slabs.proofs.xs.Lines.{at, led_pos, led_first, not_led, merge-number_up, merge-number-down, merge-start, merge-end}
 use Rattle.slabs.proofs.xs.merge_run.Goals as goal
 

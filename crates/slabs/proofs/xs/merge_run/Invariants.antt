@@ -1,11 +1,10 @@
-use Prim.Native.Nat.{◌+◌, ◌-◌, ◌≤◌, ◌<◌}
-use lib.ListN.{length, length-set}
+use Prim.Native.Nat.{◌+◌, ◌-◌, ◌≤◌}
+use lib.ListN.{length}
 use lib.Ieee.{lt}
-use mathlib.Core.Path.{◌≡◌, refl, ◌∙◌}
-use native.Mathlib.Omega.{arith}
+use mathlib.Core.Path.{◌≡◌}
 use Rattle.slabs.specs.inner.Tables.{down, merge}
 use Rattle.slabs.proofs.Merging.{above}
-use Rattle.slabs.proofs.xs.Lines.{at, led_pos, led_first, not_led, merge-number_up, merge-number-down, merge-start, merge-end}
+use Rattle.slabs.proofs.xs.Lines.{at}
 use Rattle.slabs.proofs.xs.merge_run.Given as goal
 
 abbrev pub invariant-loop-j : goal.invariant-loop-j

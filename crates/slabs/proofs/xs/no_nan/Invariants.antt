@@ -1,10 +1,5 @@
-use Prim.Native.Nat.{ℕ, ◌≤◌, ◌<◌, ◌-◌, ◌*◌}
-use lib.Dec.{T}
-use mathlib.Core.Path.{sym, subst}
-use native.Mathlib.Omega.{arith}
-use borrow.Author.Rules.{rules}
+use Prim.Native.Nat.{ℕ, ◌≤◌, ◌<◌, ◌-◌}
 use Rattle.slabs.specs.xs.inner.Xs.{x_at, Number}
-use Rattle.slabs.proofs.xs.Runs.{number_at, number_more}
 use Rattle.slabs.proofs.xs.no_nan.Given as goal
 
 abbrev pub invariant-loop-i : goal.invariant-loop-i

@@ -1,12 +1,9 @@
 -- `slabs::xs::sort_xs` meets its contract. Assumes nothing.
-use Prim.Native.Nat.{◌+◌, ◌≤◌, ◌-◌}
-use lib.ListN.{length}
 use lib.Ieee.{Float, lt}
-use mathlib.Core.Path.{◌≡◌, refl, ap, ◌∙◌}
+use mathlib.Core.Path.{refl, ap, ◌∙◌}
 use mathlib.Core.List.{List, ◌++◌}
 use native.Mathlib.Omega.{arith}
-use Rattle.slabs.specs.Slab.{up, sort}
-use Rattle.slabs.specs.inner.Tables.{down}
+use Rattle.slabs.specs.Slab.{sort}
 use Rattle.slabs.proofs.Sorting.{up_all}
 use Rattle.slabs.proofs.xs.Lines.{at}
 use Rattle.slabs.specs.xs.inner.Xs.{x_at, sides}
@@ -51,16 +48,16 @@ loop-i-preserved c = let c7 = c in
       omega arith,
       omega arith,
       g.auto.line ∙ l.invariant.4,
-      s.auto.1.1.1.0 ∙ l.invariant.5,
+      s.auto.line ∙ l.invariant.5,
       run_merged a.points.now (sides a.sheet a.left a.right) l.i a.n k.result k.ensures.1 l.invariant.1 l.line g.new.line
-          s.new.1.1.1.0 l.m o.3 (sides_all a.sheet a.left a.right o.1 o.2)
+          s.new.line l.m o.3 (sides_all a.sheet a.left a.right o.1 o.2)
           (run_sorted a.points.now (sides a.sheet a.left a.right) l.i a.n k.result k.ensures.1 l.invariant.1 (at l.run)
-          s.new.1.1.1.0 s.ensures) g.ensures l.invariant.6,
+          s.new.line s.ensures) g.ensures l.invariant.6,
     )
 
 pub shape_of-line : goal.shape_of-line
 shape_of-line c = let c9 = c in
-    c.loop-i.invariant.4 ∙ (c.insert_xs.auto.1.1.1.0 ∙ c9.frame_xs-m.auto.1.1.1.0)
+    c.loop-i.invariant.4 ∙ (c.insert_xs.auto.line ∙ c9.frame_xs-m.auto.line)
 
 pub shape_of-run : goal.shape_of-run
 shape_of-run c = c.loop-i.invariant.5

@@ -1,15 +1,12 @@
 use Prim.Native.Nat.{◌+◌, ◌≤◌, ◌-◌}
 use lib.ListN.{length}
-use lib.Ieee.{Float, lt}
-use mathlib.Core.Path.{◌≡◌, refl, ap, ◌∙◌}
-use mathlib.Core.List.{List, ◌++◌}
-use native.Mathlib.Omega.{arith}
+use lib.Ieee.{lt}
+use mathlib.Core.Path.{◌≡◌}
+use mathlib.Core.List.{◌++◌}
 use Rattle.slabs.specs.Slab.{up, sort}
 use Rattle.slabs.specs.inner.Tables.{down}
-use Rattle.slabs.proofs.Sorting.{up_all}
 use Rattle.slabs.proofs.xs.Lines.{at}
 use Rattle.slabs.specs.xs.inner.Xs.{x_at, sides}
-use Rattle.slabs.proofs.xs.Runs.{sides_all, run_sorted, run_merged}
 use Rattle.slabs.proofs.xs.sort_xs.Given as goal
 
 abbrev pub invariant-loop-i : goal.invariant-loop-i
