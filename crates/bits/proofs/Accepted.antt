@@ -1,33 +1,31 @@
 -- What the fields of an accepted job promise: counts within their ranges, doubles finite, not minus zero and within theirs. Assumes nothing.
 use mathlib.Core.Path.{◌≡◌, refl, sym, ap, ◌∙◌, subst}
-use Prim.Native.Nat.{ℕ, zero, suc, ◌+◌, ◌-◌, ◌*◌, ◌/◌, ◌%◌, ◌^◌, ◌≤◌, ◌<◌}
+use Prim.Native.Nat.{ℕ, zero, suc, ◌+◌, ◌-◌, ◌*◌, ◌^◌, ◌≤◌, ◌<◌}
 use native.Mathlib.Omega.{arith}
 use native.Mathlib.Nat.{mod-lt, mul-le-mul_right, lt_of_lt_of_le, le_trans, mul_assoc, pow-succ', one-mul, mul-one}
 use mathlib.Core.Bool.{Bool, true, false, ◌&&◌, cond}
 use mathlib.Core.List.{List}
 use lib.Dec.{T, leb, lit<, lit≤}
-use lib.IntN.{pos, negsuc}
 use lib.Ieee.{Float, fin, binary64, le, lt, neg, of_int, of_bits, div, fits}
 use lib.Ieee.Scale.{finite}
 use borrow.Author.Tests.{leb-true}
 use Rattle.numbers.specs.Numbers.{double_of, plus_zero, from_int, pos_zero}
-use Rattle.numbers.specs.declared.Double.{Double}
 use Rattle.numbers.specs.declared.Double.TheVariants.{Finite, NotFinite}
-use Rattle.numbers.proofs.Keys.{key, unit, unit-pos, le→key}
+use Rattle.numbers.proofs.Keys.{unit, unit-pos, le→key}
 use Rattle.numbers.proofs.Patterns.{bits_fin, plus-number}
-use Rattle.numbers.proofs.Bounds.{Within, value_key}
+use Rattle.numbers.proofs.Bounds.{value_key}
 use Rattle.numbers.proofs.Ranges.{tested_within, zero-key}
 use Rattle.numbers.proofs.Literals.{milli, milli_num, milli_reach}
 use Rattle.numbers.proofs.Doubles.{Number, Upto, Small, k, o}
 use Rattle.numbers.proofs.Truth.{zero-not-one}
 use Rattle.bits.specs.declared.Refusal.{Refusal}
-use Rattle.bits.specs.declared.Refusal.TheVariants.{Truncated, NonFinite, OutOfRange, CountOutOfRange}
+use Rattle.bits.specs.declared.Refusal.TheVariants.{Truncated, OutOfRange, CountOutOfRange}
 use Rattle.bits.specs.declared.Counted.{Counted}
 use Rattle.bits.specs.declared.Counted.TheVariants.{Count, NoCount}
 use Rattle.bits.specs.declared.Measured.{Measured}
 use Rattle.bits.specs.declared.Measured.TheVariants.{Value, NoValue}
 use Rattle.bits.specs.Bits.{bit_at, field_at}
-use Rattle.bits.specs.Reading.{Read, ok, bad, Reader, after, ◌>>=◌, ◌>>◌, give, unless, bits}
+use Rattle.bits.specs.Reading.{Read, ok, bad, Reader, after, ◌>>=◌, give, unless, bits}
 use Rattle.bits.specs.Fields.{Field, judge_count, in_set, judge_points, counted, count, point_count, Range, coordinate_range, area_range, resolution_range, judge_double, judge_number, measured, number, Spot, point}
 
 -- ---- readers: whatever m reads has P

@@ -1,14 +1,13 @@
 -- Laws of the judged fields: what each answer is from the tests that were made. Assumes nothing.
-use mathlib.Core.Path.{◌≡◌, refl, sym, ap, ◌∙◌, subst}
+use mathlib.Core.Path.{◌≡◌, refl}
 use Prim.Native.Nat.{ℕ, ◌+◌, ◌≤◌, ◌<◌}
 use mathlib.Core.Bool.{Bool, true, false, ◌&&◌, cond}
 use mathlib.Core.List.{List}
 use lib.Dec.{leb}
-use lib.IntN.{pos, negsuc}
-use lib.Ieee.{Float, fin, le, neg, of_int, div, of_bits, binary64}
+use lib.Ieee.{Float, le}
 use borrow.Author.Tests.{le-leb, lt-leb}
 use native.Mathlib.Omega.{arith}
-use Rattle.numbers.specs.Numbers.{double_of, from_int, ◌⊘◌}
+use Rattle.numbers.specs.Numbers.{double_of}
 use Rattle.numbers.specs.declared.Double.TheVariants.{Finite, NotFinite}
 use Rattle.bits.specs.declared.Refusal.{Refusal}
 use Rattle.bits.specs.declared.Refusal.TheVariants.{Truncated, NonFinite, OutOfRange, CountOutOfRange}
@@ -16,8 +15,8 @@ use Rattle.bits.specs.declared.Counted.{Counted}
 use Rattle.bits.specs.declared.Counted.TheVariants.{Count, NoCount}
 use Rattle.bits.specs.declared.Measured.{Measured}
 use Rattle.bits.specs.declared.Measured.TheVariants.{Value, NoValue}
-use Rattle.bits.specs.Reading.{Read, ok, bad, Reader, after, bits}
-use Rattle.bits.specs.Fields.{Field, judge_count, in_set, judge_points, counted, count, point_count, Range, coordinate_range, judge_double, judge_number, measured, number, Spot, point}
+use Rattle.bits.specs.Reading.{ok, bad, after, bits}
+use Rattle.bits.specs.Fields.{judge_count, in_set, judge_points, counted, count, point_count, coordinate_range, judge_double, judge_number, measured, number, point}
 use Rattle.bits.specs.inner.Answers.{count_of}
 
 -- ---- counts

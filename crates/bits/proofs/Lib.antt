@@ -2,4 +2,3 @@ pub mod Computing
 pub mod Taking
 pub mod Judging
 pub mod Accepted
-pub mod Lending

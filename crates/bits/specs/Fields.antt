@@ -1,15 +1,15 @@
 -- Document 01, "The job's bits" and refusals 4 to 6: counts, doubles and points. Definitions only. Assumes nothing.
-use Rattle.std.specs.Prelude.{ℕ, ◌+◌, Bool, ◌&&◌, cond, List, leb, Float}
+use Rattle.std.specs.Prelude.{ℕ, ◌+◌, ◌&&◌, cond, leb, Float}
 use Rattle.std.specs.Float.Ieee.{le, neg}
 use Rattle.numbers.specs.Numbers.{double_of, from_int, pos_zero, ◌⊘◌}
 use Rattle.numbers.specs.declared.Double.{Double}
 use Rattle.numbers.specs.declared.Double.TheVariants.{Finite, NotFinite}
-use Rattle.bits.specs.declared.Refusal.TheVariants.{Truncated, NonFinite, OutOfRange, CountOutOfRange}
+use Rattle.bits.specs.declared.Refusal.TheVariants.{NonFinite, OutOfRange, CountOutOfRange}
 use Rattle.bits.specs.declared.Counted.{Counted}
 use Rattle.bits.specs.declared.Counted.TheVariants.{Count, NoCount}
 use Rattle.bits.specs.declared.Measured.{Measured}
 use Rattle.bits.specs.declared.Measured.TheVariants.{Value, NoValue}
-use Rattle.bits.specs.Reading.{Read, ok, bad, Reader, after, ◌>>=◌, ◌>>◌, give, bits}
+use Rattle.bits.specs.Reading.{Read, ok, bad, Reader, ◌>>=◌, give, bits}
 
 -- ---- counts
 
