@@ -1,13 +1,13 @@
 -- Buckets lie in the order of their x's, over a rounded difference and a rounded quotient; so two ranges that meet share a bucket. Assumes nothing.
-use mathlib.Core.Path.{◌≡◌, sym, ap, ◌∙◌, subst}
+use mathlib.Core.Path.{◌≡◌}
 use mathlib.Core.Bool.{Bool, true, false, not, cond}
-use Prim.Native.Nat.{ℕ, ◌+◌, ◌-◌, ◌≤◌, ◌<◌, min, max}
+use Prim.Native.Nat.{ℕ, ◌-◌, ◌≤◌, ◌<◌, min, max}
 use native.Mathlib.Omega.{arith}
 use lib.Dec.{T, lit≤}
-use lib.Ieee.{Float, binary64, lt, sub, div, to_unsigned}
+use lib.Ieee.{Float, binary64, lt, to_unsigned}
 use lib.Ieee.Fits.{div-fits}
 use Rattle.numbers.specs.Numbers.{◌⊖◌, ◌⊘◌, smaller, larger}
-use Rattle.numbers.proofs.Doubles.{k, o, Finite, Upto, lt_yes, lt_no, sub_upto, sub_mono, div_mono}
+use Rattle.numbers.proofs.Doubles.{k, Finite, lt_yes, lt_no, sub_upto, sub_mono, div_mono}
 use Rattle.numbers.proofs.Operations.{div-real}
 use Rattle.numbers.proofs.RoundDown.{floor_mono}
 use Rattle.index.specs.declared.Index.{Index}

@@ -1,11 +1,11 @@
 -- What a room holds after a list is push into it. Assumes nothing.
-use Prim.Native.Nat.{ℕ, zero, suc, ◌+◌, ◌-◌, ◌*◌, ◌/◌, ◌<◌, ◌≤◌}
+use Prim.Native.Nat.{ℕ, zero, suc, ◌+◌, ◌*◌, ◌/◌, ◌<◌, ◌≤◌}
 use native.Mathlib.Omega.{arith}
 use native.Mathlib.Numerals.{add-one}
-use mathlib.Core.Path.{◌≡◌, sym, ap, ◌∙◌, subst}
+use mathlib.Core.Path.{◌≡◌, sym, ap, ◌∙◌}
 use mathlib.Core.Logic.{◌⊎◌, inl, inr}
 use mathlib.Core.List.{List, [], ◌∷◌, ◌++◌, map, append_assoc, append-nil}
-use lib.ListN.{length, get_or, set, length-set}
+use lib.ListN.{length, set, length-set}
 use lib.Seq.{get_or-set_same, get_or-set_other}
 use lib.Ieee.{Float, nan}
 use borrow.Author.Tests.{lt-ltb, le-ltb}
@@ -13,7 +13,7 @@ use Rattle.numbers.proofs.Truth.{below_or_not}
 use Rattle.index.specs.declared.Interval.{Interval}
 use Rattle.index.specs.Buckets.{up_from}
 use Rattle.index.specs.inner.Listing.{Collected, collected, push, push_all, interval_at, intervals}
-use Rattle.index.proofs.Steps.{push-true, push-false, length_push}
+use Rattle.index.proofs.Steps.{push-true, push-false}
 use Rattle.index.proofs.Flat.{up_from_mem, map_same}
 
 pub map_snoc : {A : Type 0} (f : ℕ → A) (n c : ℕ) → map f (up_from (suc n) c) ≡ map f (up_from n c) ++ (f (c + n) ∷ [])

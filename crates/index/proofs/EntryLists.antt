@@ -1,13 +1,13 @@
 -- The entries, worked out strip by strip, are those of each bucket in turn. Assumes nothing.
 use Prim.Native.Nat.{ℕ, zero, suc}
-use mathlib.Core.Path.{◌≡◌, refl, ap, ap₂, ◌∙◌}
+use mathlib.Core.Path.{◌≡◌, refl, ap, ap₂}
 use mathlib.Core.Bool.{Bool, true, false, ◌&&◌}
 use mathlib.Core.List.{List, [], ◌∷◌, ◌++◌, map, flat_map}
 use lib.Dec.{leb}
 use lib.Ieee.{Float}
 use Rattle.trapezoid.specs.Strip.{strip_at}
 use Rattle.index.specs.declared.Index.{Index}
-use Rattle.index.specs.Buckets.{up_from, keep, buckets, bucket_in, Span, span_of, numbers_in, by_bucket, entries_of}
+use Rattle.index.specs.Buckets.{up_from, keep, buckets, bucket_in, span_of, numbers_in, by_bucket, entries_of}
 use Rattle.index.specs.inner.Listing.{covers, entered_from}
 
 module _ (ix : Index) (standing : List Float) (b : ℕ) where

@@ -1,14 +1,14 @@
 -- The index lists the counted intervals of all pairs, each once. Assumes nothing.
-use Prim.Native.Nat.{ℕ, zero, suc, ◌+◌, ◌-◌, ◌*◌, ◌/◌, ◌<◌, ◌≤◌, min, max}
+use Prim.Native.Nat.{ℕ, zero, suc, ◌+◌, ◌-◌, ◌*◌, ◌<◌, ◌≤◌, max}
 use native.Mathlib.Omega.{arith}
 use mathlib.Core.Path.{◌≡◌, refl, sym, ap, ◌∙◌, subst}
 use mathlib.Core.Logic.{◌⊎◌, inl, inr}
 use mathlib.Core.Bool.{Bool, true, false, ◌&&◌, ◌||◌, cond}
-use mathlib.Core.List.{List, [], ◌∷◌, ◌++◌, flat_map, Memᴰ, Permᴰ}
+use mathlib.Core.List.{List, [], flat_map, Memᴰ, Permᴰ}
 use lib.ListN.{length, get_or}
 use lib.Seq.{slice, slice-cons}
-use lib.Dec.{T, leb, eqb, leb→le, eqb→eq}
-use lib.Ieee.{Float, binary64, lt}
+use lib.Dec.{T, leb, eqb, leb→le}
+use lib.Ieee.{Float, lt}
 use borrow.Author.Tests.{le-leb, lt-leb, eq-eqb, ne_eqb}
 use Rattle.numbers.proofs.Doubles.{k, o, Finite}
 use Rattle.numbers.specs.Numbers.{smaller, larger}
@@ -18,7 +18,7 @@ use Rattle.trapezoid.specs.Strip.{strip_at, capacity}
 use Rattle.index.specs.declared.Index.{Index}
 use Rattle.index.specs.declared.Interval.{Interval}
 use Rattle.index.specs.declared.Moving.{Moving}
-use Rattle.index.specs.Buckets.{buckets, up_from, keep, bucket_in}
+use Rattle.index.specs.Buckets.{up_from, keep, bucket_in}
 use Rattle.index.specs.Intervals.{meeting_of, interval_in, forbidden_of, counts_of, counted_of}
 use Rattle.index.specs.inner.Listing.{moving_of, heights_of, meeting_at, pair_of, met_in, entry_of, list_entries, list_bucket, list_moving, listed, Usable, Laid, Bounded, Fair, covers, entered_from}
 use Rattle.index.proofs.Steps.{entry_true, entry_false, pair_apart, bucket_top}

@@ -1,13 +1,12 @@
 -- A new index over bounded ends has a width that is finite and above zero; an index of no strips; strips stored after the n first do not matter. Assumes nothing.
 use Prim.Native.Nat.{ℕ, zero, suc, ◌+◌, ◌-◌, ◌*◌, ◌/◌, ◌<◌, ◌≤◌}
 use native.Mathlib.Omega.{arith}
-use mathlib.Core.Path.{◌≡◌, ap, ◌∙◌, subst}
-use mathlib.Core.Bool.{not, cond}
-use mathlib.Core.List.{List, [], ◌++◌}
+use mathlib.Core.Path.{◌≡◌, ap, ◌∙◌}
+use mathlib.Core.List.{List}
 use lib.ListN.{length, get_or}
-use lib.Seq.{slice, slice_empty}
-use lib.Dec.{T, lit≤, lit<}
-use lib.Ieee.{Float, fin, binary64, fits, lt}
+use lib.Seq.{slice_empty}
+use lib.Dec.{lit≤}
+use lib.Ieee.{Float, binary64, fits}
 use Rattle.numbers.specs.Numbers.{◌⊖◌, ◌⊘◌, larger, from_int}
 use Rattle.numbers.proofs.Keys.{unit-pos}
 use Rattle.numbers.proofs.Doubles.{k, o, u, Finite, finite, sub_upto}

@@ -1,12 +1,12 @@
 -- The steps that the code takes through the definitions. Assumes nothing.
-use Prim.Native.Nat.{ℕ, zero, suc, ◌+◌, ◌-◌, ◌*◌, ◌/◌, ◌<◌, ◌≤◌}
+use Prim.Native.Nat.{ℕ, suc, ◌+◌, ◌-◌, ◌*◌, ◌/◌, ◌<◌, ◌≤◌}
 use native.Mathlib.Omega.{arith}
 use native.Mathlib.Numerals.{add-one}
 use mathlib.Core.Path.{◌≡◌, refl, sym, ap, ◌∙◌}
 use mathlib.Core.Logic.{◌⊎◌, inl, inr}
-use mathlib.Core.Bool.{Bool, true, false, ◌&&◌, ◌||◌}
-use mathlib.Core.List.{List, [], ◌∷◌, ◌++◌, map, flat_map, append_assoc}
-use lib.ListN.{length, get_or, set, length-set}
+use mathlib.Core.Bool.{Bool, true, false}
+use mathlib.Core.List.{List, [], ◌∷◌, ◌++◌, flat_map}
+use lib.ListN.{length, set, length-set}
 use lib.Dec.{ltb}
 use lib.Ieee.{Float, lt}
 use Rattle.trapezoid.specs.declared.Trapezoid.{Trapezoid}
@@ -17,7 +17,7 @@ use Rattle.numbers.specs.Numbers.{smaller, larger}
 use Rattle.numbers.proofs.Truth.{either}
 use Rattle.index.specs.declared.Meeting.{Meeting}
 use Rattle.index.specs.declared.Meeting.TheVariants.{Apart, Forbidden}
-use Rattle.index.specs.Buckets.{buckets, up_from, keep, bucket_in}
+use Rattle.index.specs.Buckets.{up_from, keep, bucket_in}
 use Rattle.index.specs.Intervals.{counts_of, interval_in}
 use Rattle.index.specs.inner.Listing.{heights_of, meeting_at, pair_of, Collected, collected, push, push_all, met_in, entry_of}
 

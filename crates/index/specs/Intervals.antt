@@ -1,5 +1,5 @@
 -- Document 01, "Index", second part: forbidden intervals. Definitions only: of every pair, and of no bucket. Assumes nothing.
-use Rattle.std.specs.Prelude.{ℕ, Bool, true, false, ◌&&◌, Float}
+use Rattle.std.specs.Prelude.{Bool, true, false, ◌&&◌, Float}
 use mathlib.Core.List.{List, [], ◌∷◌, flat_map}
 use Rattle.std.specs.Float.Ieee.{lt}
 use Rattle.numbers.specs.Numbers.{◌⊕◌, ◌⊖◌, smaller, larger}

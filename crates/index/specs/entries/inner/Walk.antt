@@ -1,5 +1,5 @@
 -- Document 01, refusal 31: "entries that are not those of the standing strips". Definitions only. Assumes nothing.
-use Rattle.std.specs.Prelude.{ℕ, ◌+◌, Bool, true, false, ◌&&◌, List, [], ◌∷◌, length, get_or, ltb, eqb, Float}
+use Rattle.std.specs.Prelude.{ℕ, ◌+◌, true, false, ◌&&◌, List, [], ◌∷◌, length, get_or, ltb, eqb, Float}
 use Rattle.index.specs.declared.Index.{Index}
 use Rattle.index.specs.inner.Listing.{Laid}
 use Rattle.index.specs.declared.entries.Walked.{Walked}
