@@ -87,9 +87,9 @@ back_firsts j p s w n c strips e q h =
 abbrev TrueAfter : Step → Type 0
 TrueAfter r = firsts_fit r.state r.rooms ≡ true
 
-no_step : (k : Refusal) (s : State) (w : Rooms) (iv : List Float) → firsts_fit s w ≡ true → TrueAfter (no_step k s w iv)
+no_step_lem : (k : Refusal) (s : State) (w : Rooms) (iv : List Float) → firsts_fit s w ≡ true → TrueAfter (no_step k s w iv)
 unfolding no_step
-no_step k s w iv h = h
+no_step_lem k s w iv h = h
 
 module _ (p : Planner) (st : List Float) (ts : List Track) (k : ℕ) (s : State) (w : Rooms) (iv : List Float) where
   abbrev Ss : List Shape
@@ -103,7 +103,7 @@ module _ (p : Planner) (st : List Float) (ts : List Track) (k : ℕ) (s : State)
     where
       go : (v : Verdict) → copy_verdict p w iv k st Ss ts Fs ≡ v → TrueAfter (place_copy p st ts k s w iv)
       go Accepted d = rw (place-taken p st ts k s w iv d) (after_firsts p k (searched_all p Ss ts Fs) s w st (choices p 0 Ss Fs) e q h)
-      go (Refused r) d = rw (place-refused p st ts k s w iv r d) (no_step r s w iv h)
+      go (Refused r) d = rw (place-refused p st ts k s w iv r d) (no_step_lem r s w iv h)
 
 -- 31's tests that speak of strips and their numbers
 module _ (j : Job) (s : State) (w : Rooms) (c : consistent j s w ≡ true) where
@@ -156,7 +156,7 @@ unfolding core_step place_next
 core_firsts j s w iv c = go (drop s.taken (order_of j s))
   where
     go : (l : List ℕ) → TrueAfter (place_next j s w iv l)
-    go [] = no_step Why.OrderUsedUp s w iv (firsts_of_lem j s w c)
+    go [] = no_step_lem Why.OrderUsedUp s w iv (firsts_of_lem j s w c)
     go (k ∷ ks) =
         place_firsts (planner_at j s.tables w) (placed_strips_of s w) (get_or (tracks_of j s) k []) k s w iv (bounds_are j s w) (placed_sixfold j s w c)
         (firsts_of_lem j s w c)
@@ -166,7 +166,7 @@ job_firsts j s w iv h = go (either (consistent j s w))
   where
     go : (consistent j s w ≡ true) ⊎ (consistent j s w ≡ false) → TrueAfter (step_job j s w iv)
     go (inl e) = rw (step-consistent j s w iv e) (core_firsts j s w iv e)
-    go (inr e) = rw (step_inconsistent j s w iv e) (no_step Why.Inconsistent s w iv h)
+    go (inr e) = rw (step_inconsistent j s w iv e) (no_step_lem Why.Inconsistent s w iv h)
 
 -- the next copy, of whatever bytes, state and rooms, whatever it answers
 pub next-copy_firsts : (bytes : List ℕ) (s : State) (w : Rooms) (iv : List Float) → firsts_fit s w ≡ true
@@ -175,7 +175,7 @@ unfolding next_copy_of
 next-copy_firsts bytes s w iv h = go (read_job bytes)
   where
     go : (a : Answer) → TrueAfter (step_given a s w iv)
-    go (refused k) = unfold step_given in no_step (Why.Job k) s w iv h
+    go (refused k) = unfold step_given in no_step_lem (Why.Job k) s w iv h
     go (accepted j) = unfold step_given in job_firsts j s w iv h
 
 -- ---- a withdrawal

@@ -229,9 +229,9 @@ data Leaves (s : State) (w : Rooms) (iv : List Float) (r : Step) : Type 0 where
   unchanged : r.state ≡ s → r.rooms ≡ w → r.intervals ≡ zeros pos_zero iv → Leaves s w iv r
   taken : r.verdict ≡ Accepted → r.intervals ≡ zeros pos_zero iv → Leaves s w iv r
 
-no_step : (k : Refusal) (s : State) (w : Rooms) (iv : List Float) → Leaves s w iv (no_step k s w iv)
+no_step_lem : (k : Refusal) (s : State) (w : Rooms) (iv : List Float) → Leaves s w iv (no_step k s w iv)
 unfolding no_step
-no_step k s w iv = unchanged refl refl refl
+no_step_lem k s w iv = unchanged refl refl refl
 
 place_leaves : (p : Planner) (st : List Float) (ts : List Track) (k : ℕ) (s : State) (w : Rooms) (iv : List Float) → Leaves s w iv (place_copy p st ts k s w iv)
 place_leaves p st ts k s w iv = go (copy_verdict p w iv k st (get_or p.shapes k []) ts (search_all p st (get_or p.shapes k []) ts)) refl
@@ -239,14 +239,14 @@ place_leaves p st ts k s w iv = go (copy_verdict p w iv k st (get_or p.shapes k 
     go : (v : Verdict) → copy_verdict p w iv k st (get_or p.shapes k []) ts (search_all p st (get_or p.shapes k []) ts) ≡ v → Leaves s w iv
         (place_copy p st ts k s w iv)
     go Accepted d = rw (place-taken p st ts k s w iv d) (taken refl refl)
-    go (Refused r) d = rw (place-refused p st ts k s w iv r d) (no_step r s w iv)
+    go (Refused r) d = rw (place-refused p st ts k s w iv r d) (no_step_lem r s w iv)
 
 core_leaves : (j : Job) (s : State) (w : Rooms) (iv : List Float) → Leaves s w iv (core_step j s w iv)
 unfolding core_step place_next
 core_leaves j s w iv = go (drop s.taken (order_of j s))
   where
     go : (l : List ℕ) → Leaves s w iv (place_next j s w iv l)
-    go [] = no_step Why.OrderUsedUp s w iv
+    go [] = no_step_lem Why.OrderUsedUp s w iv
     go (k ∷ ks) = place_leaves (planner_at j s.tables w) (placed_strips_of s w) (get_or (tracks_of j s) k []) k s w iv
 
 job_leaves : (j : Job) (s : State) (w : Rooms) (iv : List Float) → Leaves s w iv (step_job j s w iv)
@@ -254,14 +254,14 @@ job_leaves j s w iv = go (either (consistent j s w))
   where
     go : (consistent j s w ≡ true) ⊎ (consistent j s w ≡ false) → Leaves s w iv (step_job j s w iv)
     go (inl e) = rw (step-consistent j s w iv e) (core_leaves j s w iv)
-    go (inr e) = rw (step_inconsistent j s w iv e) (no_step Why.Inconsistent s w iv)
+    go (inr e) = rw (step_inconsistent j s w iv e) (no_step_lem Why.Inconsistent s w iv)
 
 leaves : (bytes : List ℕ) (s : State) (w : Rooms) (iv : List Float) → Leaves s w iv (next_copy_of bytes s w iv)
 unfolding next_copy_of step_given
 leaves bytes s w iv = go (read_job bytes)
   where
     go : (g : Answer) → Leaves s w iv (step_given g s w iv)
-    go (refused k) = no_step (Why.Job k) s w iv
+    go (refused k) = no_step_lem (Why.Job k) s w iv
     go (accepted j) = job_leaves j s w iv
 
 -- "a refused call changes nothing": "A refused single step returns state, strip and entry rooms unchanged; every single step leaves zeros in the

@@ -26,10 +26,10 @@ wrote-fits out text after n w =
     omega (arith, f, length-take n after, w.next)
 
 -- a text at the beginning of a buffer, and zeros from its end on
-pub text_in : (text out after last : List ℕ) (n : ℕ) → Wrote out 0 text after n → last ≡ take n after ++ zeros 0 (drop n after)
+pub text_in_lem : (text out after last : List ℕ) (n : ℕ) → Wrote out 0 text after n → last ≡ take n after ++ zeros 0 (drop n after)
     → record { end = n; out = last } ≡ text_in text out
 unfolding text_in laid
-text_in text out after last n w f =
+text_in_lem text out after last n w f =
     let b = zeros-behind n after out w.long (wrote-fits out text after n w) in
     let z : last ≡ text ++ drop n (zeros 0 out) =
     f ∙ (ap (λ (x : List ℕ). x ++ zeros 0 (drop n after)) w.written ∙ ap (λ (x : List ℕ). text ++ x) b) in
