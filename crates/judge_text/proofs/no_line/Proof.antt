@@ -1,6 +1,6 @@
 -- `judge_text::no_line`: the line, zeros after it. Assumes nothing.
 use borrow.Author.Rules.{rules}
-use Rattle.program.proofs.Answering.{wrote-fits, text_in}
+use Rattle.program.proofs.Answering.{wrote-fits, text_in_lem}
 use Rattle.judge_text.specs.Judging.{no_line}
 use Rattle.judge_text.proofs.no_line.Statement.{statement}
 use Rattle.judge_text.proofs.no_line.Tie as tie
@@ -24,7 +24,7 @@ returns c =
     let c10 = c.before.before.before.before.before.before.before.before.before.before in
     let t = c.before.before.before.before.before.before.pair_line in
     let z = c.before.before.zero-from in
-    text_in _ c10.args.out.now t.new.0 z.new.0 t.result t.ensures z.ensures
+    text_in_lem _ c10.args.out.now t.new.0 z.new.0 t.result t.ensures z.ensures
 
 pub no-line-spec : {M : Type 1} → statement M
 no-line-spec = tie.close (tie.spec slice-aggregate-pair-line pair-line-requires zero-from-requires same_length returns)

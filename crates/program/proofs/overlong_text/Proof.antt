@@ -1,6 +1,6 @@
 -- `program::overlong_text`: the line of 11, zeros after it. Assumes nothing.
 use borrow.Author.Rules.{rules}
-use Rattle.program.proofs.Answering.{wrote-fits, text_in}
+use Rattle.program.proofs.Answering.{wrote-fits, text_in_lem}
 use Rattle.program.proofs.overlong_text.Statement.{statement}
 use Rattle.program.proofs.overlong_text.Tie as tie
 
@@ -22,7 +22,7 @@ returns c =
     let c10 = c.before.before.before.before.before.before.before.before.before.before in
     let t = c.before.before.before.before.before.before.count-line in
     let z = c.before.before.zero-from in
-    text_in _ c10.args.out.now t.new.0 z.new.0 t.result t.ensures z.ensures
+    text_in_lem _ c10.args.out.now t.new.0 z.new.0 t.result t.ensures z.ensures
 
 pub overlong-text-spec : {M : Type 1} → statement M
 overlong-text-spec =
