@@ -1,15 +1,15 @@
 -- What the kinds of an accepted job promise. Assumes nothing.
-use mathlib.Core.Path.{◌≡◌, refl, sym, ap, ◌∙◌, subst}
+use mathlib.Core.Path.{◌≡◌, sym, ◌∙◌, subst}
 use Prim.Native.Nat.{ℕ, zero, suc, ◌+◌, ◌*◌, ◌^◌, ◌≤◌, ◌<◌}
 use native.Mathlib.Omega.{arith}
 use mathlib.Core.List.{List, [], ◌∷◌, ◌++◌}
 use lib.ListN.{length, get_or, length-append}
 use lib.Ieee.{Float}
 use Rattle.numbers.specs.Numbers.{pos_zero}
-use Rattle.bits.specs.Reading.{Read, ok, bad, Reader, after, ◌>>=◌, give, bits}
+use Rattle.bits.specs.Reading.{ok, ◌>>=◌, give, bits}
 use Rattle.bits.specs.Fields.{quantity_field, orientations_field, count, area_range, number}
 use Rattle.bits.proofs.Accepted.{Gives, bind, given, bits_less, count_in_range, Between, number-between, UpFrom, area_in}
-use Rattle.kinds.specs.sets.Sets.{Set, a_set}
+use Rattle.kinds.specs.sets.Sets.{a_set}
 use Rattle.kinds.proofs.sets.Accepted.{Good, set-good, set-accepted}
 use Rattle.kinds.specs.sets.inner.Answers.{set_at}
 use Rattle.kinds.specs.declared.KindHead.{KindHead}

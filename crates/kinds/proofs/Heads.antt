@@ -1,18 +1,17 @@
 -- Laws of a kind's fields and of priorities. Assumes nothing.
-use mathlib.Core.Path.{◌≡◌, refl, sym, ap, ◌∙◌}
+use mathlib.Core.Path.{◌≡◌, sym, ◌∙◌}
 use mathlib.Core.Logic.{◌⊎◌, inl, inr}
 use Prim.Native.Nat.{ℕ, suc, ◌+◌, ◌-◌, ◌%◌, ◌≤◌, ◌<◌}
 use native.Mathlib.Omega.{arith}
 use lib.Dec.{ltb}
 use lib.IntN.{pos, negsuc}
 use mathlib.Core.List.{List}
-use lib.Ieee.{Float, of_int, div}
-use borrow.Author.Tests.{eq-eqb, ne_eqb, lt-ltb, le-ltb}
+use lib.Ieee.{Float}
+use borrow.Author.Tests.{lt-ltb, le-ltb}
 use Rattle.numbers.proofs.Truth.{below_or_not}
 use Rattle.bits.specs.declared.Refusal.{Refusal}
-use Rattle.bits.specs.declared.Refusal.TheVariants.{Truncated, UnknownVersion}
-use Rattle.bits.specs.Reading.{Read, ok, bad, after, bits}
-use Rattle.bits.specs.Fields.{quantity_field, orientations_field, kinds_field, count, area_range, resolution_range, number}
+use Rattle.bits.specs.Reading.{ok, bad, after, bits}
+use Rattle.bits.specs.Fields.{quantity_field, orientations_field, count, area_range, number}
 use Rattle.kinds.specs.Kinds.{signed, lower, kind_head}
 
 module _ (bytes : List ℕ) (p : ℕ) where

@@ -1,7 +1,7 @@
 -- Laws of the kinds' rows, and one turn of the loop that reads kinds. Assumes nothing.
 use mathlib.Core.Path.{◌≡◌, refl, sym, ap, ◌∙◌, subst}
 use mathlib.Core.Logic.{◌⊎◌, inl, inr}
-use Prim.Native.Nat.{ℕ, zero, suc, ◌+◌, ◌-◌, ◌*◌, ◌≤◌, ◌<◌}
+use Prim.Native.Nat.{ℕ, suc, ◌+◌, ◌-◌, ◌*◌, ◌≤◌, ◌<◌}
 use native.Mathlib.Omega.{arith}
 use mathlib.Core.List.{List, [], ◌∷◌, ◌++◌}
 use lib.ListN.{length, take, set, get_or, length-set}
@@ -9,12 +9,12 @@ use lib.Seq.{get_or-set_same, get_or-set_other, take-set-le}
 use lib.Ieee.{Float, nan}
 use Rattle.numbers.proofs.Truth.{below_or_not, not-below-zero}
 use Rattle.bits.specs.declared.Refusal.{Refusal}
-use Rattle.bits.specs.Reading.{Read, ok, bad, after}
+use Rattle.bits.specs.Reading.{ok, bad, after}
 use Rattle.kinds.specs.declared.KindHead.{KindHead}
 use Rattle.kinds.specs.Kinds.{Orientation, Kind, kind_of, a_kind, some_kinds, head_at}
 use Rattle.kinds.specs.Kinds.{copies_of}
 use Rattle.kinds.specs.inner.Tables.{tabulate, orientation_at, orientations_of, kind_with, kind_at}
-use Rattle.kinds.proofs.Tables.{get_d_same, take_less, tabulate-same, tabulate_more, orientation-same}
+use Rattle.kinds.proofs.Tables.{get_d_same, tabulate-same, tabulate_more, orientation-same}
 
 -- four numbers stored one after the other
 module _ (s : List ℕ) (j a b c d : ℕ) where

@@ -7,16 +7,15 @@ use mathlib.Core.Logic.{◌⊎◌, inl, inr}
 use mathlib.Core.List.{List, [], ◌∷◌, ◌++◌}
 use lib.ListN.{length, take, set, get_or, length-set, length-append, get_or-append}
 use lib.Seq.{get_or_at, get_or-take, get_or-set_same, get_or-set_other, take-take, take-set-le}
-use lib.Ieee.{Float, nan}
+use lib.Ieee.{Float}
 use Rattle.numbers.proofs.Truth.{below_or_not}
 use Rattle.bits.specs.declared.Refusal.{Refusal}
-use Rattle.bits.specs.Reading.{Read, ok, bad, after}
+use Rattle.bits.specs.Reading.{ok, bad, after}
 use Rattle.kinds.specs.declared.KindHead.{KindHead}
 use Rattle.kinds.specs.sets.Sets.{Set, a_set}
 use Rattle.kinds.specs.sets.inner.Answers.{found, set_at}
-use Rattle.kinds.specs.Kinds.{Orientation, an_orientation, some_orientations, Kind, kind_head, kind_of, a_kind, some_kinds, head_at}
-use Rattle.kinds.specs.Kinds.{copies_of}
-use Rattle.kinds.specs.inner.Tables.{tabulate, orientation_at, orientations_of, kind_with, kind_at}
+use Rattle.kinds.specs.Kinds.{Orientation, an_orientation, some_orientations, kind_head, a_kind}
+use Rattle.kinds.specs.inner.Tables.{tabulate, orientation_at, orientations_of, kind_with}
 
 -- ---- tables
 module _ {A : Type 0} where

@@ -1,8 +1,8 @@
 -- Document 01, "The job's bits": kinds. Definitions only. Assumes nothing.
 use Rattle.std.specs.Prelude.{ℕ, zero, suc, ◌+◌, ◌-◌, ◌*◌, ◌^◌, Bool, true, false, List, [], ◌∷◌, ◌++◌, ℤ, pos, negsuc, get_or, ltb, eqb, Float}
 use Rattle.std.specs.Float.{nan}
-use Rattle.bits.specs.Reading.{Read, ok, bad, Reader, after, ◌>>=◌, ◌>>◌, give, bits}
-use Rattle.bits.specs.Fields.{Field, quantity_field, orientations_field, count, Range, area_range, number}
+use Rattle.bits.specs.Reading.{Reader, ◌>>=◌, give, bits}
+use Rattle.bits.specs.Fields.{quantity_field, orientations_field, count, area_range, number}
 use Rattle.kinds.specs.declared.KindHead.{KindHead}
 use Rattle.kinds.specs.sets.Sets.{Set, a_set}
 

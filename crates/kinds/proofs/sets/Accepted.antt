@@ -1,15 +1,14 @@
 -- What the sets of an accepted job promise. Assumes nothing.
-use mathlib.Core.Path.{◌≡◌, refl, sym, ap, ◌∙◌, subst}
-use mathlib.Core.Logic.{◌⊎◌, inl, inr}
+use mathlib.Core.Path.{◌≡◌, refl, sym, ◌∙◌, subst}
 use Prim.Native.Nat.{ℕ, zero, suc, ◌+◌, ◌*◌, ◌≤◌, ◌<◌}
 use native.Mathlib.Omega.{arith}
 use mathlib.Core.List.{List, [], ◌∷◌, ◌++◌}
 use lib.ListN.{length, get_or, length-append}
 use lib.Ieee.{Float, nan}
 use Rattle.numbers.proofs.Doubles.{Small}
-use Rattle.bits.specs.Reading.{Read, ok, bad, Reader, after, ◌>>=◌, give}
-use Rattle.bits.specs.Fields.{loops_field, count, point_count, Spot, point}
-use Rattle.bits.proofs.Accepted.{Gives, bad-not_ok, ok_same, bind, given, count_in_range, point-count_in, point-small}
+use Rattle.bits.specs.Reading.{Read, ok, bad, ◌>>=◌, give}
+use Rattle.bits.specs.Fields.{loops_field, count, point_count, point}
+use Rattle.bits.proofs.Accepted.{Gives, bind, given, count_in_range, point-count_in, point-small}
 use Rattle.kinds.specs.sets.Sets.{Set, Points, some_points, a_loop, some_loops, a_set}
 use Rattle.kinds.specs.sets.inner.Answers.{found, set_at}
 

@@ -1,6 +1,6 @@
 -- Laws of points, loops and sets: one turn of each loop that reads them. Assumes nothing.
-use mathlib.Core.Path.{◌≡◌, refl, sym, ap, ◌∙◌, subst}
-use Prim.Native.Nat.{ℕ, zero, suc, ◌+◌, ◌-◌, ◌*◌, ◌≤◌, ◌<◌}
+use mathlib.Core.Path.{◌≡◌, refl, sym, ap, ◌∙◌}
+use Prim.Native.Nat.{ℕ, suc, ◌+◌, ◌-◌, ◌*◌, ◌≤◌, ◌<◌}
 use native.Mathlib.Omega.{arith}
 use mathlib.Core.List.{List, [], ◌∷◌, ◌++◌, append_assoc}
 use lib.ListN.{length, take, set, length-set}
@@ -8,12 +8,12 @@ use lib.Seq.{take-suc-set}
 use lib.Ieee.{Float}
 use Rattle.bits.specs.declared.Refusal.{Refusal}
 use Rattle.bits.specs.Reading.{Read, ok, bad, after}
-use Rattle.bits.specs.Fields.{loops_field, count, point_count, Spot, point}
+use Rattle.bits.specs.Fields.{loops_field, count, point_count, point}
 use Rattle.bits.proofs.Accepted.{point-place}
 use Rattle.kinds.specs.declared.sets.SetRead.{SetRead}
 use Rattle.kinds.specs.declared.sets.SetRead.TheVariants.{Loops, NoSet}
 use Rattle.kinds.specs.sets.inner.Answers.{set_fits}
-use Rattle.kinds.specs.sets.Sets.{Set, Points, some_points, a_loop, some_loops, a_set}
+use Rattle.kinds.specs.sets.Sets.{Set, some_points, a_loop, some_loops, a_set}
 
 -- ---- points
 module _ (bytes : List ℕ) (xs : List Float) (n i p : ℕ) where

@@ -1,7 +1,7 @@
 -- Document 01, "The job's bits": sets of loops. Definitions only. Assumes nothing.
 use Rattle.std.specs.Prelude.{ℕ, zero, suc, ◌+◌, List, [], ◌∷◌, ◌++◌, Float}
-use Rattle.bits.specs.Reading.{Reader, after, ◌>>=◌, ◌>>◌, give}
-use Rattle.bits.specs.Fields.{Field, loops_field, count, point_count, Spot, point}
+use Rattle.bits.specs.Reading.{Reader, ◌>>=◌, give}
+use Rattle.bits.specs.Fields.{loops_field, count, point_count, point}
 
 -- a set: the coordinates of its points, x, y, x, y, .., and for each loop the number of points up to its end
 pub record Set : Type 0 where
