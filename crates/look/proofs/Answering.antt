@@ -1,13 +1,12 @@
 -- What the room holds after both listings gives the look of the definition. Assumes nothing.
-use Prim.Native.Nat.{ℕ, zero, suc, ◌+◌, ◌-◌, ◌*◌, ◌/◌, ◌≤◌, ◌<◌}
+use Prim.Native.Nat.{ℕ, ◌+◌, ◌/◌, ◌≤◌, ◌<◌}
 use native.Mathlib.Omega.{arith}
-use mathlib.Core.Path.{◌≡◌, refl, sym, ap, ◌∙◌, subst}
+use mathlib.Core.Path.{◌≡◌, sym, ap, ◌∙◌}
 use mathlib.Core.Logic.{◌⊎◌, inl, inr}
-use mathlib.Core.Bool.{Bool, true, false, not}
 use mathlib.Core.List.Permᴰ
-use mathlib.Core.List.{List, [], ◌∷◌, ◌++◌, Memᴰ, Permᴰ}
-use lib.ListN.{length, get_or}
-use lib.Dec.{ltb, lit≤}
+use mathlib.Core.List.{List, ◌++◌, Permᴰ}
+use lib.ListN.{length}
+use lib.Dec.{lit≤}
 use lib.Ieee.{Float}
 use borrow.Author.Tests.{lt-ltb, le-ltb}
 use Rattle.numbers.proofs.Doubles.{k, Finite}
@@ -16,18 +15,17 @@ use Rattle.trapezoid.specs.Strip.{strip_at, capacity}
 use Rattle.index.specs.declared.Interval.{Interval}
 use Rattle.index.specs.declared.Index.{Index}
 use Rattle.index.specs.Intervals.{counted_of}
-use Rattle.index.specs.inner.Listing.{moving_of, Collected, collected, push_all, intervals, listed, Usable, Laid, Bounded}
-use Rattle.index.proofs.Steps.{push_all_append, kept-length}
+use Rattle.index.specs.inner.Listing.{Collected, collected, push_all, intervals, listed, Usable, Laid, Bounded}
+use Rattle.index.proofs.Steps.{push_all_append}
 use Rattle.index.proofs.Flat.{perm_length, perm_mem, perm_append}
 use Rattle.index.proofs.Listed.{listed_perm, laid_usable}
 use Rattle.index.proofs.Collecting.{push-fits, push_over}
 use Rattle.look.specs.declared.height.Look.{Look}
 use Rattle.look.specs.height.Smallest.{height_of}
 use Rattle.look.specs.height.inner.Raising.{FiniteEnds}
-use Rattle.look.specs.declared.Answer.{Answer}
 use Rattle.look.specs.declared.Answer.TheVariants.{NoRoom, Seen}
 use Rattle.look.specs.Looking.{counted_in}
-use Rattle.look.specs.inner.Ready.{BoundedStrip, BoundedStrips, Lookable, answer_of, look_of}
+use Rattle.look.specs.inner.Ready.{BoundedStrips, Lookable, answer_of}
 use Rattle.look.proofs.IntervalEnds.{widen, moved-x0, moved-x1}
 use Rattle.look.proofs.Counted.{same_look, counted_finite}
 

@@ -3,11 +3,11 @@ use Prim.Native.Nat.{ℕ, ◌≤◌, ◌<◌}
 use native.Mathlib.Omega.{arith}
 use mathlib.Core.Path.{◌≡◌, refl, sym, ap, ◌∙◌, subst}
 use mathlib.Core.Logic.{◌⊎◌, inl, inr}
-use mathlib.Core.Bool.{Bool, true, false, not, ◌&&◌}
+use mathlib.Core.Bool.{Bool, true, false}
 use mathlib.Core.List.Memᴰ
 use mathlib.Core.List.{List, [], ◌∷◌, ◌++◌, Memᴰ}
 use lib.Dec.{T}
-use lib.Ieee.{Float, binary64, fits, lt, le}
+use lib.Ieee.{Float, binary64, fits, le}
 use Rattle.numbers.proofs.Doubles.{k, Finite, finite}
 use Rattle.numbers.proofs.RoundDown.{le-real}
 use Rattle.numbers.proofs.Truth.{either, clash, below_or_not}
@@ -19,7 +19,7 @@ use Rattle.look.specs.declared.height.Look.{Look}
 use Rattle.look.specs.declared.height.Look.TheVariants.{Free, Full}
 use Rattle.look.specs.height.Smallest.{inside, outside, clear_above, height_of}
 use Rattle.look.specs.height.inner.Raising.{FiniteEnd, FiniteEnds, height_in}
-use Rattle.look.proofs.height.SmallestHeight.{Real, real_of, lt_is_true, lt_is_false, le_is_true, is_lt, is_le, inside-key, outside_of, of_outside, keep_mem, mem_keep, Smallest, NoneFree, height_free, height_full, free_height, full_height, real-end}
+use Rattle.look.proofs.height.SmallestHeight.{Real, real_of, le_is_true, is_lt, is_le, inside-key, outside_of, of_outside, keep_mem, mem_keep, Smallest, height_free, height_full, free_height, full_height, real-end}
 use Rattle.look.proofs.height.Clear.{clear-same}
 use Rattle.look.specs.Looking.{counted_in}
 use Rattle.look.specs.inner.Ready.{BoundedStrips, forbidden_in}

@@ -1,21 +1,20 @@
 -- The ends of the forbidden intervals of bounded strips are finite. Assumes nothing.
-use Prim.Native.Nat.{ℕ, zero, suc, ◌+◌, ◌*◌, ◌≤◌, ◌<◌}
+use Prim.Native.Nat.{ℕ, ◌+◌, ◌*◌, ◌≤◌, ◌<◌}
 use native.Mathlib.Omega.{arith}
-use mathlib.Core.Path.{◌≡◌, sym, subst}
+use mathlib.Core.Path.{◌≡◌}
 use mathlib.Core.Logic.{◌⊎◌, inl, inr}
 use mathlib.Core.Bool.{Bool, true, false, not, cond}
 use mathlib.Core.List.Memᴰ
-use mathlib.Core.List.{List, [], ◌∷◌, ◌++◌, flat_map, Memᴰ}
+use mathlib.Core.List.{List, [], ◌∷◌, flat_map, Memᴰ}
 use lib.Dec.{T, lit≤}
 use lib.Ieee.{Float, lt, le}
 use Rattle.numbers.specs.Numbers.{◌⊕◌, ◌⊖◌, ◌⊘◌, smaller, larger}
-use Rattle.numbers.proofs.Doubles.{k, o, u, Upto, le_no, add_upto, sub_upto, sub_mono, sub-pos, sub_nonneg, div_share, share_upto, above_zero}
+use Rattle.numbers.proofs.Doubles.{k, o, u, le_no, add_upto, sub_upto, sub_mono, sub-pos, sub_nonneg, div_share, share_upto, above_zero}
 use Rattle.numbers.proofs.Truth.{either}
 use Rattle.trapezoid.specs.declared.Trapezoid.{Trapezoid}
 use Rattle.trapezoid.specs.declared.Heights.{Heights}
 use Rattle.trapezoid.specs.Strip.{strip_at, capacity, heights_at, between}
 use Rattle.index.specs.declared.Interval.{Interval}
-use Rattle.index.specs.declared.Meeting.TheVariants.{Apart, Forbidden}
 use Rattle.index.specs.Buckets.{up_from}
 use Rattle.index.specs.Intervals.{interval_of, meeting_of, interval_in, forbidden_of}
 use Rattle.index.specs.inner.Listing.{moving_of, Bounded}

@@ -1,6 +1,6 @@
 -- The clear height above a free height (document 02, W7): it depends on which intervals there are and not on their order, and it is a
 -- finite double of at least zero and at most y_high minus the height. Assumes nothing.
-use Prim.Native.Nat.{ℕ, zero, suc, ◌+◌, ◌-◌, ◌*◌, ◌≤◌, ◌<◌, ◌^◌}
+use Prim.Native.Nat.{ℕ, suc, ◌+◌, ◌-◌, ◌*◌, ◌≤◌, ◌<◌, ◌^◌}
 use native.Mathlib.Omega.{arith}
 use native.Mathlib.Numerals.{add-one}
 use mathlib.Core.Path.{◌≡◌, refl, sym, ap, ◌∙◌, subst}
@@ -8,7 +8,7 @@ use mathlib.Core.Logic.{◌⊎◌, inl, inr}
 use mathlib.Core.Bool.{Bool, true, false}
 use mathlib.Core.List.Memᴰ
 use mathlib.Core.List.{List, [], ◌∷◌, map, Memᴰ}
-use lib.Ieee.{Float, lt, le}
+use lib.Ieee.{Float, le}
 use Rattle.numbers.specs.Numbers.{◌⊖◌, smaller, plus_zero}
 use Rattle.numbers.proofs.Doubles.{k, o, u, Finite, Number, Upto, finite, same, sub_upto, sub_nonneg, sub_number}
 use Rattle.numbers.proofs.Patterns.{plus-number}

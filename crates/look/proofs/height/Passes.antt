@@ -1,5 +1,5 @@
 -- A pass raises y past no height that lies in no interval; where it raises nothing, y lies in none. Assumes nothing.
-use Prim.Native.Nat.{ℕ, zero, suc, ◌+◌, ◌-◌, ◌≤◌, ◌<◌}
+use Prim.Native.Nat.{ℕ, suc, ◌+◌, ◌-◌, ◌≤◌, ◌<◌}
 use native.Mathlib.Omega.{arith}
 use native.Mathlib.Numerals.{add-one}
 use mathlib.Core.Path.{◌≡◌, refl, sym, ap, ◌∙◌, subst}
@@ -18,8 +18,8 @@ use Rattle.index.specs.Buckets.{up_from}
 use Rattle.index.specs.inner.Listing.{interval_at}
 use Rattle.look.specs.declared.height.Look.TheVariants.{Free, Full}
 use Rattle.look.specs.height.Smallest.{inside, outside, clear_above, height_of}
-use Rattle.look.specs.height.inner.Raising.{lift, raised, from_last, FiniteEnd, FiniteEnds}
-use Rattle.look.proofs.height.SmallestHeight.{Real, real_of, lt_is_true, lt_is_false, le_is_true, le_is_false, inside-key, key-inside, outside_of, of_outside, same-outside, free_height, full_height, real-end}
+use Rattle.look.specs.height.inner.Raising.{lift, raised, from_last, FiniteEnds}
+use Rattle.look.proofs.height.SmallestHeight.{Real, real_of, le_is_true, inside-key, key-inside, outside_of, same-outside, free_height, full_height, real-end}
 
 -- ---- one interval
 lift-true : (y : Float) (i : Interval) → inside y i ≡ true → lift y i ≡ i.to

@@ -6,7 +6,7 @@ use mathlib.Core.Logic.{◌⊎◌, inl, inr}
 use mathlib.Core.Bool.{Bool, true, false, not, ◌&&◌, cond, true≢false}
 use mathlib.Core.List.Memᴰ
 use mathlib.Core.List.{List, [], ◌∷◌, map, Memᴰ}
-use lib.Dec.{T, leb}
+use lib.Dec.{T}
 use lib.Ieee.{Float, binary64, fits, lt, le}
 use borrow.Author.Tests.{not-true}
 use Rattle.numbers.specs.Numbers.{smaller, plus_zero}
@@ -14,7 +14,6 @@ use Rattle.numbers.proofs.Keys as Keys
 use Rattle.numbers.proofs.Keys.{finite_real}
 use Rattle.numbers.proofs.Doubles.{k, Finite, Number, finite, same}
 use Rattle.numbers.proofs.Patterns.{plus-number}
-use Rattle.numbers.proofs.RoundDown.{le-real}
 use Rattle.numbers.proofs.Truth.{either, below_or_not, clash, is_true, fails, both_first, both_second}
 use Rattle.index.specs.declared.Interval.{Interval}
 use Rattle.index.specs.Buckets.{keep}

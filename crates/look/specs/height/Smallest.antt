@@ -1,6 +1,6 @@
 -- Document 01, "Filling", the look: "The height is the smallest from y_low on that lies in no forbidden interval, and it is free if at most y_high."
 -- Definitions only. Assumes nothing.
-use Rattle.std.specs.Prelude.{Bool, true, false, not, ◌&&◌, List, [], ◌∷◌, map, Float}
+use Rattle.std.specs.Prelude.{Bool, true, not, ◌&&◌, List, [], ◌∷◌, map, Float}
 use Rattle.std.specs.Float.Ieee.{lt, le}
 use Rattle.numbers.specs.Numbers.{◌⊖◌, smaller, plus_zero}
 use Rattle.index.specs.declared.Interval.{Interval}

@@ -1,7 +1,7 @@
 -- For inner functions' contracts only: the passes over a room's intervals, their rearrangement, and what the functions require. Definitions only. Assumes
 -- nothing.
 use Prim.Native.Nat.{ℕ, zero, suc, ◌+◌, ◌*◌, ◌%◌, ◌<◌}
-use Rattle.std.specs.Prelude.{◌≡◌, Bool, true, false, length, get_or, set, eqb, Float}
+use Rattle.std.specs.Prelude.{◌≡◌, true, false, length, get_or, set, eqb, Float}
 use mathlib.Core.List.{List, [], ◌∷◌, Memᴰ}
 use Rattle.std.specs.Float.{nan}
 use Rattle.std.specs.Float.Ieee.{le}
