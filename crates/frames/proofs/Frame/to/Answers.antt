@@ -1,0 +1,26 @@
+-- `frames::Frame::to` meets its contract. Assumes nothing.
+use mathlib.Core.Path.{sym, ◌∙◌}
+use Rattle.frames.specs.Frames.{to}
+use Rattle.frames.proofs.Frame.to.Goals as goal
+
+pub returns-then-along_x : goal.returns-then-along_x
+unfolding to
+returns-then-along_x c = let c5 = c in
+    rw (
+      sym c.along_x.ensures ∙ c.if-along_x.true,
+      sym c5.from_right.ensures,
+      sym c.from_top.ensures,
+      c.signed-up.ensures,
+      c.signed-across.ensures,
+    )
+
+pub returns : goal.returns
+unfolding to
+returns c = let c5 = c in
+    rw (
+      sym c.along_x.ensures ∙ c.if-along_x.false,
+      sym c5.from_right.ensures,
+      sym c.from_top.ensures,
+      c.signed-up.ensures,
+      c.signed-across.ensures,
+    )
