@@ -3,10 +3,9 @@ use mathlib.Core.Path.{refl}
 use native.Mathlib.Omega.{arith}
 use lib.Dec.{lit<, lit≤}
 use Rattle.bit_writer.specs.Packed.{number_at}
-use Rattle.bit_writer.proofs.new_writer.Statement.{statement}
-use Rattle.bit_writer.proofs.new_writer.Tie as tie
+use Rattle.bit_writer.proofs.new_writer.Goals as goal
 
-returns : tie.Need-returns
+pub returns : goal.returns
 unfolding number_at
 returns c = (
   record { part = lit< tt; small = lit< tt; few = lit≤ tt },
@@ -14,6 +13,3 @@ returns c = (
   λ out. record
       { number = refl; held = refl; laid = λ k h l. absurd (omega arith) },
 )
-
-pub new-writer-spec : {M : Type 1} → statement M
-new-writer-spec = tie.close (tie.spec returns)
