@@ -1,9 +1,9 @@
 -- What tested numbers and entered strips give a look. Assumes nothing.
-use Prim.Native.Nat.{ℕ, ◌+◌, ◌*◌, ◌/◌, ◌≤◌, ◌<◌}
+use Prim.Native.Nat.{ℕ, ◌+◌, ◌*◌, ◌≤◌, ◌<◌}
 use native.Mathlib.Omega.{arith}
-use mathlib.Core.Path.{◌≡◌, refl, sym, subst, ◌∙◌}
+use mathlib.Core.Path.{◌≡◌, refl, subst}
 use mathlib.Core.Logic.{◌⊎◌, inl, inr}
-use mathlib.Core.Bool.{Bool, true, false}
+use mathlib.Core.Bool.{true, false}
 use mathlib.Core.List.{List}
 use lib.ListN.{length, get_or, get_or-eq_default}
 use lib.Dec.{T, lit≤}
@@ -14,7 +14,7 @@ use Rattle.numbers.proofs.Ranges.{tested_within}
 use Rattle.trapezoid.specs.Strip.{strip_at, capacity}
 use Rattle.index.specs.declared.Index.{Index}
 use Rattle.index.specs.Buckets.{index_of}
-use Rattle.index.specs.inner.Listing.{Laid, FirstBuckets, Bounded}
+use Rattle.index.specs.inner.Listing.{Laid, Bounded}
 use Rattle.enter.specs.inner.EntryRoom.{FirstsWritten}
 use Rattle.index.proofs.NewIndex.{new_fair}
 use Rattle.look.specs.inner.Ready.{BoundedStrips, Lookable}

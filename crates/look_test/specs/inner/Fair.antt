@@ -1,6 +1,5 @@
 -- For the test program's contracts: numbers that a look allows, and standing strips that are entered. Definitions only. Assumes nothing.
-use Rattle.std.specs.Prelude.{ℕ, ◌<◌, List, length, get_or, Float}
-use Rattle.std.specs.Float.{nan}
+use Rattle.std.specs.Prelude.{ℕ, List, Float}
 use Rattle.trapezoid.specs.Strip.{capacity}
 use Rattle.index.specs.declared.Index.{Index}
 use Rattle.index.specs.inner.Listing.{Laid, FirstBuckets, Bounded}
