@@ -1,5 +1,5 @@
 -- What an accepted job promises of its numbers. Assumes nothing.
-use mathlib.Core.Path.{◌≡◌, refl, sym, ap, ◌∙◌, subst}
+use mathlib.Core.Path.{◌≡◌, refl, sym, ◌∙◌, subst}
 use Prim.Native.Nat.{ℕ, zero, suc, ◌+◌, ◌*◌, ◌^◌, ◌≤◌, ◌<◌}
 use native.Mathlib.Omega.{arith}
 use mathlib.Core.Bool.{Bool, true, false, ◌||◌, cond, true≢false}
@@ -15,20 +15,19 @@ use Rattle.numbers.proofs.Literals.{milli}
 use Rattle.numbers.proofs.Truth.{zero-not-one}
 use Rattle.bits.specs.declared.Refusal.{Refusal}
 use Rattle.bits.specs.declared.Refusal.TheVariants.{UnknownVersion, TrailingData, TooManyCopies, TooManyColumns}
-use Rattle.bits.specs.Reading.{Read, ok, bad, Reader, after, ◌>>=◌, ◌>>◌, give, unless, bits}
+use Rattle.bits.specs.Reading.{Read, ok, bad, ◌>>=◌, ◌>>◌, give, unless, bits}
 use Rattle.bits.specs.Fields.{kinds_field, count, resolution_range, number}
-use Rattle.bits.proofs.Accepted.{Gives, after_ok, bind, given, unless_ok, bits_less, count_in_range, Between, number-between, UpFrom, resolution_in}
-use Rattle.kinds.specs.sets.Sets.{Set, a_set}
+use Rattle.bits.proofs.Accepted.{Gives, bind, given, unless_ok, bits_less, count_in_range, Between, number-between, UpFrom, resolution_in}
+use Rattle.kinds.specs.sets.Sets.{a_set}
 use Rattle.kinds.proofs.sets.Accepted.{Coordinates, coordinate_at, Good, set-good}
-use Rattle.kinds.specs.Kinds.{Kind, some_kinds, copies_of}
+use Rattle.kinds.specs.Kinds.{some_kinds, copies_of}
 use Rattle.kinds.proofs.Accepted.{Every, GoodKind, kinds-good}
 use Rattle.job.specs.declared.Header.{Header}
-use Rattle.job.specs.declared.Judged.{Judged}
 use Rattle.job.specs.declared.Judged.TheVariants.{Passed, Failed}
 use Rattle.frames.specs.declared.Frame.{Frame}
 use Rattle.frames.specs.Frames.{lower_left}
 use Rattle.job.specs.Jobs.{Job, a_frame, after_frame, a_header, a_job, ended, left, right}
-use Rattle.job.specs.Jobs.{width_of, framed_width, judge_end, Answer, accepted, refused, passed, judged, read_job}
+use Rattle.job.specs.Jobs.{framed_width, judge_end, accepted, refused, passed, judged, read_job}
 
 pub record GoodHeader (h : Header) : Type 0 where
   pub version : h.version ≤ 2

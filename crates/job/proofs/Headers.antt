@@ -1,19 +1,15 @@
 -- Laws of the header. Assumes nothing.
-use mathlib.Core.Path.{◌≡◌, refl, sym, ap, ◌∙◌}
-use mathlib.Core.Logic.{◌⊎◌, inl, inr}
-use Prim.Native.Nat.{ℕ, suc, ◌+◌, ◌-◌, ◌%◌, ◌≤◌, ◌<◌}
-use native.Mathlib.Omega.{arith}
-use lib.Dec.{ltb}
-use lib.IntN.{pos, negsuc}
+use mathlib.Core.Path.{◌≡◌}
+use Prim.Native.Nat.{ℕ}
 use mathlib.Core.List.{List}
-use lib.Ieee.{Float, of_int, div}
-use borrow.Author.Tests.{eq-eqb, ne_eqb, lt-ltb, le-ltb}
+use lib.Ieee.{Float}
+use borrow.Author.Tests.{eq-eqb, ne_eqb}
 use Rattle.bits.specs.declared.Refusal.{Refusal}
-use Rattle.bits.specs.declared.Refusal.TheVariants.{Truncated, UnknownVersion}
+use Rattle.bits.specs.declared.Refusal.TheVariants.{UnknownVersion}
 use Rattle.bits.specs.Reading.{Read, ok, bad, after, bits}
 use Rattle.frames.specs.declared.Frame.{Frame}
 use Rattle.frames.specs.Frames.{lower_left}
-use Rattle.bits.specs.Fields.{quantity_field, orientations_field, kinds_field, count, area_range, resolution_range, number}
+use Rattle.bits.specs.Fields.{kinds_field, count, resolution_range, number}
 use Rattle.job.specs.declared.Header.{Header}
 use Rattle.job.specs.Jobs.{a_frame, after_frame, a_header}
 use Rattle.job.specs.inner.Meaning.{framed_header}

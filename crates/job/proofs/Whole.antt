@@ -2,12 +2,12 @@
 use mathlib.Core.Path.{◌≡◌, refl, sym, ap, ◌∙◌, subst}
 use Prim.Native.Nat.{ℕ, zero, suc, ◌+◌, ◌-◌, ◌*◌, ◌/◌, ◌≤◌, ◌<◌}
 use native.Mathlib.Omega.{arith}
-use mathlib.Core.Bool.{Bool, true, false, cond, ◌&&◌}
-use mathlib.Core.List.{List, [], ◌∷◌, ◌++◌}
+use mathlib.Core.Bool.{true, false}
+use mathlib.Core.List.{List, []}
 use lib.ListN.{length, take, get_or, length-take}
 use lib.Seq.{get_or-take}
 use lib.Dec.{eqb}
-use lib.Ieee.{Float, nan, inf, lt}
+use lib.Ieee.{Float, nan, lt}
 use borrow.Author.Tests.{le-ltb, lt-ltb, le-leb, lt-leb}
 use Rattle.numbers.specs.Numbers.{◌⊖◌, ◌⊘◌, from_int, smaller, larger}
 use Rattle.numbers.proofs.Truth.{zero-not-one}
@@ -24,7 +24,7 @@ use Rattle.job.specs.declared.ReadJob.{ReadJob}
 use Rattle.kinds.specs.inner.Tables.{tabulate, kind_at}
 use Rattle.job.specs.inner.Meaning.{answered, job_read}
 use Rattle.kinds.specs.sets.Sets.{Set, a_set}
-use Rattle.kinds.specs.sets.inner.Answers.{found, set_at, set_read}
+use Rattle.kinds.specs.sets.inner.Answers.{set_at, set_read}
 use Rattle.kinds.specs.Kinds.{Kind, some_kinds, copies_of}
 use Rattle.kinds.specs.declared.sets.SetRead.{SetRead}
 use Rattle.kinds.specs.declared.sets.SetRead.TheVariants as Sets
@@ -32,8 +32,8 @@ use Rattle.frames.specs.declared.Frame.{Frame}
 use Rattle.frames.specs.Frames.{framed}
 use Rattle.frames.specs.inner.Turning.{framed_read}
 use Rattle.frames.proofs.Turned.{framed_ok, framed-bad}
-use Rattle.job.specs.Jobs.{Job, frame_of, a_header, a_job, ended, left, right, width_of}
-use Rattle.job.specs.Jobs.{framed_width, judge_end, Answer, accepted, refused, passed, judged, read_job}
+use Rattle.job.specs.Jobs.{frame_of, a_header, a_job, ended, left, right, width_of}
+use Rattle.job.specs.Jobs.{framed_width, judge_end, refused, passed, judged, read_job}
 
 -- ---- the end
 module _ (bytes : List ℕ) (p : ℕ) where

@@ -1,14 +1,14 @@
 -- Document 01, "The job's bits" and "Refused because of the input", and document 02, W1: the job that bytes are, or its refusal. Definitions only.
 -- Assumes nothing.
-use Rattle.std.specs.Prelude.{ℕ, zero, suc, ◌+◌, ◌-◌, ◌*◌, ◌/◌, Bool, true, false, ◌&&◌, ◌||◌, cond, List, [], ◌∷◌, length, get_or, leb, ltb, eqb, Float}
+use Rattle.std.specs.Prelude.{ℕ, zero, suc, ◌-◌, ◌*◌, ◌/◌, Bool, true, false, ◌&&◌, ◌||◌, cond, List, [], length, get_or, leb, ltb, eqb, Float}
 use Rattle.std.specs.Float.{nan, inf}
 use Rattle.std.specs.Float.Ieee.{lt}
 use Rattle.numbers.specs.Numbers.{◌⊖◌, ◌⊘◌, from_int, smaller, larger}
 use Rattle.bits.specs.declared.Refusal.{Refusal}
 use Rattle.bits.specs.declared.Refusal.TheVariants.{TrailingData, UnknownVersion, TooManyCopies, TooManyColumns}
 use Rattle.bits.specs.Bits.{field_at}
-use Rattle.bits.specs.Reading.{Read, ok, bad, Reader, after, ◌>>=◌, ◌>>◌, give, unless, bits}
-use Rattle.bits.specs.Fields.{Field, kinds_field, count, Range, resolution_range, number}
+use Rattle.bits.specs.Reading.{Read, ok, bad, Reader, ◌>>=◌, ◌>>◌, give, unless, bits}
+use Rattle.bits.specs.Fields.{kinds_field, count, resolution_range, number}
 use Rattle.job.specs.declared.Header.{Header}
 use Rattle.job.specs.declared.Judged.{Judged}
 use Rattle.job.specs.declared.Judged.TheVariants.{Passed, Failed}

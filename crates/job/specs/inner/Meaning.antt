@@ -1,8 +1,6 @@
 -- Inner functions' contracts only: what the code's answers and tables say, in the terms of the job. Definitions only. Assumes nothing.
-use Rattle.std.specs.Prelude.{ℕ, zero, suc, ◌+◌, ◌-◌, ◌*◌, ◌≤◌, ◌≡◌, List, [], ◌∷◌, ◌++◌, take, get_or, Float}
-use Rattle.std.specs.Float.{nan}
-use Rattle.bits.specs.declared.Refusal.{Refusal}
-use Rattle.bits.specs.Reading.{Read, ok, bad, Reader, after, ◌>>=◌}
+use Rattle.std.specs.Prelude.{ℕ, ◌≤◌, List, Float}
+use Rattle.bits.specs.Reading.{Read, ok, bad, Reader, ◌>>=◌}
 use Rattle.job.specs.declared.Header.{Header}
 use Rattle.job.specs.declared.HeaderRead.{HeaderRead}
 use Rattle.job.specs.declared.HeaderRead.TheVariants.{Front, NoHeader}
@@ -11,7 +9,7 @@ use Rattle.job.specs.declared.JobRead.TheVariants.{Good, NoJob}
 use Rattle.job.specs.declared.Judged.{Judged}
 use Rattle.job.specs.declared.Judged.TheVariants.{Passed, Failed}
 use Rattle.kinds.specs.inner.Tables.{tabulate, kind_at}
-use Rattle.job.specs.Jobs.{Job, a_frame, after_frame, Answer, accepted, refused}
+use Rattle.job.specs.Jobs.{a_frame, after_frame, Answer, accepted, refused}
 use Rattle.kinds.specs.sets.inner.Answers.{set_at}
 
 abbrev pub header_read : HeaderRead → Read Header

@@ -1,0 +1,18 @@
+-- `job::left_of` meets its contract. Assumes nothing.
+use native.Mathlib.Omega.{arith}
+use mathlib.Core.Path.{refl, ◌∙◌}
+use Rattle.job.specs.Jobs.{left}
+use Rattle.job.proofs.Whole.{left_more}
+use lib.Ieee.{of_bits, nan_bits}
+use Rattle.job.proofs.left_of.Goals as goal
+
+pub float_from_bits-x : goal.float_from_bits-x
+unfolding nan_bits
+float_from_bits-x c = tt
+
+pub loop-i-init : goal.loop-i-init
+unfolding left of_bits
+loop-i-init c = (refl, omega arith)
+
+pub loop-i-preserved : goal.loop-i-preserved
+loop-i-preserved c = (c.smaller-x.ensures ∙ left_more c.args.room.now c.loop-i.i c.loop-i.x c.loop-i.invariant.0, omega arith)
