@@ -1,38 +1,34 @@
 -- An accepted start: state and rooms are those of the job's own planner. Assumes nothing.
 use mathlib.Core.Path.{◌≡◌, refl, sym, ap, ap₂, subst, ◌∙◌}
-use mathlib.Core.Logic.{◌⊎◌, inl, inr, ◌≢◌}
+use mathlib.Core.Logic.{◌⊎◌, inl, inr}
 use mathlib.Core.Bool.{Bool, true, false, not, ◌&&◌}
 use mathlib.Core.List.{List, [], ◌∷◌, ◌++◌, map, flat_map, append-nil, append_assoc}
-use Prim.Native.Nat.{ℕ, zero, suc, ◌+◌, ◌-◌, ◌*◌, ◌/◌, ◌%◌, ◌≤◌, ◌<◌, min}
+use Prim.Native.Nat.{ℕ, zero, suc, ◌+◌, ◌*◌, ◌/◌, ◌%◌, ◌≤◌, ◌<◌, min}
 use native.Mathlib.Omega.{arith}
-use lib.ListN.{length, get_or, set, take, drop, replicate, length-append, length-map, length-replicate, get_or-replicate, get_or-map, get_or-eq_default}
+use lib.ListN.{length, get_or, take, drop, replicate, length-append, length-map, length-replicate, get_or-replicate, get_or-map, get_or-eq_default}
 use lib.Seq.{take_at, drop_at}
-use lib.Dec.{T, ltb, eqb, eqb→eq, nltb→le}
-use lib.Ieee.{Float, nan}
+use lib.Dec.{ltb, eqb, eqb→eq, nltb→le}
+use lib.Ieee.{Float}
 use borrow.Author.Tests.{lt-ltb, le-leb}
-use Rattle.numbers.proofs.Truth.{either, below_or_not, clash, both_first}
+use Rattle.numbers.proofs.Truth.{below_or_not, clash, both_first}
 use Rattle.numbers.specs.Numbers.{pos_zero}
-use Rattle.trapezoid.specs.Strip.{flat, capacity, part_of}
+use Rattle.trapezoid.specs.Strip.{capacity, part_of}
 use Rattle.index.specs.Buckets.{strip_numbers, standing_capacity}
 use Rattle.index.proofs.Standing.{standing-few}
-use Rattle.strips.specs.declared.Rect.{Rect}
 use Rattle.kinds.specs.Kinds.{Orientation, Kind}
 use Rattle.frames.specs.declared.Frame.{Frame}
 use Rattle.frames.specs.Frames.{framed}
-use Rattle.job.specs.Jobs.{Job, frame_of, Answer, accepted, refused, read_job}
-use Rattle.filling.specs.declared.State.{State}
-use Rattle.filling.specs.declared.Tables.{Tables}
+use Rattle.job.specs.Jobs.{Job, frame_of, accepted, read_job}
 use Rattle.filling.specs.declared.Refusal.{Refusal}
 use Rattle.filling.specs.declared.Refusal.TheVariants as Why
 use Rattle.filling.specs.declared.Verdict.{Verdict}
 use Rattle.filling.specs.declared.Verdict.TheVariants.{Accepted, Refused}
-use Rattle.filling.specs.Refusals.{refuse_if}
-use Rattle.filling.specs.Shapes.{Shape, Planner, planner_of, set_strips, shape_for, no_bounds, no_shape, shape_of, Copy, copies_from, standing_strips}
+use Rattle.filling.specs.Shapes.{Shape, Planner, planner_of, set_strips, shape_for, no_shape, shape_of, copies_from, standing_strips}
 use Rattle.filling.specs.Search.{column, Track}
-use Rattle.filling.specs.Rooms.{Rooms, Lent, position_capacity, laid, zeros}
+use Rattle.filling.specs.Rooms.{Rooms, Lent, laid, zeros}
 use Rattle.filling.specs.Order.{rearranged, in_full}
-use Rattle.filling.specs.State.{by_slot, slot_shape, orientation_counts, slot_rows, Part, part_at, bounds_at, apart_room, inset_room, shape_at, planner_at, order_of, standing_to, standing_of, without_to, without_of, remembered_of, track_at, tracks_of, empty_layout}
-use Rattle.filling.specs.Consistent.{every, part_fits, parts_fit, strip_counts_fit, placed_strips_of, firsts_for}
+use Rattle.filling.specs.State.{by_slot, slot_shape, orientation_counts, slot_rows, part_at, bounds_at, apart_room, inset_room, shape_at, planner_at, order_of, standing_to, standing_of, without_to, without_of, remembered_of, track_at, tracks_of, empty_layout}
+use Rattle.filling.specs.Consistent.{part_fits, parts_fit, strip_counts_fit, placed_strips_of, firsts_for}
 use Rattle.filling.specs.Start.{apart_strips_of, inset_strips, tables_of, first_state, first_rooms, prepare_verdict, start_verdict, Start, no_start, good_start, start_job, start_given, start_of}
 use Rattle.filling.proofs.Reading.{Sixfold, sixfold_nil, sixfold_flat, sixfold_all, AllSixfold, take-laid, length-firsts_for, get_d_by_slot, length-by_slot, bounds_slot, starts, starts-within, laid-long, rows-every, part-read, part_slot, rows-read, slot_kind, slot_turn, sixteen_get, to_come}
 use Rattle.filling.proofs.Sizes.{Sized}

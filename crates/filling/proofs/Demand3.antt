@@ -11,7 +11,7 @@ use Rattle.job.specs.Jobs.{Job, accepted, read_job}
 use Rattle.filling.specs.declared.State.{State}
 use Rattle.filling.specs.declared.Verdict.TheVariants.{Accepted}
 use Rattle.filling.specs.Shapes.{Planner, planner_of, Shape, Copy, Standing, copies_from, named, others, standing_strips}
-use Rattle.filling.specs.Search.{Found, at, Track}
+use Rattle.filling.specs.Search.{Found, Track}
 use Rattle.filling.specs.Choice.{Choice, choices, best, standing_at}
 use Rattle.filling.specs.Plain.{Plain, take_next, no_searches, plain_back, last_place, copy_after, standing_after, plain_start, plain_search, plain_searched_all}
 use Rattle.filling.specs.Plain.{plain_settled, plain_place, plain_take, plain_planner, finds}

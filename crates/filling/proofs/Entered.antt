@@ -1,7 +1,7 @@
 -- A copy entered in a state: the copies that stand, those without a place, and the tracks. Assumes nothing.
 use mathlib.Core.Path.{◌≡◌, refl, sym, ap, ap₂, ◌∙◌}
 use mathlib.Core.Logic.{◌⊎◌, inl, inr, ◌≢◌}
-use mathlib.Core.Bool.{Bool, true, false, not}
+use mathlib.Core.Bool.{true, false, not}
 use mathlib.Core.List.{List, [], ◌∷◌, ◌++◌, map}
 use Prim.Native.Nat.{ℕ, zero, suc, ◌+◌, ◌*◌, ◌≤◌, ◌<◌}
 use native.Mathlib.Nat.{eq-or-lt_of_le}
@@ -12,8 +12,7 @@ use lib.Dec.{T, ltb, ltb→lt, nltb→le}
 use lib.Ieee.{Float, nan}
 use Rattle.numbers.proofs.Truth.{either}
 use Rattle.filling.specs.declared.State.{State}
-use Rattle.filling.specs.declared.Layout.{Layout}
-use Rattle.filling.specs.Shapes.{Shape, Planner, Copy, Standing}
+use Rattle.filling.specs.Shapes.{Shape, Planner}
 use Rattle.filling.specs.Search.{Remembered, column, none, Track, search_all, searched_all}
 use Rattle.filling.specs.State.{slot_rows, copy_at, stands_at, misses_at, standing_to, without_to, standing_of, without_of, remembered_of, remembered_number, track_at}
 use Rattle.filling.specs.NextCopy.{entered, state_with}

@@ -1,5 +1,5 @@
 -- The walk along the entries (`index::entries`) ends exactly where the room begins with them: what 31 asks of the entries. Assumes nothing.
-use Prim.Native.Nat.{ℕ, zero, suc, ◌+◌, ◌≤◌, ◌<◌}
+use Prim.Native.Nat.{ℕ, suc, ◌≤◌, ◌<◌}
 use native.Mathlib.Nat.{eq-or-lt_of_le}
 use native.Mathlib.Numerals.{add-one}
 use native.Mathlib.Omega.{arith}
@@ -9,7 +9,7 @@ use mathlib.Core.Bool.{Bool, true, false, ◌&&◌}
 use mathlib.Core.List.{List, [], ◌∷◌}
 use lib.ListN.{length, get_or, take, drop, length-drop}
 use lib.Seq.{drop-cons}
-use lib.Dec.{T, eqb, eqb→eq, eqb_refl}
+use lib.Dec.{eqb, eqb→eq, eqb_refl}
 use Rattle.numbers.proofs.Truth.{either, is_true, clash}
 use Rattle.index.specs.declared.entries.Walked.{Walked}
 use Rattle.index.specs.declared.entries.Walked.TheVariants.{At, Wrong}

@@ -3,33 +3,30 @@ use mathlib.Core.Path.{◌≡◌, refl, sym, ap, ◌∙◌}
 use mathlib.Core.Logic.{◌⊎◌, inl, inr}
 use mathlib.Core.Bool.{Bool, true, false}
 use mathlib.Core.List.{List, [], ◌∷◌, ◌++◌, flat_map, Memᴰ}
-use Prim.Native.Nat.{ℕ, zero, suc, ◌+◌, ◌-◌, ◌*◌, ◌/◌, ◌≤◌, ◌<◌}
+use Prim.Native.Nat.{ℕ, zero, suc, ◌+◌, ◌*◌, ◌≤◌, ◌<◌}
 use native.Mathlib.Nat.{eq-or-lt_of_le}
 use native.Mathlib.Omega.{arith}
-use lib.ListN.{length, get_or, length-append, get_or-append}
+use lib.ListN.{length-append, get_or-append}
 use lib.Dec.{T}
 use lib.Ieee.{Float, nan, binary64, fits, lt}
 use lib.Ieee.Fits.{sub-fits}
-use Rattle.numbers.proofs.Truth.{either}
 use Rattle.numbers.specs.Numbers.{◌⊕◌, ◌⊖◌, smaller, larger}
 use Rattle.numbers.proofs.Doubles.{larger-fits, smaller-fits}
 use Rattle.trapezoid.specs.declared.Trapezoid.{Trapezoid}
 use Rattle.trapezoid.specs.declared.Heights.{Heights}
 use Rattle.trapezoid.specs.Strip.{strip_at, capacity, heights_at}
 use Rattle.index.specs.declared.Interval.{Interval}
-use Rattle.index.specs.declared.Meeting.{Meeting}
 use Rattle.index.specs.declared.Meeting.TheVariants.{Apart, Forbidden}
-use Rattle.index.specs.Buckets.{up_from, keep}
+use Rattle.index.specs.Buckets.{up_from}
 use Rattle.index.specs.Intervals.{interval_of, meeting_of, interval_in, forbidden_of, counts_of, counted_of}
 use Rattle.index.proofs.Flat.{up_from_mem, flat_map_mem}
 use Rattle.look.specs.declared.height.Look.{Look}
 use Rattle.look.specs.declared.height.Look.TheVariants.{Free, Full}
-use Rattle.look.specs.height.Smallest.{height_of}
 use Rattle.look.proofs.height.SmallestHeight.{keep_mem}
 use Rattle.look.specs.Looking.{counted_in}
-use Rattle.filling.specs.Columns.{Ranges, ranges, column_at}
+use Rattle.filling.specs.Columns.{ranges, column_at}
 use Rattle.filling.specs.Shapes.{Planner, Shape}
-use Rattle.filling.specs.Search.{Found, at, nowhere, first_free, ranges_of, intervals_at, look_at}
+use Rattle.filling.specs.Search.{at, nowhere, first_free, ranges_of, intervals_at, look_at}
 use Rattle.filling.proofs.Lists.{Within, keep-within, append_within, mem_flat_map}
 use Rattle.filling.proofs.FullStays.{Counts, AllCount, full_stays}
 use Rattle.filling.proofs.Reading.{Sixfold}

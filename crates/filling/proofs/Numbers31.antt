@@ -2,9 +2,9 @@
 -- a column, and sums of areas. Assumes nothing.
 use mathlib.Core.Path.{◌≡◌, refl, sym, ap, subst, ◌∙◌}
 use mathlib.Core.Logic.{◌⊎◌, inl, inr}
-use mathlib.Core.Bool.{Bool, true, false, not, ◌&&◌, cond}
-use mathlib.Core.List.{List, [], ◌∷◌, ◌++◌, map}
-use Prim.Native.Nat.{ℕ, zero, suc, ◌+◌, ◌-◌, ◌*◌, ◌/◌, ◌≤◌, ◌<◌}
+use mathlib.Core.Bool.{Bool, true, false, not, cond}
+use mathlib.Core.List.{List, [], ◌∷◌, ◌++◌}
+use Prim.Native.Nat.{ℕ, zero, suc, ◌+◌, ◌-◌, ◌*◌, ◌≤◌, ◌<◌}
 use native.Mathlib.Omega.{arith}
 use lib.ListN.{length, get_or}
 use lib.Seq.{get_or-append-add}
@@ -16,16 +16,15 @@ use Rattle.index.specs.Buckets.{up_from}
 use Rattle.look.specs.declared.height.Look.TheVariants.{Free}
 use Rattle.job.specs.Jobs.{Job}
 use Rattle.filling.specs.declared.State.{State}
-use Rattle.filling.specs.declared.Layout.{Layout}
 use Rattle.filling.specs.Columns.{column_at}
 use Rattle.filling.specs.Shapes.{Planner, planner_of, Shape, Copy, Standing, no_shape, shape_of, moved_strips, standing_strips}
 use Rattle.filling.specs.Search.{Found, at, nowhere, Remembered, column, none, Track, ranges_of, look_at, last_of, reversed_for, search, search_all}
 use Rattle.filling.specs.Choice.{Choice, choice_of, choices, wins, best, standing_at}
 use Rattle.filling.specs.State.{standing_of, without_of}
-use Rattle.filling.specs.Consistent.{every, bounded, strip_fits, strips_fit, bounds_fit, planner_fits, resolution_fits, shape_fits, layout_fits, gap_fits}
+use Rattle.filling.specs.Consistent.{every, bounded, strip_fits, strips_fit, bounds_fit, planner_fits, resolution_fits, layout_fits, gap_fits}
 use Rattle.filling.specs.Consistent.{gaps_fit}
 use Rattle.filling.specs.NextCopy.{new_strips, entered, state_with, layout_after, state_after}
-use Rattle.filling.proofs.FirstFree.{FoundAt, found_at, grows_append}
+use Rattle.filling.proofs.FirstFree.{found_at, grows_append}
 use Rattle.filling.proofs.Reading.{Sixfold, capacity_append}
 use Rattle.filling.proofs.Steps.{new_sixfold, standing_sixfold, standing_more}
 use Rattle.filling.proofs.Searches.{search_open, search-reversed}

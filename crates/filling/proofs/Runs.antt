@@ -9,7 +9,7 @@ use native.Mathlib.Omega.{arith}
 use lib.ListN.{replicate}
 use lib.Ieee.{Float}
 use Rattle.numbers.proofs.Truth.{either}
-use Rattle.job.specs.Jobs.{Job, Answer, accepted, refused, read_job}
+use Rattle.job.specs.Jobs.{Job, accepted, read_job}
 use Rattle.filling.specs.declared.State.{State}
 use Rattle.filling.specs.declared.Refusal.{Refusal}
 use Rattle.filling.specs.declared.Refusal.TheVariants as Why
@@ -20,13 +20,13 @@ use Rattle.filling.specs.Shapes.{Planner, planner_of}
 use Rattle.filling.specs.Plain.{Plain, Request, take_next, take_back, plain_take, plain_back, plain_call, plain_calls}
 use Rattle.filling.specs.Rooms.{Rooms, Lent, only_positions}
 use Rattle.filling.specs.Consistent.{consistent}
-use Rattle.filling.specs.Start.{start_verdict, first_state, first_rooms}
+use Rattle.filling.specs.Start.{start_verdict}
 use Rattle.filling.specs.NextCopy.{Step, no_step, core_step, step_job, step_given, next_copy_of}
 use Rattle.filling.specs.Accounts.{plan_of}
-use Rattle.filling.specs.Fill.{Filling, filled, stopped, fill_from, fill_order, not_planned, planned_with, planned_by, fill_job, fill_given, fill_of}
+use Rattle.filling.specs.Fill.{Filling, filled, stopped, fill_from, fill_order, not_planned, planned_with, planned_by, fill_job}
 use Rattle.filling.specs.Reports.{Reports}
 use Rattle.filling.specs.Withdraw.{Reply, withdraw_of}
-use Rattle.filling.specs.Calls.{Call, next_copy, withdraw, request_of, After, step_reply, call_step, after_calls, refusals, Outcome, state_outcome}
+use Rattle.filling.specs.Calls.{Call, next_copy, withdraw, request_of, step_reply, call_step, after_calls, refusals, Outcome, state_outcome}
 use Rattle.filling.proofs.Steps as Steps
 use Rattle.filling.proofs.Steps.{Linked, Took, unchanged, took, core_outcome, refused≢accepted}
 use Rattle.filling.proofs.Withdrawn.{Went, Answered, stays, went, answered}

@@ -6,7 +6,7 @@ use native.Mathlib.Omega.{arith}
 use lib.ListN.{length}
 use Rattle.kinds.specs.Kinds.{Kind}
 use Rattle.kinds.proofs.Accepted.{Every, GoodKind}
-use Rattle.job.specs.Jobs.{Job, Answer, accepted, read_job}
+use Rattle.job.specs.Jobs.{Job, accepted, read_job}
 use Rattle.job.proofs.Accepted.{job_good}
 use Rattle.filling.specs.State.{orientation_counts}
 use Rattle.filling.proofs.Reading.{Sixteen, no_turns, and_turns}

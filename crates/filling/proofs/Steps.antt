@@ -1,17 +1,15 @@
 -- What the core step does to a state and its rooms. Assumes nothing.
-use mathlib.Core.Path.{◌≡◌, refl, sym, ap, ap₂, subst, ◌∙◌}
-use mathlib.Core.Logic.{◌⊎◌, inl, inr, ◌≢◌}
-use mathlib.Core.Bool.{Bool, true, false, not}
+use mathlib.Core.Path.{◌≡◌, refl, sym, ap, ◌∙◌}
+use mathlib.Core.Bool.{Bool, true, false}
 use mathlib.Core.List.{List, [], ◌∷◌, ◌++◌, map, flat_map, append-nil, append_assoc}
-use Prim.Native.Nat.{ℕ, zero, suc, ◌+◌, ◌-◌, ◌*◌, ◌/◌, ◌%◌, ◌≤◌, ◌<◌}
+use Prim.Native.Nat.{ℕ, suc, ◌*◌, ◌≤◌, ◌<◌}
 use native.Mathlib.Omega.{arith}
-use lib.ListN.{length, get_or, set, take, drop, length-append, length-map, length-set, length-take, length-drop, get_or-map}
+use lib.ListN.{length, get_or, set, drop, length-map, length-set, length-take, length-drop}
 use lib.Seq.{get_or-set_same, length-sets, drop-cons, get_or-take}
 use lib.Ieee.{Float, nan}
 use Rattle.numbers.specs.Numbers.{◌⊕◌, larger, pos_zero}
 use Rattle.trapezoid.specs.Strip.{strip_at, capacity, moved_by}
 use Rattle.index.specs.Buckets.{up_from}
-use Rattle.kinds.specs.Kinds.{Kind}
 use Rattle.job.specs.Jobs.{Job}
 use Rattle.filling.specs.declared.State.{State}
 use Rattle.filling.specs.declared.Tables.{Tables}
@@ -22,10 +20,10 @@ use Rattle.filling.specs.declared.Verdict.{Verdict}
 use Rattle.filling.specs.declared.Verdict.TheVariants.{Accepted, Refused}
 use Rattle.filling.specs.Refusals.{refuse_if}
 use Rattle.filling.specs.Shapes.{Shape, Planner, planner_of, Copy, Standing, copies_from, shape_of, moved_strips, copy_strips, standing_strips}
-use Rattle.filling.specs.Search.{Found, Remembered, column, none, Track, search, search_all, searched, searched_all}
+use Rattle.filling.specs.Search.{Found, Track, search_all, searched_all}
 use Rattle.filling.specs.Choice.{Choice, choices, best, standing_at}
-use Rattle.filling.specs.Rooms.{Rooms, interval_capacity, laid, zeros}
-use Rattle.filling.specs.State.{slot_rows, orientation_counts, shape_at, planner_at, order_of, copy_at, stands_at, misses_at, standing_to, without_to, standing_of, without_of, remembered_of, remembered_number, track_at, tracks_of}
+use Rattle.filling.specs.Rooms.{Rooms, interval_capacity, zeros}
+use Rattle.filling.specs.State.{orientation_counts, shape_at, planner_at, order_of, copy_at, stands_at, misses_at, standing_of, without_of, remembered_number, track_at, tracks_of}
 use Rattle.filling.specs.Consistent.{placed_strips_of}
 use Rattle.filling.specs.NextCopy.{interval_counts, any_above, new_strips, winner_verdict, copy_verdict, entered, state_with, layout_after, state_after, stored, rooms_after, Step, no_step, place_found, place_copy, place_next, core_step}
 use Rattle.filling.proofs.Reading.{Sixfold, sixfold_nil, sixfold_append, sixfold_flat, take-laid, rows-length, to_come}
@@ -151,9 +149,9 @@ module _ (p : Planner) (st : List Float) (ts : List Track) (k : ℕ) (s : State)
   winner-accepted e = (later_accepted (any_above (interval_capacity iv) (interval_counts p st Ss ts Fs)) Why.IntervalRoom _ e).1
 
 module _ (j : Job) (s : State) (w : Rooms) (h : Linked j s w) (iv : List Float) where
-  no_step : (r : Refusal) → Outcome j s w (no_step r s w iv)
+  no_step_lem : (r : Refusal) → Outcome j s w (no_step r s w iv)
   unfolding no_step
-  no_step r = unchanged r refl refl refl
+  no_step_lem r = unchanged r refl refl refl
 
   placed : (k : ℕ) (ks : List ℕ) → drop s.taken (order_of j s) ≡ k ∷ ks → Outcome j s w (place_copy (planner_of j) (Here j s) (get_or (tracks_of j s) k []) k s w iv)
   placed k ks e = go (copy_verdict (planner_of j) w iv k (Here j s) (get_or (planner_of j).shapes k []) (get_or (tracks_of j s) k []) (FoundOf j s k)) refl
@@ -162,11 +160,11 @@ module _ (j : Job) (s : State) (w : Rooms) (h : Linked j s w) (iv : List Float) 
       go Accepted d =
           rw (place-taken (planner_of j) (Here j s) (get_or (tracks_of j s) k []) k s w iv d)
           (took (record { kind = k; rest = ks; order_is = e; accepted = refl; fits = winner-accepted (planner_of j) (Here j s) (get_or (tracks_of j s) k []) k s w iv d; state_is = refl; rooms_is = refl }))
-      go (Refused r) d = rw (place-refused (planner_of j) (Here j s) (get_or (tracks_of j s) k []) k s w iv r d) (no_step r)
+      go (Refused r) d = rw (place-refused (planner_of j) (Here j s) (get_or (tracks_of j s) k []) k s w iv r d) (no_step_lem r)
 
   next-placed : (l : List ℕ) → drop s.taken (order_of j s) ≡ l → Outcome j s w (place_next j s w iv l)
   unfolding place_next
-  next-placed [] e = no_step Why.OrderUsedUp
+  next-placed [] e = no_step_lem Why.OrderUsedUp
   next-placed (k ∷ ks) e = rw (h.plan, h.stand) (placed k ks e)
 
   pub core_outcome : Outcome j s w (core_step j s w iv)

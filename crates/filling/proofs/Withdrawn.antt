@@ -15,12 +15,10 @@ use Rattle.numbers.proofs.Truth.{either, both_first, both_second}
 use Rattle.trapezoid.specs.Strip.{capacity}
 use Rattle.job.specs.Jobs.{Job, accepted, read_job}
 use Rattle.filling.specs.declared.State.{State}
-use Rattle.filling.specs.declared.Layout.{Layout}
 use Rattle.filling.specs.declared.Refusal.{Refusal}
 use Rattle.filling.specs.declared.Refusal.TheVariants as Why
-use Rattle.filling.specs.declared.Verdict.{Verdict}
 use Rattle.filling.specs.declared.Verdict.TheVariants.{Accepted, Refused}
-use Rattle.filling.specs.Shapes.{Planner, planner_of, Copy, Standing, copies_from, named, others, standing_strips}
+use Rattle.filling.specs.Shapes.{planner_of, Copy, Standing, copies_from, named, others, standing_strips}
 use Rattle.filling.specs.Plain.{copy_after, standing_after}
 use Rattle.filling.specs.Rooms.{Rooms, zeros}
 use Rattle.filling.specs.Order.{rearranged}

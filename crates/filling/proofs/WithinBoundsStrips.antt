@@ -16,7 +16,7 @@ use Rattle.trapezoid.proofs.Sizes.{Sized, small_more, moved-sized, moved_order}
 use Rattle.slabs.proofs.Sizes.{Good}
 use Rattle.slabs.proofs.Merging.{All}
 use Rattle.strips.specs.declared.Rect.{Rect}
-use Rattle.strips.specs.Strips.{bounds, trapezoids}
+use Rattle.strips.specs.Strips.{trapezoids}
 use Rattle.strips.proofs.Sizes.{Framed, bounds-framed, trapezoids-good}
 use Rattle.strips.specs.inner.Tables.{Loops}
 use Rattle.index.specs.Buckets.{up_from}

@@ -1,12 +1,11 @@
 -- Document 01, "Order and swaps" and "The printed plan", and document 02, W1 and W2: what a filling answers: copy numbers, positions, counts, right,
 -- unplaced area, offcut. Definitions only. Assumes nothing.
-use Rattle.std.specs.Prelude.{ℕ, zero, suc, ◌/◌, ◌%◌, Bool, true, false, cond, length, get_or, replicate, eqb, Float}
+use Rattle.std.specs.Prelude.{ℕ, suc, ◌/◌, ◌%◌, true, false, cond, length, get_or, replicate, eqb, Float}
 use mathlib.Core.List.{List, [], ◌∷◌, map, flat_map, foldl}
 use Rattle.std.specs.Float.Ieee.{lt}
 use Rattle.numbers.specs.Numbers.{◌⊖◌, larger, pos_zero, from_int}
 use Rattle.trapezoid.specs.Strip.{strip_at, capacity}
 use Rattle.index.specs.Buckets.{up_from}
-use Rattle.kinds.specs.Kinds.{Kind}
 use Rattle.frames.specs.declared.Frame.{Frame}
 use Rattle.frames.specs.declared.Point.{Point}
 use Rattle.frames.specs.Frames.{from}
@@ -14,7 +13,6 @@ use Rattle.job.specs.Jobs.{Job, frame_of}
 use Rattle.filling.specs.declared.State.{State}
 use Rattle.filling.specs.declared.Plan.{Plan}
 use Rattle.filling.specs.Shapes.{Planner, planner_of, Copy, Standing, standing_strips}
-use Rattle.filling.specs.Search.{Track}
 use Rattle.filling.specs.Order.{count_in}
 use Rattle.filling.specs.State.{by_slot, standing_of, without_of, tracks_of}
 

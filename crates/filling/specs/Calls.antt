@@ -1,6 +1,6 @@
 -- Demand 3 and document 02, W4: a list of next copies and withdrawals after a start, what its state says, and what the plain planner says.
 -- Definitions only. Assumes nothing.
-use Rattle.std.specs.Prelude.{ℕ, zero, suc, Bool, true, false, List, [], ◌∷◌, map, Float}
+use Rattle.std.specs.Prelude.{ℕ, Bool, List, [], ◌∷◌, map, Float}
 use Rattle.job.specs.Jobs.{Job}
 use Rattle.filling.specs.declared.State.{State}
 use Rattle.filling.specs.declared.Verdict.{Verdict}

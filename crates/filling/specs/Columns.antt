@@ -1,5 +1,5 @@
 -- Document 01, "Filling": ranges and columns. Definitions only. Assumes nothing.
-use Rattle.std.specs.Prelude.{ℕ, zero, suc, Bool, true, false, ◌||◌, leb, Float}
+use Rattle.std.specs.Prelude.{ℕ, suc, Bool, true, false, ◌||◌, leb, Float}
 use Rattle.std.specs.Float.Ieee.{lt, to_unsigned}
 use Rattle.numbers.specs.Numbers.{◌⊕◌, ◌⊖◌, ◌⊗◌, ◌⊘◌, from_int, plus_zero}
 use Rattle.strips.specs.declared.Rect.{Rect}

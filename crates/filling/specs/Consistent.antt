@@ -1,6 +1,6 @@
 -- Document 01, refusal 31: "a single step's state and rooms disagree". One named test a line; no more is refused than the table says.
 -- Definitions only. Assumes nothing.
-use Rattle.std.specs.Prelude.{ℕ, zero, suc, ◌+◌, ◌*◌, Bool, true, false, not, ◌&&◌, List, [], ◌∷◌, length, get_or, take, leb, ltb, eqb, Float}
+use Rattle.std.specs.Prelude.{ℕ, suc, ◌+◌, ◌*◌, Bool, true, false, not, ◌&&◌, List, [], ◌∷◌, length, get_or, take, leb, ltb, eqb, Float}
 use Rattle.std.specs.Float.Ieee.{le, lt, eq, neg}
 use Rattle.std.specs.Float.Ieee.Scale.{finite}
 use Rattle.numbers.specs.Numbers.{pos_zero, from_int}
@@ -9,7 +9,7 @@ use Rattle.trapezoid.specs.Strip.{strip_at, capacity}
 use Rattle.index.specs.declared.Index.{Index}
 use Rattle.index.specs.Buckets.{up_from, index_of, entries_of, firsts_of, standing_capacity}
 use Rattle.strips.specs.declared.Rect.{Rect}
-use Rattle.bits.specs.Fields.{Range, resolution_range}
+use Rattle.bits.specs.Fields.{resolution_range}
 use Rattle.job.specs.Jobs.{Job}
 use Rattle.filling.specs.declared.Tables.{Tables}
 use Rattle.filling.specs.declared.State.{State}

@@ -1,5 +1,5 @@
 -- Document 01, the filling in a given order: start, then the core step once for every copy. Definitions only. Assumes nothing.
-use Rattle.std.specs.Prelude.{ℕ, zero, suc, Bool, true, false, List, [], ◌∷◌, length, Float}
+use Rattle.std.specs.Prelude.{ℕ, zero, suc, List, [], length, Float}
 use Rattle.job.specs.Jobs.{Job, Answer, accepted, refused, read_job}
 use Rattle.filling.specs.declared.State.{State}
 use Rattle.filling.specs.declared.Plan.{Plan}
@@ -11,7 +11,7 @@ use Rattle.filling.specs.Shapes.{planner_of}
 use Rattle.filling.specs.Rooms.{Rooms, Lent, only_positions}
 use Rattle.filling.specs.State.{standing_of}
 use Rattle.filling.specs.Start.{start_verdict, first_state, first_rooms}
-use Rattle.filling.specs.NextCopy.{Step, core_step}
+use Rattle.filling.specs.NextCopy.{core_step}
 use Rattle.filling.specs.Accounts.{positions, flat_positions, plan_of, no_plan}
 
 -- the state at the end, or the refusal first met

@@ -1,5 +1,5 @@
 -- Document 01, "The plain planner", and demand 3's look equation; document 02, W4. Definitions only. Assumes nothing.
-use Rattle.std.specs.Prelude.{ℕ, zero, suc, ◌+◌, ◌-◌, Bool, true, false, List, [], ◌∷◌, ◌++◌, map, length, get_or, set, ltb, Float}
+use Rattle.std.specs.Prelude.{ℕ, suc, ◌+◌, ◌-◌, Bool, true, false, List, [], ◌∷◌, ◌++◌, map, length, get_or, set, ltb, Float}
 use Rattle.filling.specs.Shapes.{Planner, Shape, Copy, Standing, copies_from, named, others, standing_strips}
 use Rattle.filling.specs.Search.{Found, at, nowhere, first_free, look_at, last_of, reversed_for}
 use Rattle.filling.specs.Choice.{Choice, choices, best, standing_at}

@@ -1,5 +1,5 @@
 -- Document 01, "What must change shape" and the tables: the lent rooms, and what is laid into them. Definitions only. Assumes nothing.
-use Rattle.std.specs.Prelude.{ℕ, ◌*◌, ◌/◌, List, [], ◌∷◌, ◌++◌, length, take, drop, replicate, Float}
+use Rattle.std.specs.Prelude.{ℕ, ◌/◌, List, ◌++◌, length, drop, replicate, Float}
 use Rattle.numbers.specs.Numbers.{pos_zero}
 
 -- "lent slices of doubles, six to a strip; buckets become entry rooms": "rooms of .. strips each (shapes, sheet, placed), .. entries each (sheet, placed)";

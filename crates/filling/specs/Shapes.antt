@@ -8,7 +8,7 @@ use Rattle.index.specs.Buckets.{up_from, keep}
 use Rattle.strips.specs.declared.Rect.{Rect}
 use Rattle.strips.specs.Strips as Strips
 use Rattle.kinds.specs.sets.Sets.{Set}
-use Rattle.kinds.specs.Kinds.{Orientation, Kind}
+use Rattle.kinds.specs.Kinds.{Orientation}
 use Rattle.frames.specs.declared.Frame.{Frame}
 use Rattle.frames.specs.Frames.{framed}
 use Rattle.job.specs.Jobs.{Job, frame_of}

@@ -1,10 +1,9 @@
 -- Document 01, the start: what it refuses, the state that it returns and the rooms that it leaves. Definitions only. Assumes nothing.
-use Rattle.std.specs.Prelude.{ℕ, zero, suc, ◌+◌, Bool, true, false, not, length, replicate, ltb, Float}
+use Rattle.std.specs.Prelude.{ℕ, ◌+◌, not, length, replicate, ltb, Float}
 use mathlib.Core.List.{List, [], ◌∷◌, ◌++◌, map, flat_map}
 use Rattle.numbers.specs.Numbers.{pos_zero}
 use Rattle.trapezoid.specs.Strip.{capacity}
 use Rattle.index.specs.Buckets.{standing_capacity}
-use Rattle.bits.specs.declared.Refusal as Input
 use Rattle.job.specs.Jobs.{Job, Answer, accepted, refused, read_job}
 use Rattle.filling.specs.declared.Tables.{Tables}
 use Rattle.filling.specs.declared.State.{State}

@@ -1,12 +1,11 @@
 -- The state that a start and every next copy returns, and what it says. A slot is 16 × kind + orientation. Definitions only. Assumes nothing.
 use Rattle.std.specs.Prelude.{ℕ, zero, suc, ◌+◌, ◌*◌, ◌/◌, ◌%◌, length, get_or, take, drop, replicate, Float}
-use mathlib.Core.List.{List, [], ◌∷◌, ◌++◌, map, flat_map}
+use mathlib.Core.List.{List, [], ◌∷◌, ◌++◌, map}
 use Rattle.std.specs.Float.{nan}
 use Rattle.numbers.specs.Numbers.{pos_zero}
-use Rattle.trapezoid.specs.Strip.{capacity, part_of}
+use Rattle.trapezoid.specs.Strip.{part_of}
 use Rattle.index.specs.Buckets.{up_from}
 use Rattle.strips.specs.declared.Rect.{Rect}
-use Rattle.kinds.specs.Kinds.{Kind}
 use Rattle.job.specs.Jobs.{Job}
 use Rattle.filling.specs.declared.Tables.{Tables}
 use Rattle.filling.specs.declared.Layout.{Layout}

@@ -1,6 +1,6 @@
 -- Document 02, W4, "Take a copy back": the withdrawal of a standing copy, a single step over a state and the contents of the rooms.
 -- Definitions only. Assumes nothing.
-use Rattle.std.specs.Prelude.{ℕ, zero, suc, ◌+◌, ◌-◌, ◌*◌, Bool, true, false, List, [], ◌∷◌, ◌++◌, get_or, take, drop, replicate, ltb, Float}
+use Rattle.std.specs.Prelude.{ℕ, suc, ◌+◌, ◌-◌, ◌*◌, true, false, List, [], ◌∷◌, ◌++◌, get_or, take, drop, replicate, ltb, Float}
 use Rattle.numbers.specs.Numbers.{◌⊕◌, larger, pos_zero}
 use Rattle.trapezoid.specs.Strip.{capacity}
 use Rattle.job.specs.Jobs.{Job, Answer, accepted, refused, read_job}
@@ -10,7 +10,7 @@ use Rattle.filling.specs.declared.Refusal.{Refusal}
 use Rattle.filling.specs.declared.Refusal.TheVariants as Why
 use Rattle.filling.specs.declared.Verdict.{Verdict}
 use Rattle.filling.specs.declared.Verdict.TheVariants.{Accepted, Refused}
-use Rattle.filling.specs.Shapes.{Shape, Planner, Standing, shape_of, others, copy_strips, standing_strips}
+use Rattle.filling.specs.Shapes.{Planner, Standing, shape_of, others, copy_strips, standing_strips}
 use Rattle.filling.specs.Rooms.{Rooms, laid, zeros}
 use Rattle.filling.specs.State.{planner_at, stands_at, standing_to, standing_of}
 use Rattle.filling.specs.Consistent.{entries_for, firsts_for, placed_strips_of, consistent}

@@ -15,7 +15,6 @@ use Rattle.slabs.proofs.Merging.{All, all_append}
 use Rattle.job.specs.Jobs.{Job, accepted, read_job}
 use Rattle.job.proofs.Accepted.{job_good}
 use Rattle.filling.specs.declared.State.{State}
-use Rattle.filling.specs.declared.Layout.{Layout}
 use Rattle.filling.specs.Shapes.{Planner, planner_of, Standing, others, copy_strips, standing_strips}
 use Rattle.filling.specs.Rooms.{Rooms, zeros}
 use Rattle.filling.specs.Order.{rearranged}
@@ -32,7 +31,7 @@ use Rattle.filling.proofs.Stood.{Reach}
 use Rattle.filling.proofs.WithinBoundsPlaces.{all_kept}
 use Rattle.filling.proofs.WithinBounds.{jobs_within, framed}
 use Rattle.filling.proofs.OwnKept.{own_back, back-rearranged}
-use Rattle.filling.proofs.promises.Numbers.{Numbers, RoomNumbers, StateNumbers, zero_is, all_zeros, all_take, all_drop, all_closed, all_laid}
+use Rattle.filling.proofs.promises.Numbers.{Numbers, zero_is, all_zeros, all_take, all_drop, all_closed, all_laid}
 use Rattle.filling.proofs.promises.Stays.{Sound, Near, Held, held-took, larger-small}
 
 -- ---- lists

@@ -2,14 +2,14 @@
 use Prim.Native.Nat.{ℕ, zero, suc, ◌+◌, ◌*◌, ◌≤◌, ◌<◌}
 use native.Mathlib.Nat.{le_trans}
 use native.Mathlib.Omega.{arith}
-use mathlib.Core.Path.{◌≡◌, refl, ap, subst, ◌∙◌}
-use mathlib.Core.Bool.{Bool, true, false, not, ◌&&◌}
+use mathlib.Core.Path.{◌≡◌, refl, subst, ◌∙◌}
+use mathlib.Core.Bool.{Bool, true, false, ◌&&◌}
 use mathlib.Core.List.{List, [], ◌∷◌, ◌++◌, map, flat_map}
 use lib.ListN.{length, get_or, length-append, length-map}
-use lib.Dec.{ltb, leb}
+use lib.Dec.{leb}
 use borrow.Author.Tests.{le-ltb}
 use lib.Ieee.{Float}
-use Rattle.trapezoid.specs.Strip.{strip_at, capacity, flat, moved_by}
+use Rattle.trapezoid.specs.Strip.{strip_at, capacity, moved_by}
 use Rattle.index.specs.declared.Index.{Index}
 use Rattle.index.specs.declared.Interval.{Interval}
 use Rattle.index.specs.declared.Meeting.{Meeting}
@@ -19,7 +19,6 @@ use Rattle.index.specs.Intervals.{interval_in, meeting_of, forbidden_of, counted
 use Rattle.index.proofs.Flat.{length-up_from}
 use Rattle.look.specs.Looking.{counted_in}
 use Rattle.filling.specs.declared.State.{State}
-use Rattle.filling.specs.declared.Refusal.TheVariants as Why
 use Rattle.filling.specs.Shapes.{Planner, Shape, no_shape, shape_of, Standing, moved_strips, copy_strips, standing_strips}
 use Rattle.filling.specs.Columns.{column_at}
 use Rattle.filling.specs.Search.{Found, Track, ranges_of, intervals_at, looks}

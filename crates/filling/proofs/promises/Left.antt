@@ -32,7 +32,7 @@ use Rattle.filling.specs.Start.{first_state, first_rooms, start_verdict, no_star
 use Rattle.filling.specs.NextCopy.{next_copy_of}
 use Rattle.filling.specs.Accounts.{Position, positions_of_kind, framed_positions, place_on_sheet, on_sheet, positions}
 use Rattle.filling.specs.Accounts.{flat_positions, reach_of, not_below_zero, offcut_of, plan_of, no_plan}
-use Rattle.filling.specs.Fill.{Filling, filled, stopped, fill_order, Planned, not_planned, planned_with, planned_by, fill_job, fill_given, fill_of}
+use Rattle.filling.specs.Fill.{Filling, filled, stopped, fill_order, not_planned, planned_with, planned_by, fill_job, fill_given, fill_of}
 use Rattle.filling.specs.Calls.{Call, request_of, after_calls, refusals}
 use Rattle.filling.specs.Plain.{Plain, take_next, plain_start, plain_calls}
 use Rattle.filling.proofs.Sizes.{sized}

@@ -1,20 +1,16 @@
 -- No number is left that is not finite, or minus zero: by a start, by every list of calls after it, and by a filling. Assumes nothing.
 use Prim.Native.Nat.{ℕ, zero, suc}
-use mathlib.Core.Path.{ap}
 use mathlib.Core.List.{List, [], ◌∷◌, ◌++◌, map, flat_map}
 use lib.ListN.{length, set, take, drop, replicate}
 use lib.Ieee.{Float, binary64}
 use Rattle.numbers.specs.Numbers.{pos_zero}
 use Rattle.numbers.proofs.Ranges.{zero_num}
-use Rattle.numbers.proofs.Doubles.{Number, finite}
+use Rattle.numbers.proofs.Doubles.{Number}
 use Rattle.slabs.proofs.Merging.{All, all_append}
 use Rattle.strips.specs.declared.Rect.{Rect}
 use Rattle.strips.proofs.Sizes.{Framed}
 use Rattle.index.specs.Buckets.{up_from}
-use Rattle.job.specs.Jobs.{refused}
 use Rattle.filling.specs.declared.State.{State}
-use Rattle.filling.specs.declared.Tables.{Tables}
-use Rattle.filling.specs.declared.Layout.{Layout}
 use Rattle.filling.specs.Shapes.{Shape, no_bounds}
 use Rattle.filling.specs.Rooms.{Rooms, Lent, laid, zeros, zero_rooms, only_positions}
 use Rattle.filling.specs.Withdraw.{closed_up}

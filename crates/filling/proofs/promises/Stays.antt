@@ -1,28 +1,25 @@
 -- A start, every list of calls after it and a filling leave no number that is not finite, and no minus zero. Assumes nothing.
-use Prim.Native.Nat.{ℕ, zero, suc, ◌+◌, ◌*◌, ◌/◌, ◌%◌, ◌≤◌, ◌<◌}
+use Prim.Native.Nat.{ℕ, zero, suc, ◌*◌, ◌/◌, ◌%◌, ◌≤◌, ◌<◌}
 use native.Mathlib.Omega.{arith}
-use mathlib.Core.Path.{◌≡◌, sym, ap, subst}
+use mathlib.Core.Path.{◌≡◌, sym, subst}
 use mathlib.Core.Bool.{Bool, true, false, cond}
-use mathlib.Core.List.{List, [], ◌∷◌, ◌++◌, map, flat_map}
-use lib.ListN.{length, get_or, set, take, replicate}
+use mathlib.Core.List.{List, [], ◌∷◌, ◌++◌, map}
+use lib.ListN.{length, get_or, set, replicate}
 use lib.Dec.{lit≤}
 use lib.Ieee.{Float, lt}
 use Rattle.numbers.specs.Numbers.{larger, pos_zero}
 use Rattle.numbers.proofs.Doubles.{Number, Small, finite, add_upto, add-number}
 use Rattle.trapezoid.proofs.Sizes.{small_more}
 use Rattle.slabs.proofs.Merging.{All, all_append}
-use Rattle.strips.specs.declared.Rect.{Rect}
 use Rattle.index.specs.Buckets.{up_from}
 use Rattle.frames.specs.Frames as Frames
 use Rattle.job.specs.Jobs.{Job, frame_of, accepted, read_job}
 use Rattle.job.proofs.Accepted.{GoodJob, job_good}
 use Rattle.filling.specs.declared.State.{State}
-use Rattle.filling.specs.declared.Layout.{Layout}
-use Rattle.filling.specs.declared.Verdict.{Verdict}
 use Rattle.filling.specs.declared.Verdict.TheVariants.{Accepted}
 use Rattle.filling.specs.Shapes.{Planner, planner_of, Shape}
 use Rattle.filling.specs.Choice.{Choice, best}
-use Rattle.filling.specs.Rooms.{Rooms, Lent, laid, zeros}
+use Rattle.filling.specs.Rooms.{Rooms, Lent, zeros}
 use Rattle.filling.specs.State.{by_slot, slot_shape, flat_bounds, empty_layout, standing_to, standing_of, without_of}
 use Rattle.filling.specs.Start.{apart_strips_of, inset_strips, tables_of, first_state, first_rooms, start_verdict}
 use Rattle.filling.specs.NextCopy.{new_strips, entered, state_with, layout_after, state_after, stored, rooms_after, Step}

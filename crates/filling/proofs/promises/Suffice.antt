@@ -13,7 +13,6 @@ use Rattle.trapezoid.specs.Strip.{capacity}
 use Rattle.index.specs.Buckets.{standing_capacity}
 use Rattle.job.specs.Jobs.{Job, accepted, read_job}
 use Rattle.filling.specs.declared.State.{State}
-use Rattle.filling.specs.declared.Refusal.TheVariants as Why
 use Rattle.filling.specs.declared.Verdict.TheVariants.{Accepted}
 use Rattle.filling.specs.Refusals.{refuse_if}
 use Rattle.filling.specs.Shapes.{Planner, planner_of, no_shape, shape_of, standing_strips}
