@@ -11,8 +11,11 @@ OPERATIONS = METHODS + "judge strips_by_kind shape_verdict start next_copy next_
 OPERATIONS += "read_tables write_job plan_text judge_text program_text".split()
 EXPORTS = "panel_nest panel_fill panel_layout panel_tables panel_write".split()
 # What the claims speak of beside that: file and definition. The names that the files ..Claims.antt of proofs/ use count too.
-CLAIMED = [("Calls", n) for n in "afterCalls refusals stateOutcome plainAfter".split()] + [("Cases", "starred")]
+CLAIMED = [("Calls", n) for n in "after_calls refusals state_outcome plain_after".split()] + [("Cases", "starred")]
 DECLARES = re.compile(r"(?:unfoldable |abbrev |pub )+(record |data )?(?!mod )(\S+)")
+
+
+CRATES = {p.name for p in (ROOT / "crates").iterdir()}
 
 
 def die(why):
@@ -20,7 +23,8 @@ def die(why):
 
 
 def tokens(text):
-    return set(re.findall(r"\|\||\[\]|[^\s(){}\[\];,|]+", text))
+    found = re.findall(r"\|\||\[\]|[^\s(){}\[\];,|]+", text)
+    return {*found, *(t.split(".")[0] for t in found)}  # `a.f` is a too
 
 
 def is_comment(line):
@@ -45,14 +49,14 @@ class Module:
         self.name = ".".join([self.crate, kind.replace("src", "specs"), *rest])
         self.names, self.aliases, self.definitions, self.section = {}, {}, [], ""
         for module, names, alias in re.findall(r"^(?:ghost )?use ([^\s{;]+?)(?:\.\{([^}]*)\}| as (\w+))?;?$", self.source, re.M):
-            own = module.startswith("Rattle·")
-            module = re.sub(r"^Rattle·(\w+)(?:·(?:specs|proofs))?\.", r"\1.", module) if own else "kit." + module
+            own = module.startswith("Rattle.") and module.split(".")[1] in CRATES
+            module = module.removeprefix("Rattle.") if own else "kit." + module
             self.names |= {n.split(" as ")[-1]: (module, n.split(" as ")[0]) for n in re.split(r",\s*", names) if n}
             self.aliases |= {alias: module} if alias else {}
         self.read_types() if kind == "src" else self.read_definitions()
 
     def read_types(self):
-        for notes, what, name, body in re.findall(r"((?:^//[^\n]*\n)*)^pub (struct|enum) (\w+)\b[^{;]*\{(.*?)^\}", self.source, re.M | re.S):
+        for notes, what, name, body in re.findall(r"((?:^//[^\n]*\n)*)(?:^#\[[^\n]*\n)*^pub (struct|enum) (\w+)\b[^{;]*\{(.*?)^\}", self.source, re.M | re.S):
             fields = " ".join(re.sub(r"//.*", "", body).replace("pub ", "").split()).rstrip(",")
             lines = [l.replace("//", "--", 1) for l in notes.split("\n") if l] + [f"{what} {name} {{ {fields} }}"]
             cases = re.findall(r"(\w+)(?:\([^)]*\))?(?:,|$)", fields) if what == "enum" else []
@@ -86,15 +90,15 @@ def modules(pattern):
 specs, types = modules("*/specs/**/*.antt"), modules("*/src/**/*.rt")
 where = {(m.name, n): d for m in specs.values() for d in m.definitions for n in [d.name, *d.cases]}
 where |= {(f"{m.name}.{d.name}", d.name): d for m in types.values() for d in m.definitions}
-where |= {(f"{m.name}.{d.name}.the-variants", c): d for m in types.values() for d in m.definitions for c in d.cases}
+where |= {(f"{m.name}.{d.name}.TheVariants", c): d for m in types.values() for d in m.definitions for c in d.cases}
 
 
 def found(module, text):
     """What a text in a module names: definitions, and the names (module, name) of proofs/ and the kit."""
     for token in tokens(text) | ({">>=", ">>"} if "do" in tokens(text) else set()):
         alias, _, rest = token.partition(".")
-        keys = [(module.name, token), (module.name, f"_{token}_"), (f"{module.name}.{token}", token)]
-        used = [module.names.get(token), module.names.get(f"_{token}_"), rest and alias in module.aliases and (module.aliases[alias], rest)]
+        keys = [(module.name, token), (module.name, f"◌{token}◌"), (f"{module.name}.{token}", token)]
+        used = [module.names.get(token), module.names.get(f"◌{token}◌"), rest and alias in module.aliases and (module.aliases[alias], rest)]
         key = next((k for k in keys + used if k in where), None) or next(filter(None, used), None)
         if key:
             yield where.get(key, key)
@@ -107,6 +111,7 @@ def contracts(names):
         pattern = rf'^{inner}pub (?:extern "C" )?fn {name}\b.*?(?=\n{inner}\{{)'
         heads = [(m, textwrap.dedent(h)) for m in types.values() for h in re.findall(pattern, m.source, re.M | re.S)]
         heads = [(m, h) for m, h in heads if "ensures" in h and "requires" not in h]
+        heads = list({h: (m, h) for m, h in reversed(heads)}.values())  # a static library states the clauses of its library again
         if len(heads) > 1 or (name in OPERATIONS[:-1] and not heads):
             die(f"{len(heads)} public functions `{name}` with an `ensures` and no `requires`")
         yield from heads

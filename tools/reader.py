@@ -44,14 +44,14 @@ contracts of the public operations and the claims reach, and no other. Words in 
 
 `f : T` gives a name's type, what follows its meaning, case by case (`;` between two in one line). `List ℕ` are bytes, entries or counts,
 `List Float` a room of doubles.
-`a .f` is the field f of a, `a ∷ l` a list with its first element, `l ++ m` one list after another; `elim t [ c ↦ v | .. ]` is the value for the
+`a.f` is the field f of a, `a ∷ l` a list with its first element, `l ++ m` one list after another; `elim t [ c ↦ v | .. ]` is the value for the
 case that t is, `cond t a b` is a where t holds, else b. Lines with `struct` and `enum` are the code's own types; `Why.C` is the case C of a call's
-`Refusal`. A name that two files define is in each of them its own. The names of the last list are the kit's. In a contract `now (x .entry)` is what
-lies in x when the call begins, `now (x .exit)` what it leaves there, and r is its answer."""
+`Refusal`. A name that two files define is in each of them its own. The names of the last list are the kit's. In a contract `x.old` is what
+lies in x when the call begins, `x.new` what it leaves there, `x.now` what lies in an x that is only read, and `result` is its answer."""
 
 
 def wrapped(line, indent="    "):
-    held = re.sub(r" : |: | \.| ⌝ }|now \(|&(mut|'a) \[", lambda m: m[0].replace(" ", "\0"), line)
+    held = re.sub(r" : |: | }$|&(mut|'a) \[", lambda m: m[0].replace(" ", "\0"), line)
     return [l.replace("\0", " ") for l in textwrap.wrap(held, WIDTH, subsequent_indent=indent, break_long_words=False, break_on_hyphens=False)]
 
 

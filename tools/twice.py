@@ -2,7 +2,7 @@
 """twice.py [ROOT]: lists laws that stand twice: statements that are equal up to bound names, in different files.
 
 Looked at are the declarations of every file of crates/*/proofs and crates/*/specs, in `module _` too (after those of its
-parameters that they need); what rattle makes of a function (needs, contracts, invariants) and local functions are not.
+parameters that they need); answers to goals and local functions are not.
 A law that is one of the kit's is listed as well. Exit 1 where one stands twice that is not in ALLOWED."""
 import collections
 import pathlib
@@ -14,7 +14,7 @@ ALLOWED = {}
 # the files that state each claim once more, beside a citation of its proof
 CLAIMS = ["crates/claims/proofs/Claims.antt", "crates/claims/proofs/WriterClaims.antt"]
 
-# borrow.Author.Tests of the kit
+# Rattle.std.proofs.lemmas.Bool of the kit
 KIT = {
     "ltb-true": "(a b : ℕ) → ltb a b ≡ true → a < b",
     "ltb-false": "(a b : ℕ) → ltb a b ≡ false → b ≤ a",
@@ -29,16 +29,17 @@ KIT = {
     "le-leb": "(a b : ℕ) → a ≤ b → leb a b ≡ true",
     "lt-leb": "(a b : ℕ) → b < a → leb a b ≡ false",
     "eq-eqb": "(a b : ℕ) → a ≡ b → eqb a b ≡ true",
-    "ne-eqb": "(a b : ℕ) → (a ≡ b → ⊥) → eqb a b ≡ false",
+    "ne_eqb": "(a b : ℕ) → (a ≡ b → ⊥) → eqb a b ≡ false",
 }
 
 WORDS = r"(?:(?:pub|unfoldable|abbrev) )*"
 DECLARATION = re.compile(r"( *)" + WORDS + r"([^\s:{}()]+)((?: [{(].*?[)}])?) : (.*)")
 MODULE = re.compile(r"( *)module _ (.*) where$")
 NO_LAW = ("record", "data", "use", "module", "where", "let", "λ", "|", "--")
-GENERATED = re.compile(r"Need-|tie\.|statement|\.code|InvT|MeasureT")
+GENERATED = re.compile(r"(^|: )goal\.|Need-|tie\.|statement|\.code|InvT|MeasureT")
 RELATION = re.compile(r"[≡≤<⊎⊥]|Memᴰ|(?:^|[ (])T [(\w]")
-QUALIFIED = re.compile(r"(?<![\w·.])(?:[\w·]+\.)+(?=[\w<≤])")
+ALIAS = re.compile(r"^use \S+ as (\w+)$", re.M)
+QUALIFIED = re.compile(r"(?<![\w.])(\w+)\.(?:\w+\.)*(?=[\w◌<≤])")
 BINDER = re.compile(r"[({]([^(){}:]+?) : ")
 TOKEN = re.compile(r"([\s(){}\[\],.;])")
 
@@ -111,10 +112,15 @@ def parameters_of(modules, text):
     return ["(%s : %s)" % (name, kind) for name, kind in given if name in needed]
 
 
-def canonical(modules, statement):
+def unqualified(text, aliases):
+    """The text, its names without their modules; `a.f` of a bound a stays."""
+    return QUALIFIED.sub(lambda found: "" if found[1] in aliases or found[1][0].isupper() else found[0], text)
+
+
+def canonical(modules, statement, aliases=()):
     """The statement after the parameters that it needs, its bound names numbered, its names without their modules."""
-    text = binders(QUALIFIED.sub("", statement))
-    text = " → ".join(parameters_of([QUALIFIED.sub("", m) for m in modules], text) + [text])
+    text = binders(unqualified(statement, aliases))
+    text = " → ".join(parameters_of([unqualified(m, aliases) for m in modules], text) + [text])
     bound = {}
     for found in re.finditer(r"\(([^\s()]+) : |λ ([^.]+?)\. ", text):
         for name in re.sub(r"[():]", " ", found[1] or found[2]).split():
@@ -126,14 +132,15 @@ def find(root):
     """Where each law stands."""
     places = collections.defaultdict(list)
     for name, statement in KIT.items():
-        places[canonical([], statement)].append("the kit's borrow.Author.Tests: " + name)
+        places[canonical([], statement)].append("the kit's Rattle.std.proofs.lemmas.Bool: " + name)
     for path in sorted(root.glob("crates/*/proofs/**/*.antt")) + sorted(root.glob("crates/*/specs/**/*.antt")):
         if str(path.relative_to(root)) in CLAIMS:
             continue
-        own = {}
-        for line, name, parameters, statement in declarations(path.read_text().split("\n")):
-            if len(statement) > 12 and RELATION.search(statement) and not GENERATED.search(statement):
-                own.setdefault(canonical(parameters, statement), "%s:%d %s" % (path.relative_to(root), line, name))
+        own, text = {}, path.read_text()
+        aliases = set(ALIAS.findall(text))
+        for line, name, parameters, statement in declarations(text.split("\n")):
+            if len(statement) > 11 and RELATION.search(statement) and not GENERATED.search(statement):
+                own.setdefault(canonical(parameters, statement, aliases), "%s:%d %s" % (path.relative_to(root), line, name))
         for law, place in own.items():
             places[law].append(place)
     return places
