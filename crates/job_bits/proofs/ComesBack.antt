@@ -22,7 +22,7 @@ use Rattle.job.specs.Jobs.{Job, accepted, refused, a_job, ended, framed_width, j
 use Rattle.bit_writer.specs.Packed.{number_at, byte_at, bytes_for, packed}
 use Rattle.bit_writer.proofs.Writing.{packed-length}
 use Rattle.job_bits.specs.JobBits.{bytes_of}
-use Rattle.job_bits.specs.Given as goal
+use Rattle.job_bits.specs.Given as given
 use Rattle.job_bits.specs.Given.{sized, given_job}
 use Rattle.job_bits.specs.JobFields.{Field as JobField, field_bits, plus, job_fields}
 use Rattle.job_bits.specs.JobTables.{counts_of, coordinates_of, rows_of, areas_of}
@@ -134,7 +134,7 @@ pub record ComesBack (b : List ℕ) (j : Job) : Type 0 where
       → given_job j.header (rows_of j.kinds ++ rs) (areas_of j.kinds ++ bs) (counts_of j ++ cs) (coordinates_of j ++ xs) ≡ accepted j
 
 pub comes_back : (b : List ℕ) (j : Job) → Bytes b → read_job b ≡ accepted j → ComesBack b j
-unfolding read_job judged given_job goal.judged Takes bytes_of
+unfolding read_job judged given_job given.judged Takes bytes_of
 comes_back b j B e = go (a_job b 0) refl e
   where
     go : (t : Read Job) → a_job b 0 ≡ t → judged b t ≡ accepted j → ComesBack b j
@@ -149,7 +149,7 @@ comes_back b j B e = go (a_job b 0) refl e
           written = ap packed (sym (job-same j) ∙ ap (flat_map field_bits) (sym J.0.plain));
           taken =
               λ rs bs cs xs.
-              ap goal.judged
+              ap given.judged
               (J.1 (rows_of j.kinds ++ rs) (areas_of j.kinds ++ bs) (at_front (rows_of j.kinds) rs) (at_front (areas_of j.kinds) bs)
               (counts_of j ++ cs) (coordinates_of j ++ xs) 0 0 (at_front (counts_of j) cs) (at_front (coordinates_of j) xs)) ∙ s;
         }

@@ -17,7 +17,7 @@ use Rattle.frames.specs.declared.Frame.{Frame}
 use Rattle.frames.specs.Frames.{lower_left}
 use Rattle.job.specs.declared.Header.{Header}
 use Rattle.job.specs.Jobs.{frame_of, a_frame, after_frame, a_header}
-use Rattle.job_bits.specs.Given as goal
+use Rattle.job_bits.specs.Given as given
 use Rattle.job_bits.specs.Given.{version_fits, given_frame, given_version, given_front, given_header}
 use Rattle.job_bits.specs.JobFields.{whole, double_field, version_fields, front_fields, header_fields}
 use Rattle.job_bits.proofs.Coming.{Came, came_none, came_then, came_room, whole_came, double_came, count_came}
@@ -25,17 +25,17 @@ use Rattle.job_bits.proofs.Returning.{Takes, takes_then, takes_give, count_takes
 use Rattle.job_bits.proofs.Headers.{header_with, FrameFits}
 
 -- ---- the header's own numbers are taken by the writer
-versioned_takes : (h : Header) → version_fits h ≡ true → Takes (goal.versioned h) [] [] tt
+versioned_takes : (h : Header) → version_fits h ≡ true → Takes (given.versioned h) [] [] tt
 unfolding Takes
 versioned_takes h e cs xs c x T U =
-    ap (λ (b : Bool). cond b (goal.ok tt c x) (goal.bad UnknownVersion)) e ∙ ap₂ (λ (i j : ℕ). goal.ok tt i j) (sym (add-zero c)) (sym (add-zero x))
+    ap (λ (b : Bool). cond b (given.ok tt c x) (given.bad UnknownVersion)) e ∙ ap₂ (λ (i j : ℕ). given.ok tt i j) (sym (add-zero c)) (sym (add-zero x))
 
 version_takes : (h : Header) → FrameFits h → Takes (given_version h) [] [] tt
 unfolding given_version given_frame
 version_takes h F =
-    takes_then (goal.versioned h) (λ _. goal.◌>>=◌ (goal.fits 2 h.corner) (λ _. goal.fits 1 h.axis)) [] [] [] [] tt tt
+    takes_then (given.versioned h) (λ _. given.◌>>=◌ (given.fits 2 h.corner) (λ _. given.fits 1 h.axis)) [] [] [] [] tt tt
     (versioned_takes h F.version)
-    (takes_then (goal.fits 2 h.corner) (λ _. goal.fits 1 h.axis) [] [] [] [] tt tt (fits_takes 2 h.corner F.corner)
+    (takes_then (given.fits 2 h.corner) (λ _. given.fits 1 h.axis) [] [] [] [] tt tt (fits_takes 2 h.corner F.corner)
     (fits_takes 1 h.axis F.axis))
 
 -- what the reader promises of the fields after the frame
@@ -48,16 +48,16 @@ pub record FrontFits (h : Header) : Type 0 where
 front_takes : (h : Header) → FrontFits h → Takes (given_front h) [] [] h
 unfolding given_front
 front_takes h F =
-    takes_then (goal.count kinds_field h.kinds)
-    (λ k. goal.◌>>=◌ (goal.fits 12 h.rounds) (λ _. goal.◌>>=◌ (goal.fits 64 h.seed)
-    (λ _. goal.◌>>=◌ (goal.number resolution_range h.resolution) (λ r. goal.give (header_with h k r)))))
+    takes_then (given.count kinds_field h.kinds)
+    (λ k. given.◌>>=◌ (given.fits 12 h.rounds) (λ _. given.◌>>=◌ (given.fits 64 h.seed)
+    (λ _. given.◌>>=◌ (given.number resolution_range h.resolution) (λ r. given.give (header_with h k r)))))
     [] [] [] [] h.kinds h (count_takes kinds_field h.kinds F.kinds)
-    (takes_then (goal.fits 12 h.rounds)
-    (λ _. goal.◌>>=◌ (goal.fits 64 h.seed) (λ _. goal.◌>>=◌ (goal.number resolution_range h.resolution) (λ r. goal.give (header_with h h.kinds r))))
+    (takes_then (given.fits 12 h.rounds)
+    (λ _. given.◌>>=◌ (given.fits 64 h.seed) (λ _. given.◌>>=◌ (given.number resolution_range h.resolution) (λ r. given.give (header_with h h.kinds r))))
     [] [] [] [] tt h (fits_takes 12 h.rounds F.rounds)
-    (takes_then (goal.fits 64 h.seed) (λ _. goal.◌>>=◌ (goal.number resolution_range h.resolution) (λ r. goal.give (header_with h h.kinds r)))
+    (takes_then (given.fits 64 h.seed) (λ _. given.◌>>=◌ (given.number resolution_range h.resolution) (λ r. given.give (header_with h h.kinds r)))
     [] [] [] [] tt h (fits_takes 64 h.seed F.seed)
-    (takes_then (goal.number resolution_range h.resolution) (λ r. goal.give (header_with h h.kinds r)) [] [] [] [] h.resolution h
+    (takes_then (given.number resolution_range h.resolution) (λ r. given.give (header_with h h.kinds r)) [] [] [] [] h.resolution h
     (number_takes resolution_range h.resolution F.resolution) (takes_give h))))
 
 header_takes : (h : Header) → FrameFits h → FrontFits h → Takes (given_header h) [] [] h

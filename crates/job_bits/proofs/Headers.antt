@@ -19,7 +19,7 @@ use Rattle.job.specs.declared.Header.{Header}
 use Rattle.job.specs.Jobs.{frame_of, a_frame, after_frame, a_header}
 use Rattle.bit_writer.specs.Packed.{binary}
 use Rattle.job_bits.specs.JobBits.{double_bits, frame_bits, version_bits, front_bits, header_bits}
-use Rattle.job_bits.specs.Given as goal
+use Rattle.job_bits.specs.Given as given
 use Rattle.job_bits.specs.Given.{version_fits, given_frame, given_version, given_front, given_header}
 use Rattle.job_bits.proofs.Takers.{after_ok, ok_value, fits_was, counted_was, counted_ok, measured_was}
 use Rattle.job_bits.proofs.Parts.{Reads, reads_then, reads_skip, reads_give, reads_same, reads_last, bits_reads, count_reads, number_reads}
@@ -35,15 +35,15 @@ pub record FrameFits (g : Header) : Type 0 where
   pub corner : g.corner < 4
   pub axis : g.axis < 2
 
-versioned_was : (b : Bool) (c x : ℕ) (u : Unit {0}) (d y : ℕ) → cond b (goal.ok tt c x) (goal.bad UnknownVersion) ≡ goal.ok u d y → b ≡ true
+versioned_was : (b : Bool) (c x : ℕ) (u : Unit {0}) (d y : ℕ) → cond b (given.ok tt c x) (given.bad UnknownVersion) ≡ given.ok u d y → b ≡ true
 versioned_was true c x u d y e = refl
 versioned_was false c x u d y e = absurd (zero-not-one (cc))
 
-pub version_was : (g : Header) (cs : List ℕ) (xs : List Float) (c x : ℕ) (u : Unit {0}) (d y : ℕ) → given_version g cs xs c x ≡ goal.ok u d y → FrameFits g
+pub version_was : (g : Header) (cs : List ℕ) (xs : List Float) (c x : ℕ) (u : Unit {0}) (d y : ℕ) → given_version g cs xs c x ≡ given.ok u d y → FrameFits g
 unfolding given_version given_frame
 version_was g cs xs c x u d y e =
-    let r₁ = after_ok (cond (version_fits g) (goal.ok tt c x) (goal.bad UnknownVersion)) _ u d y e in
-    let r₂ = after_ok (cond (ltb g.corner 4) (goal.ok tt r₁.1 r₁.2) (goal.bad CountOutOfRange)) _ u d y r₁.4 in
+    let r₁ = after_ok (cond (version_fits g) (given.ok tt c x) (given.bad UnknownVersion)) _ u d y e in
+    let r₂ = after_ok (cond (ltb g.corner 4) (given.ok tt r₁.1 r₁.2) (given.bad CountOutOfRange)) _ u d y r₁.4 in
     record {
       version = versioned_was (version_fits g) c x r₁.0 r₁.1 r₁.2 r₁.3;
       corner = fits_was 4 g.corner _ _ _ _ _ r₂.3;
@@ -60,13 +60,13 @@ pub record TakenFront (g h : Header) : Type 0 where
   pub number : h.kinds ≡ g.kinds
   pub few : h.kinds ≤ 64
 
-pub front_was : (g h : Header) (cs : List ℕ) (xs : List Float) (c x d y : ℕ) → given_front g cs xs c x ≡ goal.ok h d y → TakenFront g h
+pub front_was : (g h : Header) (cs : List ℕ) (xs : List Float) (c x d y : ℕ) → given_front g cs xs c x ≡ given.ok h d y → TakenFront g h
 unfolding given_front
 front_was g h cs xs c x d y e =
-    let r₁ = after_ok (goal.counted (judge_count 1 64 g.kinds) c x) _ h d y e in
-    let r₂ = after_ok (cond (ltb g.rounds 4096) (goal.ok tt r₁.1 r₁.2) (goal.bad CountOutOfRange)) _ h d y r₁.4 in
-    let r₃ = after_ok (cond (ltb g.seed 18446744073709551616) (goal.ok tt r₂.1 r₂.2) (goal.bad CountOutOfRange)) _ h d y r₂.4 in
-    let r₄ = after_ok (goal.decreases (judge_number resolution_range.least resolution_range.most (to_bits binary64 g.resolution)) r₃.1 r₃.2) _ h d y
+    let r₁ = after_ok (given.counted (judge_count 1 64 g.kinds) c x) _ h d y e in
+    let r₂ = after_ok (cond (ltb g.rounds 4096) (given.ok tt r₁.1 r₁.2) (given.bad CountOutOfRange)) _ h d y r₁.4 in
+    let r₃ = after_ok (cond (ltb g.seed 18446744073709551616) (given.ok tt r₂.1 r₂.2) (given.bad CountOutOfRange)) _ h d y r₂.4 in
+    let r₄ = after_ok (given.measured (judge_number resolution_range.least resolution_range.most (to_bits binary64 g.resolution)) r₃.1 r₃.2) _ h d y
     r₃.4 in
     let k = counted_ok 1 64 g.kinds _ _ _ _ _ r₁.3 in
     subst (TakenFront g) (ok_value r₄.4)
@@ -85,7 +85,7 @@ pub record TakenHeader (g h : Header) : Type 0 where
   pub frame : FrameFits g
   pub front : TakenFront g h
 
-pub header_was : (g h : Header) (cs : List ℕ) (xs : List Float) (c x d y : ℕ) → given_header g cs xs c x ≡ goal.ok h d y → TakenHeader g h
+pub header_was : (g h : Header) (cs : List ℕ) (xs : List Float) (c x d y : ℕ) → given_header g cs xs c x ≡ given.ok h d y → TakenHeader g h
 unfolding given_header
 header_was g h cs xs c x d y e =
     let r = after_ok (given_version g cs xs c x) (λ a d y. given_front g cs xs d y) h d y e in
@@ -149,7 +149,7 @@ front_reads g h F =
     (reads_last (number resolution_range) (λ r. give (with k n s r)) (double_bits r) r v
     (number_reads resolution_range (to_bits binary64 g.resolution) r F.resolution) (reads_give v))))
 
-pub header_reads : (g h : Header) (cs : List ℕ) (xs : List Float) (c x d y : ℕ) → given_header g cs xs c x ≡ goal.ok h d y → Reads a_header (header_bits h) h
+pub header_reads : (g h : Header) (cs : List ℕ) (xs : List Float) (c x d y : ℕ) → given_header g cs xs c x ≡ given.ok h d y → Reads a_header (header_bits h) h
 unfolding a_header header_bits version_bits frame_bits
 header_reads g h cs xs c x d y e =
     let T = header_was g h cs xs c x d y e in

@@ -12,7 +12,7 @@ use lib.Ieee.{Float, nan, binary64, to_bits}
 use Rattle.numbers.proofs.Truth.{zero-not-one}
 use Rattle.bits.specs.declared.Refusal.{Refusal}
 use Rattle.bits.specs.declared.Counted.TheVariants.{Count, NoCount}
-use Rattle.bits.specs.Reading.{ok, after, ◌>>=◌, give, bits}
+use Rattle.bits.specs.Reading.{ok, after, bits}
 use Rattle.bits.specs.Fields.{quantity_field, orientations_field, judge_count, count, area_range, judge_number, number}
 use Rattle.bits.proofs.Accepted.{ok_same, after_ok, bits_less, ok_place}
 use Rattle.kinds.specs.sets.Sets.{Set, a_set}
@@ -22,7 +22,7 @@ use Rattle.kinds.specs.Kinds.{head_at}
 use Rattle.job.specs.declared.Header.{Header}
 use Rattle.job.specs.Jobs.{Job, a_header, a_job}
 use Rattle.job_bits.specs.JobBits.{head_of}
-use Rattle.job_bits.specs.Given as goal
+use Rattle.job_bits.specs.Given as given
 use Rattle.job_bits.specs.Given.{Taker, given_set, given_orientation, given_orientations, given_head, given_kind, given_kinds, given_header, given_fields}
 use Rattle.job_bits.proofs.Heads.{Taken-head, head-back}
 use Rattle.job_bits.proofs.HeaderBack.{header-back}
@@ -43,12 +43,12 @@ orientation-back b p o q e =
     let I = set_back b t.1 u.0 u.1 u.2 in
     let w : Orientation = record { apart = t.0; inset = u.0 } in
     subst (λ (z : Orientation). Came b p q (set_fields z.apart ++ set_fields z.inset) × Takes
-    (goal.◌>>=◌ given_set (λ a. goal.◌>>=◌ given_set (λ i. goal.give (record { apart = a; inset = i })))) (set_counts z.apart ++ set_counts z.inset)
+    (given.◌>>=◌ given_set (λ a. given.◌>>=◌ given_set (λ i. given.give (record { apart = a; inset = i })))) (set_counts z.apart ++ set_counts z.inset)
     (z.apart.points ++ z.inset.points) z) (ok_same u.3) (
       subst (λ (k : ℕ). Came b p k (set_fields t.0 ++ set_fields u.0)) (ok_place u.3) (came_then b p t.1 u.1 _ _ A.0 I.0),
-      takes_then given_set (λ a. goal.◌>>=◌ given_set (λ i. goal.give (record { apart = a; inset = i }))) (set_counts t.0) (set_counts u.0) t.0.points
+      takes_then given_set (λ a. given.◌>>=◌ given_set (λ i. given.give (record { apart = a; inset = i }))) (set_counts t.0) (set_counts u.0) t.0.points
           u.0.points t.0 w A.1
-          (takes_last given_set (λ i. goal.give (record { apart = t.0; inset = i })) (set_counts u.0) u.0.points u.0 w I.1 (takes_give w)),
+          (takes_last given_set (λ i. given.give (record { apart = t.0; inset = i })) (set_counts u.0) u.0.points u.0 w I.1 (takes_give w)),
     )
 
 record OrientationsBack (b : List ℕ) (p q n : ℕ) (acc os : List Orientation) : Type 0 where
@@ -67,9 +67,9 @@ orientations_more n acc os b p r q o C T R =
       all = R.all ∙ append_assoc acc (o ∷ []) R.own;
       came = came_then b p r q (orientation_fields o) (flat_map orientation_fields R.own) C R.came;
       takes =
-          takes_then given_orientation (λ o. goal.◌>>=◌ (given_orientations n) (λ os. goal.give (o ∷ os))) (orientation_counts o)
+          takes_then given_orientation (λ o. given.◌>>=◌ (given_orientations n) (λ os. given.give (o ∷ os))) (orientation_counts o)
           (flat_map orientation_counts R.own) (orientation_points o) (flat_map orientation_points R.own) o (o ∷ R.own) T
-          (takes_last (given_orientations n) (λ os. goal.give (o ∷ os)) (flat_map orientation_counts R.own) (flat_map orientation_points R.own) R.own
+          (takes_last (given_orientations n) (λ os. given.give (o ∷ os)) (flat_map orientation_counts R.own) (flat_map orientation_points R.own) R.own
           (o ∷ R.own) R.takes (takes_give (o ∷ R.own)));
       number = ap suc R.number;
     }
@@ -113,17 +113,17 @@ head_takes : (q f r n : ℕ) (a : Float) → judge_count 1 4095 q ≡ Count q �
     (head q f r a n)
 unfolding given_head
 head_takes q f r n a e h i j k =
-    takes_then (goal.count quantity_field q) (λ q'. goal.◌>>=◌ (goal.fits 1 f)
-    (λ u. goal.◌>>=◌ (goal.fits 32 r) (λ v. goal.◌>>=◌ (goal.number area_range a)
-    (λ a'. goal.◌>>=◌ (goal.count orientations_field n) (λ n'. goal.give (head q' f r a' n')))))) [] [] [] [] q (head q f r a n)
+    takes_then (given.count quantity_field q) (λ q'. given.◌>>=◌ (given.fits 1 f)
+    (λ u. given.◌>>=◌ (given.fits 32 r) (λ v. given.◌>>=◌ (given.number area_range a)
+    (λ a'. given.◌>>=◌ (given.count orientations_field n) (λ n'. given.give (head q' f r a' n')))))) [] [] [] [] q (head q f r a n)
     (count_takes quantity_field q e)
-    (takes_then (goal.fits 1 f) (λ u. goal.◌>>=◌ (goal.fits 32 r) (λ v. goal.◌>>=◌ (goal.number area_range a)
-    (λ a'. goal.◌>>=◌ (goal.count orientations_field n) (λ n'. goal.give (head q f r a' n'))))) [] [] [] [] tt (head q f r a n) (fits_takes 1 f h)
-    (takes_then (goal.fits 32 r) (λ v. goal.◌>>=◌ (goal.number area_range a) (λ a'. goal.◌>>=◌ (goal.count orientations_field n)
-    (λ n'. goal.give (head q f r a' n')))) [] [] [] [] tt (head q f r a n) (fits_takes 32 r i)
-    (takes_then (goal.number area_range a) (λ a'. goal.◌>>=◌ (goal.count orientations_field n) (λ n'. goal.give (head q f r a' n'))) [] [] [] [] a
+    (takes_then (given.fits 1 f) (λ u. given.◌>>=◌ (given.fits 32 r) (λ v. given.◌>>=◌ (given.number area_range a)
+    (λ a'. given.◌>>=◌ (given.count orientations_field n) (λ n'. given.give (head q f r a' n'))))) [] [] [] [] tt (head q f r a n) (fits_takes 1 f h)
+    (takes_then (given.fits 32 r) (λ v. given.◌>>=◌ (given.number area_range a) (λ a'. given.◌>>=◌ (given.count orientations_field n)
+    (λ n'. given.give (head q f r a' n')))) [] [] [] [] tt (head q f r a n) (fits_takes 32 r i)
+    (takes_then (given.number area_range a) (λ a'. given.◌>>=◌ (given.count orientations_field n) (λ n'. given.give (head q f r a' n'))) [] [] [] [] a
     (head q f r a n) (number_takes area_range a j)
-    (takes_then (goal.count orientations_field n) (λ n'. goal.give (head q f r a n')) [] [] [] [] n (head q f r a n) (count_takes orientations_field n k)
+    (takes_then (given.count orientations_field n) (λ n'. given.give (head q f r a n')) [] [] [] [] n (head q f r a n) (count_takes orientations_field n k)
     (takes_give (head q f r a n))))))
 
 head_came : (b : List ℕ) (p : ℕ) (h : KindHead) (q : ℕ) → kind_head b p ≡ ok h q → Heads b p q h
@@ -160,17 +160,17 @@ kind-back b p k q e =
     let O = orientations-back t.0.orientations [] b t.1 u.0 u.1 (came_room b p t.1 _ H.0) u.2 in
     let s : head_of (kind_of t.0 O.own) ≡ t.0 = head-back t.0 t.0 O.own H.2 O.number in
     let w : kind_of t.0 O.own ≡ k = ap (kind_of t.0) (sym O.all) ∙ ok_same u.3 in
-    let f : KindHead → Taker Kind = λ h. goal.◌>>=◌ (given_orientations h.orientations) (λ os. goal.give (kind_of h os)) in
-    subst (λ (z : Kind). Came b p q (head_fields (head_of z) ++ flat_map orientation_fields z.orientations) × Takes (goal.◌>>=◌ (given_head (head_of z)) f)
+    let f : KindHead → Taker Kind = λ h. given.◌>>=◌ (given_orientations h.orientations) (λ os. given.give (kind_of h os)) in
+    subst (λ (z : Kind). Came b p q (head_fields (head_of z) ++ flat_map orientation_fields z.orientations) × Takes (given.◌>>=◌ (given_head (head_of z)) f)
     (flat_map orientation_counts z.orientations) (flat_map orientation_points z.orientations) z) w (
       subst⁻¹ (λ (z : KindHead). Came b p q (head_fields z ++ flat_map orientation_fields O.own)) s
           (subst (λ (j : ℕ). Came b p j (head_fields t.0 ++ flat_map orientation_fields O.own)) (ok_place u.3)
           (came_then b p t.1 u.1 _ _ H.0 O.came)),
-      subst⁻¹ (λ (z : KindHead). Takes (goal.◌>>=◌ (given_head z) f) (flat_map orientation_counts O.own) (flat_map orientation_points O.own)
+      subst⁻¹ (λ (z : KindHead). Takes (given.◌>>=◌ (given_head z) f) (flat_map orientation_counts O.own) (flat_map orientation_points O.own)
           (kind_of t.0 O.own)) s
           (takes_then (given_head t.0) f [] (flat_map orientation_counts O.own) [] (flat_map orientation_points O.own) t.0 (kind_of t.0 O.own)
           H.1
-          (takes_last (given_orientations t.0.orientations) (λ os. goal.give (kind_of t.0 os)) (flat_map orientation_counts O.own)
+          (takes_last (given_orientations t.0.orientations) (λ os. given.give (kind_of t.0 os)) (flat_map orientation_counts O.own)
           (flat_map orientation_points O.own) O.own (kind_of t.0 O.own) O.takes (takes_give (kind_of t.0 O.own)))),
     )
 
@@ -223,10 +223,10 @@ kinds_more n acc ks b p r q a C T R =
       came = came_then b p r q (kind_fields a) (flat_map kind_fields R.own) C R.came;
       takes =
           λ rows areas k U.
-          takes_then (given_kind (head_at rows areas k)) (λ a. goal.◌>>=◌ (given_kinds rows areas n (suc k)) (λ ks. goal.give (a ∷ ks))) (kind_counts a)
+          takes_then (given_kind (head_at rows areas k)) (λ a. given.◌>>=◌ (given_kinds rows areas n (suc k)) (λ ks. given.give (a ∷ ks))) (kind_counts a)
           (flat_map kind_counts R.own) (kind_points a) (flat_map kind_points R.own) a (a ∷ R.own)
           (subst⁻¹ (λ (h : KindHead). Takes (given_kind h) (kind_counts a) (kind_points a) a) (head-there rows areas k a R.own U) T)
-          (takes_last (given_kinds rows areas n (suc k)) (λ ks. goal.give (a ∷ ks)) (flat_map kind_counts R.own) (flat_map kind_points R.own) R.own
+          (takes_last (given_kinds rows areas n (suc k)) (λ ks. given.give (a ∷ ks)) (flat_map kind_counts R.own) (flat_map kind_points R.own) R.own
           (a ∷ R.own) (R.takes rows areas (suc k) (tabled-next rows areas k a R.own U)) (takes_give (a ∷ R.own)));
     }
 
@@ -262,11 +262,11 @@ fields_take : (h : Header) (s : Set) (ks : List Kind) (rows : List ℕ) (areas :
     → Takes (given_fields h rows areas) (counts_of (job h s ks)) (coordinates_of (job h s ks)) (job h s ks)
 unfolding given_fields counts_of coordinates_of
 fields_take h s ks rows areas H S K =
-    takes_then (given_header h) (λ h. goal.◌>>=◌ given_set (λ s. goal.◌>>=◌ (given_kinds rows areas h.kinds 0) (λ l. goal.give (job h s l))))
+    takes_then (given_header h) (λ h. given.◌>>=◌ given_set (λ s. given.◌>>=◌ (given_kinds rows areas h.kinds 0) (λ l. given.give (job h s l))))
     [] (set_counts s ++ flat_map kind_counts ks) [] (s.points ++ flat_map kind_points ks) h (job h s ks) H
-    (takes_then given_set (λ s. goal.◌>>=◌ (given_kinds rows areas h.kinds 0) (λ l. goal.give (job h s l))) (set_counts s)
+    (takes_then given_set (λ s. given.◌>>=◌ (given_kinds rows areas h.kinds 0) (λ l. given.give (job h s l))) (set_counts s)
     (flat_map kind_counts ks) s.points (flat_map kind_points ks) s (job h s ks) S
-    (takes_last (given_kinds rows areas h.kinds 0) (λ l. goal.give (job h s l)) (flat_map kind_counts ks) (flat_map kind_points ks) ks (job h s ks)
+    (takes_last (given_kinds rows areas h.kinds 0) (λ l. given.give (job h s l)) (flat_map kind_counts ks) (flat_map kind_points ks) ks (job h s ks)
     K (takes_give (job h s ks))))
 
 pub job_came : (b : List ℕ) (j : Job) (q : ℕ) → a_job b 0 ≡ ok j q → Jobs b 0 q j

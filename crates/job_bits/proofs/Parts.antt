@@ -21,7 +21,7 @@ use Rattle.kinds.specs.sets.Sets.{Set, Points, some_points, a_loop, some_loops, 
 use Rattle.bit_writer.specs.Packed.{binary, packed}
 use Rattle.bit_writer.proofs.Bits.{binary-length}
 use Rattle.job_bits.specs.JobBits.{double_bits, loops_bits, set_bits}
-use Rattle.job_bits.specs.Given as goal
+use Rattle.job_bits.specs.Given as given
 use Rattle.job_bits.specs.Given.{next_coordinate, next_points, next_loops, given_points, given_loops, given_set}
 use Rattle.job_bits.specs.inner.Loops.{loop_bits}
 use Rattle.job_bits.proofs.Takers.{after_ok, ok_value, counted_was, measured_was, loop_bits_lem, points-length, loops_length}
@@ -119,7 +119,7 @@ number_reads r n v e l A p T =
     ap (λ t. after t (λ n q. measured (judge_number r.least r.most n) q)) (bits_reads 64 (to_bits binary64 v) j.1 l A p T)
     ∙ ap (λ (t : Measured). measured t (p + length (binary 64 (to_bits binary64 v)))) j.0
 
-coordinate_reads : (cs : List ℕ) (xs : List Float) (c x : ℕ) (v : Float) (d y : ℕ) → next_coordinate cs xs c x ≡ goal.ok v d y → Reads (number coordinate_range)
+coordinate_reads : (cs : List ℕ) (xs : List Float) (c x : ℕ) (v : Float) (d y : ℕ) → next_coordinate cs xs c x ≡ given.ok v d y → Reads (number coordinate_range)
     (double_bits v) v
 unfolding next_coordinate
 coordinate_reads cs xs c x v d y e = number_reads coordinate_range (to_bits binary64 (get_or xs x nan)) v (measured_was _ c (suc x) v d y e)
@@ -134,18 +134,18 @@ point_reads a b R S =
     (reads_last (number coordinate_range) (λ b. give (record { x = a; y = b })) (double_bits b) b (record { x = a; y = b }) S
     (reads_give (record { x = a; y = b })))
 
-pub points_reads : (n : ℕ) (cs : List ℕ) (xs : List Float) (c x : ℕ) (ps : List Float) (d y : ℕ) → given_points n cs xs c x ≡ goal.ok ps d y →
+pub points_reads : (n : ℕ) (cs : List ℕ) (xs : List Float) (c x : ℕ) (ps : List Float) (d y : ℕ) → given_points n cs xs c x ≡ given.ok ps d y →
     (acc : List Float) → Reads (some_points n acc) (flat_map double_bits ps) (acc ++ ps)
 unfolding given_points some_points flat_map
 points_reads zero cs xs c x ps d y e acc =
     subst (λ (l : List Float). Reads (give acc) (flat_map double_bits l) (acc ++ l)) (ok_value e)
     (subst⁻¹ (λ (l : List Float). Reads (give acc) [] l) (append-nil acc) (reads_give acc))
 points_reads (suc n) cs xs c x ps d y e acc =
-    let p = after_ok (next_coordinate cs xs c x) (λ a c x. goal.after (next_coordinate cs xs c x)
-    (λ b c x. goal.after (given_points n cs xs c x) (λ ps c x. goal.ok (a ∷ b ∷ ps) c x))) ps d y e in
-    let q = after_ok (next_coordinate cs xs p.1 p.2) (λ b c x. goal.after (given_points n cs xs c x) (λ ps c x. goal.ok (p.0 ∷ b ∷ ps) c x)) ps d y
+    let p = after_ok (next_coordinate cs xs c x) (λ a c x. given.after (next_coordinate cs xs c x)
+    (λ b c x. given.after (given_points n cs xs c x) (λ ps c x. given.ok (a ∷ b ∷ ps) c x))) ps d y e in
+    let q = after_ok (next_coordinate cs xs p.1 p.2) (λ b c x. given.after (given_points n cs xs c x) (λ ps c x. given.ok (p.0 ∷ b ∷ ps) c x)) ps d y
     p.4 in
-    let r = after_ok (given_points n cs xs q.1 q.2) (λ ps c x. goal.ok (p.0 ∷ q.0 ∷ ps) c x) ps d y q.4 in
+    let r = after_ok (given_points n cs xs q.1 q.2) (λ ps c x. given.ok (p.0 ∷ q.0 ∷ ps) c x) ps d y q.4 in
     let a = p.0 in
     let b = q.0 in
     let R = point_reads a b (coordinate_reads cs xs c x a _ _ p.3) (coordinate_reads cs xs p.1 p.2 b _ _ q.3) in
@@ -170,7 +170,7 @@ loop_reads before m ps acc R S =
 abbrev set : List Float → List ℕ → Set
 set ps es = record { points = ps; ends = es }
 
-pub loops_reads : (n before : ℕ) (cs : List ℕ) (xs : List Float) (c x : ℕ) (s : Set) (d y : ℕ) → given_loops n before cs xs c x ≡ goal.ok s d y →
+pub loops_reads : (n before : ℕ) (cs : List ℕ) (xs : List Float) (c x : ℕ) (s : Set) (d y : ℕ) → given_loops n before cs xs c x ≡ given.ok s d y →
     (acc : List Float) (es : List ℕ) → Reads (some_loops n before acc es) (loop_bits before s) (set (acc ++ s.points) (es ++ s.ends))
 unfolding given_loops next_points some_loops loops_bits
 loops_reads zero before cs xs c x s d y e acc es =
@@ -178,12 +178,12 @@ loops_reads zero before cs xs c x s d y e acc es =
     (subst⁻¹ (λ (l : List Float). Reads (give (set acc es)) [] (set l (es ++ []))) (append-nil acc)
     (subst⁻¹ (λ (l : List ℕ). Reads (give (set acc es)) [] (set acc l)) (append-nil es) (reads_give (set acc es))))
 loops_reads (suc n) before cs xs c x s d y e acc es =
-    let p = after_ok (goal.counted (judge_points before (get_or cs c 0)) (suc c) x)
-    (λ p c x. goal.after (given_points p cs xs c x) (λ ps c x. goal.after (given_loops n (before + p) cs xs c x)
-    (λ s c x. goal.ok (record { points = ps ++ s.points; ends = (before + p) ∷ s.ends }) c x))) s d y e in
-    let q = after_ok (given_points p.0 cs xs p.1 p.2) (λ ps c x. goal.after (given_loops n (before + p.0) cs xs c x)
-    (λ s c x. goal.ok (record { points = ps ++ s.points; ends = (before + p.0) ∷ s.ends }) c x)) s d y p.4 in
-    let r = after_ok (given_loops n (before + p.0) cs xs q.1 q.2) (λ s c x. goal.ok
+    let p = after_ok (given.counted (judge_points before (get_or cs c 0)) (suc c) x)
+    (λ p c x. given.after (given_points p cs xs c x) (λ ps c x. given.after (given_loops n (before + p) cs xs c x)
+    (λ s c x. given.ok (record { points = ps ++ s.points; ends = (before + p) ∷ s.ends }) c x))) s d y e in
+    let q = after_ok (given_points p.0 cs xs p.1 p.2) (λ ps c x. given.after (given_loops n (before + p.0) cs xs c x)
+    (λ s c x. given.ok (record { points = ps ++ s.points; ends = (before + p.0) ∷ s.ends }) c x)) s d y p.4 in
+    let r = after_ok (given_loops n (before + p.0) cs xs q.1 q.2) (λ s c x. given.ok
     (record { points = q.0 ++ s.points; ends = (before + p.0) ∷ s.ends }) c x) s d y q.4 in
     let m = p.0 in
     let ps = q.0 in
@@ -204,10 +204,10 @@ loops_reads (suc n) before cs xs c x s d y e acc es =
     (set ((acc ++ ps) ++ t.points) ((es ++ ((before + m) ∷ [])) ++ t.ends)) R S))))
 
 -- ---- sets
-pub set_reads : (cs : List ℕ) (xs : List Float) (c x : ℕ) (s : Set) (d y : ℕ) → given_set cs xs c x ≡ goal.ok s d y → Reads a_set (set_bits s) s
+pub set_reads : (cs : List ℕ) (xs : List Float) (c x : ℕ) (s : Set) (d y : ℕ) → given_set cs xs c x ≡ given.ok s d y → Reads a_set (set_bits s) s
 unfolding given_set next_loops a_set set_bits
 set_reads cs xs c x s d y e =
-    let p = after_ok (goal.counted (judge_count 1 64 (get_or cs c 0)) (suc c) x) (λ n c x. given_loops n 0 cs xs c x) s d y e in
+    let p = after_ok (given.counted (judge_count 1 64 (get_or cs c 0)) (suc c) x) (λ n c x. given_loops n 0 cs xs c x) s d y e in
     let n = p.0 in
     reads_same (count loops_field >>= (λ n. some_loops n 0 [] [])) (binary 7 n ++ loop_bits 0 s) _ s
     (ap (λ (k : ℕ). binary 7 k ++ loop_bits 0 s) (sym (loops_length n 0 cs xs p.1 p.2 s d y p.4)))

@@ -15,11 +15,11 @@ use Rattle.bits.specs.declared.Counted.{Counted}
 use Rattle.bits.specs.declared.Counted.TheVariants.{Count}
 use Rattle.bits.specs.declared.Measured.{Measured}
 use Rattle.bits.specs.declared.Measured.TheVariants.{Value}
-use Rattle.bits.specs.Reading.{ok, bad, after, ◌>>=◌, give}
+use Rattle.bits.specs.Reading.{ok, after}
 use Rattle.bits.specs.Fields.{Field, loops_field, judge_count, judge_points, count, point_count, Range, coordinate_range, judge_number, number, Spot, point}
 use Rattle.bits.proofs.Accepted.{ok_same, after_ok, ok_place}
 use Rattle.kinds.specs.sets.Sets.{Set, Points, some_points, a_loop, some_loops, a_set}
-use Rattle.job_bits.specs.Given as goal
+use Rattle.job_bits.specs.Given as given
 use Rattle.job_bits.specs.Given.{Taker, next_coordinate, next_points, next_loops, given_points, given_loops, given_set}
 use Rattle.job_bits.specs.JobFields.{Field as JobField, whole, double_field, loops_fields, set_fields}
 use Rattle.job_bits.specs.JobTables.{loop_counts, set_counts}
@@ -29,66 +29,66 @@ use Rattle.job_bits.proofs.Coming.{Came, came_none, came_then, came_same, came_r
 -- ---- takers of tables
 -- wherever these counts and coordinates stand, t takes a there, and stops behind them
 unfoldable pub Takes : {A : Type 0} → Taker A → List ℕ → List Float → A → Type 0
-Takes t C X a = (cs : List ℕ) (xs : List Float) (c x : ℕ) → At cs c C → At xs x X → t cs xs c x ≡ goal.ok a (c + length C) (x + length X)
+Takes t C X a = (cs : List ℕ) (xs : List Float) (c x : ℕ) → At cs c C → At xs x X → t cs xs c x ≡ given.ok a (c + length C) (x + length X)
 
 two_ends : (p a b c : ℕ) → c ≡ a + b → p + a + b ≡ p + c
 two_ends p a b c e = omega arith
 
 pub takes_then : {A B : Type 0} (m : Taker A) (f : A → Taker B) (C D : List ℕ) (X Y : List Float) (a : A) (b : B) → Takes m C X a → Takes (f a) D Y b → Takes
-    (goal.◌>>=◌ m f) (C ++ D) (X ++ Y) b
-unfolding Takes goal.after
+    (given.◌>>=◌ m f) (C ++ D) (X ++ Y) b
+unfolding Takes given.after
 takes_then m f C D X Y a b M F cs xs c x T U =
-    ap (λ r. goal.after r (λ a d y. f a cs xs d y)) (M cs xs c x (at_first cs c C D T) (at_first xs x X Y U))
+    ap (λ r. given.after r (λ a d y. f a cs xs d y)) (M cs xs c x (at_first cs c C D T) (at_first xs x X Y U))
     ∙ F cs xs (c + length C) (x + length X) (at_second cs c (length C) C D refl T) (at_second xs x (length X) X Y refl U)
-    ∙ ap₂ (λ (i j : ℕ). goal.ok b i j) (two_ends c (length C) (length D) (length (C ++ D)) (length-append C D))
+    ∙ ap₂ (λ (i j : ℕ). given.ok b i j) (two_ends c (length C) (length D) (length (C ++ D)) (length-append C D))
     (two_ends x (length X) (length Y) (length (X ++ Y)) (length-append X Y))
 
-pub takes_give : {A : Type 0} (a : A) → Takes (goal.give a) [] [] a
+pub takes_give : {A : Type 0} (a : A) → Takes (given.give a) [] [] a
 unfolding Takes
-takes_give a cs xs c x T U = ap₂ (λ (i j : ℕ). goal.ok a i j) (sym (add-zero c)) (sym (add-zero x))
+takes_give a cs xs c x T U = ap₂ (λ (i j : ℕ). given.ok a i j) (sym (add-zero c)) (sym (add-zero x))
 
 pub takes_same : {A : Type 0} (t : Taker A) (C D : List ℕ) (X Y : List Float) (a : A) → C ≡ D → X ≡ Y → Takes t C X a → Takes t D Y a
 takes_same t C D X Y a e f R = subst (λ (z : List Float). Takes t D z a) f (subst (λ (z : List ℕ). Takes t z X a) e R)
 
 pub takes_last : {A B : Type 0} (m : Taker A) (f : A → Taker B) (C : List ℕ) (X : List Float) (a : A) (b : B) → Takes m C X a → Takes (f a) [] [] b → Takes
-    (goal.◌>>=◌ m f) C X b
-takes_last m f C X a b M F = takes_same (goal.◌>>=◌ m f) (C ++ []) C (X ++ []) X b (append-nil C) (append-nil X) (takes_then m f C [] X [] a b M F)
+    (given.◌>>=◌ m f) C X b
+takes_last m f C X a b M F = takes_same (given.◌>>=◌ m f) (C ++ []) C (X ++ []) X b (append-nil C) (append-nil X) (takes_then m f C [] X [] a b M F)
 
 -- a number that is in no table
-pub count_takes : (f : Field) (n : ℕ) → judge_count f.least f.most n ≡ Count n → Takes (goal.count f n) [] [] n
+pub count_takes : (f : Field) (n : ℕ) → judge_count f.least f.most n ≡ Count n → Takes (given.count f n) [] [] n
 unfolding Takes
-count_takes f n e cs xs c x T U = ap (λ (t : Counted). goal.counted t c x) e ∙ ap₂ (λ (i j : ℕ). goal.ok n i j) (sym (add-zero c)) (sym (add-zero x))
+count_takes f n e cs xs c x T U = ap (λ (t : Counted). given.counted t c x) e ∙ ap₂ (λ (i j : ℕ). given.ok n i j) (sym (add-zero c)) (sym (add-zero x))
 
-pub fits_takes : (w n : ℕ) → n < 2 ^ w → Takes (goal.fits w n) [] [] tt
+pub fits_takes : (w n : ℕ) → n < 2 ^ w → Takes (given.fits w n) [] [] tt
 unfolding Takes
-fits_takes w n h cs xs c x T U = ap (λ (b : Bool). cond b (goal.ok tt c x) (goal.bad CountOutOfRange)) (lt-ltb n (2 ^ w) h) ∙ ap₂
-    (λ (i j : ℕ). goal.ok tt i j) (sym (add-zero c)) (sym (add-zero x))
+fits_takes w n h cs xs c x T U = ap (λ (b : Bool). cond b (given.ok tt c x) (given.bad CountOutOfRange)) (lt-ltb n (2 ^ w) h) ∙ ap₂
+    (λ (i j : ℕ). given.ok tt i j) (sym (add-zero c)) (sym (add-zero x))
 
-pub number_takes : (r : Range) (v : Float) → judge_number r.least r.most (to_bits binary64 v) ≡ Value v → Takes (goal.number r v) [] [] v
+pub number_takes : (r : Range) (v : Float) → judge_number r.least r.most (to_bits binary64 v) ≡ Value v → Takes (given.number r v) [] [] v
 unfolding Takes
-number_takes r v e cs xs c x T U = ap (λ (t : Measured). goal.decreases t c x) e ∙ ap₂ (λ (i j : ℕ). goal.ok v i j) (sym (add-zero c)) (sym (add-zero x))
+number_takes r v e cs xs c x T U = ap (λ (t : Measured). given.measured t c x) e ∙ ap₂ (λ (i j : ℕ). given.ok v i j) (sym (add-zero c)) (sym (add-zero x))
 
 -- the next of a table
 loops_next : (n : ℕ) → judge_count 1 64 n ≡ Count n → Takes next_loops (n ∷ []) [] n
 unfolding Takes next_loops
 loops_next n e cs xs c x T U =
-    ap (λ (k : ℕ). goal.counted (judge_count 1 64 k) (suc c) x) (at_head cs c n 0 [] T)
-    ∙ ap (λ (t : Counted). goal.counted t (suc c) x) e
-    ∙ ap₂ (λ (i j : ℕ). goal.ok n i j) (sym (add-one c)) (sym (add-zero x))
+    ap (λ (k : ℕ). given.counted (judge_count 1 64 k) (suc c) x) (at_head cs c n 0 [] T)
+    ∙ ap (λ (t : Counted). given.counted t (suc c) x) e
+    ∙ ap₂ (λ (i j : ℕ). given.ok n i j) (sym (add-one c)) (sym (add-zero x))
 
 points-next : (before n : ℕ) → judge_points before n ≡ Count n → Takes (next_points before) (n ∷ []) [] n
 unfolding Takes next_points
 points-next before n e cs xs c x T U =
-    ap (λ (k : ℕ). goal.counted (judge_points before k) (suc c) x) (at_head cs c n 0 [] T)
-    ∙ ap (λ (t : Counted). goal.counted t (suc c) x) e
-    ∙ ap₂ (λ (i j : ℕ). goal.ok n i j) (sym (add-one c)) (sym (add-zero x))
+    ap (λ (k : ℕ). given.counted (judge_points before k) (suc c) x) (at_head cs c n 0 [] T)
+    ∙ ap (λ (t : Counted). given.counted t (suc c) x) e
+    ∙ ap₂ (λ (i j : ℕ). given.ok n i j) (sym (add-one c)) (sym (add-zero x))
 
 coordinate_next : (v : Float) → judge_number coordinate_range.least coordinate_range.most (to_bits binary64 v) ≡ Value v → Takes next_coordinate [] (v ∷ []) v
 unfolding Takes next_coordinate
 coordinate_next v e cs xs c x T U =
-    ap (λ (y : Float). goal.decreases (judge_number coordinate_range.least coordinate_range.most (to_bits binary64 y)) c (suc x)) (at_head xs x v nan [] U)
-    ∙ ap (λ (t : Measured). goal.decreases t c (suc x)) e
-    ∙ ap₂ (λ (i j : ℕ). goal.ok v i j) (sym (add-zero c)) (sym (add-one x))
+    ap (λ (y : Float). given.measured (judge_number coordinate_range.least coordinate_range.most (to_bits binary64 y)) c (suc x)) (at_head xs x v nan [] U)
+    ∙ ap (λ (t : Measured). given.measured t c (suc x)) e
+    ∙ ap₂ (λ (i j : ℕ). given.ok v i j) (sym (add-zero c)) (sym (add-one x))
 
 -- ---- points
 point_came : (b : List ℕ) (p : ℕ) (s : Spot) (q : ℕ) → point b p ≡ ok s q → Came b p q (double_field s.x ∷ double_field s.y ∷ []) ×
@@ -141,11 +141,11 @@ points-back (suc n) acc b p ys q h e =
       all = R.all ∙ append_assoc acc (s.x ∷ s.y ∷ []) R.points;
       came = came_then b p t.1 q (double_field s.x ∷ double_field s.y ∷ []) (map double_field R.points) P.0 R.came;
       takes =
-          takes_then next_coordinate (λ a. goal.◌>>=◌ next_coordinate (λ c. goal.◌>>=◌ (given_points n) (λ ps. goal.give (a ∷ c ∷ ps)))) [] [] (s.x ∷ [])
+          takes_then next_coordinate (λ a. given.◌>>=◌ next_coordinate (λ c. given.◌>>=◌ (given_points n) (λ ps. given.give (a ∷ c ∷ ps)))) [] [] (s.x ∷ [])
           (s.y ∷ R.points) s.x (s.x ∷ s.y ∷ R.points) (coordinate_next s.x P.1)
-          (takes_then next_coordinate (λ c. goal.◌>>=◌ (given_points n) (λ ps. goal.give (s.x ∷ c ∷ ps))) [] [] (s.y ∷ []) R.points s.y
+          (takes_then next_coordinate (λ c. given.◌>>=◌ (given_points n) (λ ps. given.give (s.x ∷ c ∷ ps))) [] [] (s.y ∷ []) R.points s.y
           (s.x ∷ s.y ∷ R.points) (coordinate_next s.y P.2)
-          (takes_last (given_points n) (λ ps. goal.give (s.x ∷ s.y ∷ ps)) [] R.points R.points (s.x ∷ s.y ∷ R.points) R.takes
+          (takes_last (given_points n) (λ ps. given.give (s.x ∷ s.y ∷ ps)) [] R.points R.points (s.x ∷ s.y ∷ R.points) R.takes
           (takes_give (s.x ∷ s.y ∷ R.points))));
       long = z (length R.points) n R.long;
     }
@@ -210,12 +210,12 @@ unfolding given_loops loop_counts
 loops_take n before m ps t e P S =
     let own = set (ps ++ t.points) ((before + m) ∷ t.ends) in
     takes_same _ _ _ _ _ own (ap (λ (k : ℕ). k ∷ loop_counts (before + m) t.ends) (z before m)) refl
-    (takes_then (next_points before) (λ m. goal.◌>>=◌ (given_points m) (λ ps. goal.◌>>=◌ (given_loops n (before + m))
-    (λ s. goal.give (set (ps ++ s.points) ((before + m) ∷ s.ends))))) (m ∷ []) (loop_counts (before + m) t.ends) [] (ps ++ t.points) m own
+    (takes_then (next_points before) (λ m. given.◌>>=◌ (given_points m) (λ ps. given.◌>>=◌ (given_loops n (before + m))
+    (λ s. given.give (set (ps ++ s.points) ((before + m) ∷ s.ends))))) (m ∷ []) (loop_counts (before + m) t.ends) [] (ps ++ t.points) m own
     (points-next before m e)
-    (takes_then (given_points m) (λ ps. goal.◌>>=◌ (given_loops n (before + m)) (λ s. goal.give (set (ps ++ s.points) ((before + m) ∷ s.ends)))) []
+    (takes_then (given_points m) (λ ps. given.◌>>=◌ (given_loops n (before + m)) (λ s. given.give (set (ps ++ s.points) ((before + m) ∷ s.ends)))) []
     (loop_counts (before + m) t.ends) ps t.points ps own P
-    (takes_last (given_loops n (before + m)) (λ s. goal.give (set (ps ++ s.points) ((before + m) ∷ s.ends))) (loop_counts (before + m) t.ends) t.points t
+    (takes_last (given_loops n (before + m)) (λ s. given.give (set (ps ++ s.points) ((before + m) ∷ s.ends))) (loop_counts (before + m) t.ends) t.points t
     own S (takes_give own))))
   where
     z : (before m : ℕ) → m ≡ before + m - before

@@ -13,7 +13,7 @@ use Rattle.numbers.proofs.Truth.{zero-not-one}
 use Rattle.numbers.specs.Numbers.{◌⊘◌, from_int}
 use Rattle.bits.specs.declared.Refusal.TheVariants.{TooManyCopies, TooManyColumns}
 use Rattle.bits.specs.Bits.{field_at}
-use Rattle.bits.specs.Reading.{ok, bad}
+use Rattle.bits.specs.Reading.{ok}
 use Rattle.job.specs.declared.Header.{Header}
 use Rattle.kinds.specs.sets.Sets.{Set}
 use Rattle.kinds.specs.Kinds.{Orientation, Kind}
@@ -22,7 +22,7 @@ use Rattle.bit_writer.specs.Packed.{binary, packed}
 use Rattle.bit_writer.proofs.Bits.{number_past}
 use Rattle.bit_writer.proofs.Writing.{packed-length}
 use Rattle.job_bits.specs.JobBits.{double_bits, frame_bits, version_bits, front_bits, header_bits, loops_bits, set_bits, orientation_bits, head_bits, head_of, kind_bits, job_bits, bytes_of}
-use Rattle.job_bits.specs.Given as goal
+use Rattle.job_bits.specs.Given as given
 use Rattle.job_bits.specs.Given.{given_fields, sized, given_job}
 use Rattle.job_bits.proofs.Reading.{AllBits, binary-bits, append_bits, none-bits, packed-field, at_all}
 use Rattle.job_bits.proofs.Parts.{Reads}
@@ -118,16 +118,16 @@ unfolding judged judge_end
 judged-accepted bytes p j e f g = rw (e, f, g)
 
 pub fields_of : (g : Header) (rows : List ℕ) (areas : List Float) (cs : List ℕ) (xs : List Float) (j : Job) → given_job g rows areas cs xs ≡ accepted j → (d : ℕ) ×
-    (y : ℕ) × (given_fields g rows areas cs xs 0 0 ≡ goal.ok j d y) × (sized j ≡ accepted j)
-unfolding given_job goal.judged
+    (y : ℕ) × (given_fields g rows areas cs xs 0 0 ≡ given.ok j d y) × (sized j ≡ accepted j)
+unfolding given_job given.judged
 fields_of g rows areas cs xs j e = go (given_fields g rows areas cs xs 0 0) refl e
   where
-    go : (t : goal.Taken Job) → given_fields g rows areas cs xs 0 0 ≡ t → goal.judged t ≡ accepted j → (d : ℕ) × (y : ℕ) ×
-        (given_fields g rows areas cs xs 0 0 ≡ goal.ok j d y) × (sized j ≡ accepted j)
-    go (goal.ok k d y) f e =
+    go : (t : given.Taken Job) → given_fields g rows areas cs xs 0 0 ≡ t → given.judged t ≡ accepted j → (d : ℕ) × (y : ℕ) ×
+        (given_fields g rows areas cs xs 0 0 ≡ given.ok j d y) × (sized j ≡ accepted j)
+    go (given.ok k d y) f e =
         let s = (sized-parts k j e).2 in
-        (d, y, f ∙ ap (λ (z : Job). goal.ok z d y) s, ap sized (sym s) ∙ e)
-    go (goal.bad k) f e = absurd (zero-not-one (cc))
+        (d, y, f ∙ ap (λ (z : Job). given.ok z d y) s, ap sized (sym s) ∙ e)
+    go (given.bad k) f e = absurd (zero-not-one (cc))
 
 -- "What it writes reads as the job it was given"
 pub written_reads : (g : Header) (rows : List ℕ) (areas : List Float) (cs : List ℕ) (xs : List Float) (j : Job) → given_job g rows areas cs xs ≡ accepted j →
