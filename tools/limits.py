@@ -21,7 +21,7 @@ def functions(lines):
             end = at
             while end < len(lines) and lines[end] != found[1] + "}":
                 end += 1
-            body = next((i for i in range(at, end) if lines[i].endswith("{") and not re.search(r"(requires|ensures) \{$", lines[i])), at)
+            body = next((i for i in range(at, end) if lines[i].endswith("{") and not re.search(r"(requires|ensures)\*?( \w+)? \{$", lines[i])), at)
             yield found[4], bool(found[2]), at, end - body - 1, end, "\n".join(lines[at:body])
             at = end
         at += 1

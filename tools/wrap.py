@@ -17,7 +17,7 @@ BEFORE = {"×": 50, "→": 50, "||": 35, "&&": 30, "≡": 15, "≤": 5, "<": 5, 
 DEEP = 40  # for each bracket around it
 HEAD = 40  # between a function and its first argument
 FIELDS = 1000  # in a record: fmt then gives each field a line
-OPEN, SHUT = "([{⌜", ")]}⌝"
+OPEN, SHUT = "([{", ")]}"
 ENDS = re.compile(r"[)»\w]$")  # what an argument ends with
 
 
@@ -36,10 +36,10 @@ def places(line, around):
     for at, c in enumerate(line[: WIDTH + 1]):
         step(opened, c)
         records = max(1, min(records, opened.count("{")))
-        if c != " " or not line[:at].strip() or "⌜" not in opened:
+        if c != " " or not line[:at].strip() or "{" not in opened:
             continue
         before, last, after = (["", *line[:at].split()])[-2:] + [line[at:].split()[0]]
-        deep = DEEP * (len(opened) - opened.index("⌜") - 1)
+        deep = DEEP * (len(opened) - opened.index("{") - 1)
         if opened.count("{") > records:
             if last == "{" and opened.count("{") == records + 1:
                 yield at - FIELDS, at
@@ -73,7 +73,7 @@ def wrapped(text):
     """A file's text with one more break in each contract line and `ghost use` line that is too long."""
     lines, opened = text.split("\n"), []
     for i, line in enumerate(lines):
-        if opened or re.match(r"\s*(requires|ensures) \{", line):
+        if opened or re.match(r"\s*(requires|ensures)\*?( \w+)? \{", line):
             lines[i] = broken(line, opened)
             for c in line:
                 step(opened, c)
@@ -99,17 +99,17 @@ def lost_edits():
 
 
 def main():
-    again = True
+    again = {True}
     while again:
-        again = False
+        again = set()
         for path in (ROOT / "crates").glob("*/src/**/*.rt"):
             text = path.read_text()
             new = wrapped(text)
             if new != text:
                 path.write_text(new)
-                again = True
-        if again:
-            subprocess.run(["rt", "fmt"], cwd=ROOT, check=True)
+                again.add(ROOT / "crates" / path.relative_to(ROOT / "crates").parts[0])
+        for crate in sorted(again):
+            subprocess.run(["rt", "fmt"], cwd=crate, check=True)
     for folder, note, suffix in [("src", "//", "rt"), ("specs", "--", "antt"), ("proofs", "--", "antt")]:
         texts = [p.read_text() for p in (ROOT / "crates").glob(f"*/{folder}/**/*.{suffix}")]
         long = [l for t in texts for l in t.split("\n") if len(l) > WIDTH]
