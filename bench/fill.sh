@@ -1,7 +1,7 @@
 #!/usr/bin/env bash
 # fill.sh [JOBS [SEED [RUNS]]]: times whole fillings beside the lifted `fill` on large jobs (22 of seed 1,
 # 10 runs each unless said; four of them have combs). Needs oracle/build.sh and
-# `rt staticlib plan_exports` to have run. FRAME='CORNER AXIS' takes jobs of
+# `tools/build.sh plan_exports` to have run. FRAME='CORNER AXIS' takes jobs of
 # version 2 that are the same in that frame.
 set -eu
 here=$(cd "$(dirname "${BASH_SOURCE[0]}")" && pwd)

@@ -1,5 +1,5 @@
 #!/usr/bin/env bash
-# jobs.sh: times the proved reader of jobs beside the oracle's. Needs `rt staticlib bench_exports` to have run.
+# jobs.sh: times the proved reader of jobs beside the oracle's. Needs `tools/build.sh bench_exports` to have run.
 set -eu
 here=$(cd "$(dirname "${BASH_SOURCE[0]}")" && pwd)
 mkdir -p "$here/build"

@@ -1,6 +1,6 @@
 #!/usr/bin/env bash
 # layout.sh [JOBS [SEED [RUNS]]]: times `judge_layout` on the plans of large jobs, in filling order, beside the filling that
-# makes them (16 jobs of seed 1, 10 runs each unless said). Needs oracle/build.sh and `rt staticlib plan_exports` to have run.
+# makes them (16 jobs of seed 1, 10 runs each unless said). Needs oracle/build.sh and `tools/build.sh plan_exports` to have run.
 # FRAME='CORNER AXIS' takes jobs of version 2 that are the same in that frame.
 set -eu
 here=$(cd "$(dirname "${BASH_SOURCE[0]}")" && pwd)

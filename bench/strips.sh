@@ -1,6 +1,6 @@
 #!/usr/bin/env bash
 # strips.sh: times the proved trapezoids beside the lifted one. Needs oracle/build.sh and
-# `rt staticlib bench_exports` to have run.
+# `tools/build.sh bench_exports` to have run.
 set -eu
 here=$(cd "$(dirname "${BASH_SOURCE[0]}")" && pwd)
 mkdir -p "$here/build"

@@ -1,6 +1,6 @@
 #!/usr/bin/env bash
 # write.sh: times writing jobs from their tables, beside reading them into tables and beside the oracle's reader. Needs
-# `rt staticlib job_exports` to have run.
+# `tools/build.sh job_exports` to have run.
 set -eu
 here=$(cd "$(dirname "${BASH_SOURCE[0]}")" && pwd)
 mkdir -p "$here/build"

@@ -9,7 +9,7 @@ fi
 program() {
     test=$(realpath -m "${TEST:-$here/../target/bin/$1}")
     if [ ! -x "$test" ]; then
-        echo "no program $test: run rt check $1" >&2
+        echo "no program $test: run tools/build.sh $1" >&2
         exit 1
     fi
 }

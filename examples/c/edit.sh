@@ -1,7 +1,7 @@
 #!/usr/bin/env bash
 # edit.sh: links edit.c with the proved code (include/panel.h); each accepted example must come back byte for byte where its first
-# kind's quantity is set to what it is, and case 4 with another quantity must be planned with it. Needs `rt staticlib job_exports`,
-# `rt check plan`, python3 and a C compiler. The last line is 'N jobs, D differ'.
+# kind's quantity is set to what it is, and case 4 with another quantity must be planned with it. Needs `tools/build.sh job_exports`,
+# `tools/build.sh plan`, python3 and a C compiler. The last line is 'N jobs, D differ'.
 set -eu
 here=$(cd "$(dirname "${BASH_SOURCE[0]}")" && pwd)
 root=$here/../..

@@ -1,7 +1,7 @@
 #!/usr/bin/env bash
 # panel.sh [JOB..]: links panel.c with the proved code (include/panel.h) and compares what it prints with
-# what `plan` prints, on the example jobs or the named ones. Needs `rt staticlib plan_exports` and
-# `rt check plan` to have run, and a C compiler. The last line is 'N jobs, D differ'.
+# what `plan` prints, on the example jobs or the named ones. Needs `tools/build.sh plan_exports` and
+# `tools/build.sh plan` to have run, and a C compiler. The last line is 'N jobs, D differ'.
 set -eu
 here=$(cd "$(dirname "${BASH_SOURCE[0]}")" && pwd)
 root=$here/../..

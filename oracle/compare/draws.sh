@@ -5,6 +5,6 @@ set -eu
 . "$(dirname "${BASH_SOURCE[0]}")/../needs.sh"
 [ $# = 2 ] || usage
 cd "$here/.."
-rt staticlib bench_exports >oracle/build/staticlib.log 2>&1 || { tail -5 oracle/build/staticlib.log >&2; exit 1; }
+tools/build.sh bench_exports >oracle/build/staticlib.log 2>&1 || { tail -5 oracle/build/staticlib.log >&2; exit 1; }
 rustc -O --edition 2021 -o oracle/build/draws oracle/rust/draws.rs -L native=target/staticlib -l static=bench_exports
 exec oracle/build/draws "$1" "$2"

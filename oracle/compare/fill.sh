@@ -1,6 +1,6 @@
 #!/usr/bin/env bash
 # fill.sh N SEED: fillings of N random jobs in random orders, the proved `fill` (the program
-# filling_test, built by `rt check filling_test`) beside the lifted `Planner::fill`: positions, right,
+# filling_test, built by `tools/build.sh filling_test`) beside the lifted `Planner::fill`: positions, right,
 # unplaced area, look counts, refusals and every room. TEST=path names another program. The last line
 # is 'N jobs, D mismatches'; exits 1 if D is not 0. Jobs that differ stay in build/compare/fill.
 # fill.sh --calls N SEED: N random scripts of next copies, withdrawals and stacks in the same way, beside the

@@ -6,7 +6,7 @@
 set -eu
 . "$(dirname "${BASH_SOURCE[0]}")/../needs.sh"
 case ${1:-} in time | sample) ;; *) [ $# = 2 ] || usage ;; esac
-(cd "$here/.." && ${RT:-rt} staticlib bench_exports) >&2
+"$here/../tools/build.sh" bench_exports >&2
 pieces() {
     awk -v want="^($1)\$" -f "$here/lift/pieces.awk" "$here/build/lifted.rs"
 }

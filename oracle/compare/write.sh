@@ -1,7 +1,7 @@
 #!/usr/bin/env bash
 # write.sh N SEED: N random jobs, two in three as tables, as they are, edited and damaged, the others as bytes that are read into
 # tables and written again, in output rooms of drawn lengths: the proved `write_job` and `read_tables` (the program
-# write_test, built by `rt check write_test`) beside both writers of the oracle, in Python and in Rust. Compared are number,
+# write_test, built by `tools/build.sh write_test`) beside both writers of the oracle, in Python and in Rust. Compared are number,
 # bytes written and every byte of the room, and of tables every slot. TEST=path names another program. The line before
 # the last counts the jobs by their answers; the last is 'N jobs, D mismatches'; exits 1 if D is not 0. Jobs that differ
 # stay in build/compare/write.
