@@ -14,7 +14,7 @@ use Rattle.filling.specs.Accounts.{Position, positions_of_kind, flat_positions}
 use Rattle.filling.proofs.CountIn.{count_same, count-other, count-append}
 use Rattle.accounts.specs.inner.Counting.{stands, misses, sum_to, count_if, kind_to, stands_in, misses_in}
 use Rattle.accounts.specs.inner.Laying.{set_position, put_position}
-use Rattle.accounts.proofs.Counts.{stands-none, stands-most, sum-few, sum-rise, kind-here, kind-other, kind-rise, kinds-few}
+use Rattle.accounts.proofs.Counts.{stands-none, stands-most, sum-few, sum-rise, kind-here, kind-other, kind-rise, kinds_few}
 use Rattle.accounts.proofs.Segments.{position-long, position-after, position-before, segment_next, put-none-room}
 
 -- ---- lists
@@ -146,7 +146,7 @@ module _ (s : State) where
     start-suc k = refl
 
     pub start-most : (k : ℕ) → start_of k ≤ n
-    start-most k = let a = kinds-few stands_all s.order k n in let b = sum-few stands_all n (λ i. stands-most (number i)) in omega arith
+    start-most k = let a = kinds_few stands_all s.order k n in let b = sum-few stands_all n (λ i. stands-most (number i)) in omega arith
 
     -- each kind's part has its positions among the first i copies, and nothing else has changed
     pub record Filled (before room : List Float) (i : ℕ) : Type 0 where

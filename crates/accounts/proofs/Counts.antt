@@ -101,14 +101,14 @@ module _ (f : ℕ → ℕ) (order : List ℕ) where
     ]
   ]
 
-  pub kinds-few : (m n : ℕ) → sum_to (λ k. kind_to f order k n) m ≤ sum_to f n
+  pub kinds_few : (m n : ℕ) → sum_to (λ k. kind_to f order k n) m ≤ sum_to f n
   unfolding sum_to kind_to count_if
-  kinds-few m zero = none m
+  kinds_few m zero = none m
     where
       none : (m : ℕ) → sum_to (λ k. 0) m ≤ 0
       none zero = omega arith
       none (suc m) = let a = none m in omega arith
-  kinds-few m (suc n) = go (either (ltb (get_or order n 0) m)) (kinds-few m n) (kinds-step m n)
+  kinds_few m (suc n) = go (either (ltb (get_or order n 0) m)) (kinds_few m n) (kinds-step m n)
     where
       go : (ltb (get_or order n 0) m ≡ true) ⊎ (ltb (get_or order n 0) m ≡ false) → sum_to (λ k. kind_to f order k n) m ≤ sum_to f n → sum_to (λ k. kind_to f order k (suc n)) m ≡ sum_to (λ k. kind_to f order k n) m + count_if (ltb (get_or order n 0) m) (f n) → sum_to (λ k. kind_to f order k (suc n)) m ≤ sum_to f n + f n
       go (inl e) a b = let b' = rw e at b in omega arith

@@ -69,8 +69,8 @@ module _ (j : Job) (s : State) where
   looks_had k o h =
       let e : 16 * (0 + k) + (0 + o) ≡ 16 * k + o = omega arith in
       ap (λ (l : List ℕ). get_or l o 0) (looks_row k)
-      ∙ (get_or-map (λ t. t.look_count) (map (λ o. track (16 * (0 + k) + o)) (up_from (get_or (orientation_counts j) k 0) 0)) o (record { next-column = (track 0).next-column; look_count = 0 })
-      ∙ (ap (λ (t : Track). t.look_count) (get_d_up_from (λ o. track (16 * (0 + k) + o)) (get_or (orientation_counts j) k 0) 0 o (record { next-column = (track 0).next-column; look_count = 0 }) h)
+      ∙ (get_or-map (λ t. t.look_count) (map (λ o. track (16 * (0 + k) + o)) (up_from (get_or (orientation_counts j) k 0) 0)) o (record { next_column = (track 0).next_column; look_count = 0 })
+      ∙ (ap (λ (t : Track). t.look_count) (get_d_up_from (λ o. track (16 * (0 + k) + o)) (get_or (orientation_counts j) k 0) 0 o (record { next_column = (track 0).next_column; look_count = 0 }) h)
       ∙ ap (λ (q : ℕ). get_or s.look_counts q 0) e))
 
   looks_lacked : (k o : ℕ) → get_or (orientation_counts j) k 0 ≤ o → get_or (get_or (look_counts_of j s) k []) o 0 ≡ 0

@@ -7,7 +7,7 @@ use Rattle.index.proofs.Flat.{length-up_from}
 use Rattle.filling.proofs.Reading.{up_from-same}
 use Rattle.accounts.specs.inner.Counting.{stands, sum_to, kind_to, stands_in, by_kind, starts_by}
 use Rattle.accounts.specs.inner.Laying.{put_position, state_of}
-use Rattle.accounts.proofs.Counts.{stands-most, sum-few, sum_same, kinds-few, Counted, counted_next, at_kind}
+use Rattle.accounts.proofs.Counts.{stands-most, sum-few, sum_same, kinds_few, Counted, counted_next, at_kind}
 use Rattle.accounts.proofs.ByKind.{Filled, filled_next, place-fits, start_of}
 
 module _ (order orientation : List ℕ) (n : ℕ) (t : List ℕ) (e : t ≡ by_kind (λ k. kind_to (stands_in orientation) order k n)) where
@@ -17,7 +17,7 @@ module _ (order orientation : List ℕ) (n : ℕ) (t : List ℕ) (e : t ≡ by_k
   pub sums_few : n ≤ 4096 → (k : ℕ) → k ≤ 64 → sum_to (λ i. get_or t i 0) k ≤ 4294967296
   sums_few l k h =
       let a = sums_are k h in
-      let b = kinds-few (stands_in orientation) order k n in
+      let b = kinds_few (stands_in orientation) order k n in
       let d = sum-few (stands_in orientation) n (λ i. stands-most (get_or orientation i 0)) in
       omega arith
 
@@ -33,12 +33,12 @@ module _ (order orientation : List ℕ) (x y gap : List Float) (n : ℕ) (starts
   start : get_or starts k 0 ≡ start_of (state_of order orientation x y gap) n k
   start = ap (λ (l : List ℕ). get_or l k 0) e ∙ at_kind (sum_to (λ k. kind_to (stands_in orientation) order k n)) k b
 
-  starts-long : length starts ≡ 64
-  starts-long = ap length e ∙ (length-map (up_from 64 0) (sum_to (λ k. kind_to (stands_in orientation) order k n)) ∙ length-up_from 64 0)
+  starts_long : length starts ≡ 64
+  starts_long = ap length e ∙ (length-map (up_from 64 0) (sum_to (λ k. kind_to (stands_in orientation) order k n)) ∙ length-up_from 64 0)
 
   pub put-fits : (k < length starts) × (k < length copies) × (6 * (get_or starts k 0 + get_or copies k 0) + 6 * stands (get_or orientation i 0) ≤ length room)
   put-fits =
-      let l = starts-long in
+      let l = starts_long in
       let m = q.long in
       let a = start in
       let c = q.count k b in

@@ -101,8 +101,8 @@ module _ (p : Planner) (n : ℕ) where
   track_more : (last : ℕ) (t : Track) → track_fits n last t ≡ true → track_fits (suc n) last t ≡ true
   unfolding track_fits
   track_more last t h =
-      let a = both_first (column_fits last t.next-column) _ h in
-      let b = leb-true t.look_count (suc last + n) (both_second (column_fits last t.next-column) _ h) in
+      let a = both_first (column_fits last t.next_column) _ h in
+      let b = leb-true t.look_count (suc last + n) (both_second (column_fits last t.next_column) _ h) in
       rw (a, le-leb t.look_count (suc last + suc n) (omega arith))
 
   row_more : (ss : List Shape) (ts : List Track) → tracks_fit p n ss ts ≡ true → tracks_fit p (suc n) ss ts ≡ true

@@ -40,7 +40,7 @@ shaped_with s f k ts strips place out x y gap area right =
       xs = length-set s.layout.x place x ∙ f.xs;
       ys = length-set s.layout.y place y ∙ f.ys;
       gaps = length-set s.layout.gap place gap ∙ f.gaps;
-      next-columns = length-sets s.next_column (16 * k) (map (λ t. remembered_number t.next-column) ts) ∙ f.next-columns;
+      next-columns = length-sets s.next_column (16 * k) (map (λ t. remembered_number t.next_column) ts) ∙ f.next-columns;
       look_counts = length-sets s.look_counts (16 * k) (map (λ t. t.look_count) ts) ∙ f.look_counts;
     }
 

@@ -222,8 +222,8 @@ module _ (j : Job) (z : Sized j) (s : State) (w : Rooms) (f : Shaped s) (h : con
   entries_now [] = ap (λ (l : List Float). entries_fit P w l) (append-nil St) ∙ H.entries
   entries_now (a ∷ as') =
       let now = St ++ new_strips P k (best a as') in
-      ap₂ ◌&&◌ (both_first (numbers_lie (entries_for P.bounds P.sheet) w.sheet-entries) _ H.entries)
-      (numbers-laid (entries_for P.bounds now) w.placed-entries)
+      ap₂ ◌&&◌ (both_first (numbers_lie (entries_for P.bounds P.sheet) w.sheet_entries) _ H.entries)
+      (numbers-laid (entries_for P.bounds now) w.placed_entries)
 
   firsts_now : (cs : List Choice) → firsts_fit (Now cs) (Left cs) ≡ true
   unfolding planner_at

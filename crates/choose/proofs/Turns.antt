@@ -43,19 +43,19 @@ module _ (ix : Index) (w : Surroundings) (se ss pe ps : List ℕ) (i : ℕ) wher
       pe ps)
       × (k.count ≤ 4000000000)
 
-  pub ready-parts : (b : Rect) (p : Part) (k : Columns) → Ready ix w se ss pe ps i → b ≡ bounds_at w.inset-bounds i → p ≡ part_at w.parts i → k ≡ columns_of
+  pub ready-parts : (b : Rect) (p : Part) (k : Columns) → Ready ix w se ss pe ps i → b ≡ bounds_at w.inset_bounds i → p ≡ part_at w.parts i → k ≡ columns_of
       w.bounds b w.resolution → Parts k p
   ready-parts b p k r eb ep ek =
       subst⁻¹ (λ (z : Columns). Parts z p) (ek ∙ ap (λ (z : Rect). columns_of w.bounds z w.resolution) eb)
       (subst⁻¹ (λ (z : Part). Parts (columns_at w i) z) ep
       (r.lookable, r.few))
 
-  pub ready-few : (b : Rect) (k : Columns) → Ready ix w se ss pe ps i → b ≡ bounds_at w.inset-bounds i → k ≡ columns_of w.bounds b w.resolution →
+  pub ready-few : (b : Rect) (k : Columns) → Ready ix w se ss pe ps i → b ≡ bounds_at w.inset_bounds i → k ≡ columns_of w.bounds b w.resolution →
       k.count ≤ 4000000000
   ready-few b k r eb ek = subst⁻¹ (λ (z : Columns). z.count ≤ 4000000000) (ek ∙ ap (λ (z : Rect). columns_of w.bounds z w.resolution) eb) r.few
 
 module _ (w : Surroundings) (i o : ℕ) (counts next counts' next' : List ℕ) where
-  orient_on : (b : Rect) (k : Columns) (found : Found) (v : Winner) → b ≡ bounds_at w.inset-bounds i → k ≡ columns_at w i → v ≡ winner_of k b o found
+  orient_on : (b : Rect) (k : Columns) (found : Found) (v : Winner) → b ≡ bounds_at w.inset_bounds i → k ≡ columns_at w i → v ≡ winner_of k b o found
       → tracked found counts' next' ≡ search_of (looks_at w i) (columns_at w i) i counts next → chosen v counts' next' ≡ orientation_of w i o counts next
   unfolding orientation_of won
   orient_on b k found v eb ek ev e =
@@ -63,7 +63,7 @@ module _ (w : Surroundings) (i o : ℕ) (counts next counts' next' : List ℕ) w
       eb))
       ∙ ap (won w i o) e
 
-  pub orient_is : (b : Rect) (p : Part) (k : Columns) (found : Found) (v : Winner) → b ≡ bounds_at w.inset-bounds i → p ≡ part_at w.parts i → k ≡ columns_of
+  pub orient_is : (b : Rect) (p : Part) (k : Columns) (found : Found) (v : Winner) → b ≡ bounds_at w.inset_bounds i → p ≡ part_at w.parts i → k ≡ columns_of
       w.bounds b w.resolution → v ≡ winner_of k b o found
       → tracked found counts' next' ≡ search_of (answer_at w.capacity k (inset_part p w.inset) (apart_part p w.apart) w.sheet w.placed) k i counts
       next → chosen v counts' next' ≡ orientation_of w i o counts next
@@ -122,9 +122,9 @@ pub record Picking (room₀ : List Float) (w : Surroundings) (slot n : ℕ) (tra
   pub small : (q : ℕ) → o ≤ q → q < n → get_or (look_counts_from tracks) (slot + q) 0 + 4000000002 < 2 ^ 64
   pub same : choose_from w slot (n - o) o (chosen_in best tracks) ≡ choose_from w slot n 0 (chosen_in Nowhere tracks₀)
 
-module _ (grid : Grid) (inset-bounds : List Float) (parts : List ℕ) (shapes sheet placed room₀ : List Float) (slot n : ℕ) (tracks₀ : List ℕ) where
+module _ (grid : Grid) (inset_bounds : List Float) (parts : List ℕ) (shapes sheet placed room₀ : List Float) (slot n : ℕ) (tracks₀ : List ℕ) where
   abbrev pub world_of_lem : Surroundings
-  world_of_lem = surroundings_in (length room₀ / 2) grid inset-bounds parts shapes sheet placed
+  world_of_lem = surroundings_in (length room₀ / 2) grid inset_bounds parts shapes sheet placed
 
   abbrev pub Picks : List Float → List ℕ → Winner → ℕ → Type 0
   Picks room tracks best o = Picking room₀ world_of_lem slot n tracks₀ room tracks best o
@@ -145,10 +145,10 @@ module _ (grid : Grid) (inset-bounds : List Float) (parts : List ℕ) (shapes sh
     pub at_last : n ≤ o → chosen_in best tracks ≡ choose_from world_of_lem slot n 0 (chosen_in Nowhere tracks₀)
     at_last h = sym (choose_end world_of_lem slot (n - o) o (chosen_in best tracks) (omega arith)) ∙ g.same
 
-    module _ (h : o < n) (e : chosen_in later tracks' ≡ orientation_of (surroundings_in (length room / 2) grid inset-bounds parts shapes sheet placed) (slot + o) o counts
+    module _ (h : o < n) (e : chosen_in later tracks' ≡ orientation_of (surroundings_in (length room / 2) grid inset_bounds parts shapes sheet placed) (slot + o) o counts
         next) (b : best' ≡ better_of best later) where
       here : chosen_in later tracks' ≡ orientation_of world_of_lem (slot + o) o counts next
-      here = e ∙ ap (λ (m : ℕ). orientation_of (surroundings_in (m / 2) grid inset-bounds parts shapes sheet placed) (slot + o) o counts next) g.wide
+      here = e ∙ ap (λ (m : ℕ). orientation_of (surroundings_in (m / 2) grid inset_bounds parts shapes sheet placed) (slot + o) o counts next) g.wide
 
       step : chosen best' counts' next' ≡ bettered best (orientation_of world_of_lem (slot + o) o counts next)
       unfolding bettered

@@ -190,12 +190,12 @@ pub filling_numbers : (bytes order : List ℕ) (l : Lent)
     → (every is_number (plan_doubles (fill_of bytes order l).plan) ≡ true) × (every is_number (lent_doubles (fill_of bytes order l).lent) ≡ true)
     × (le pos_zero (fill_of bytes order l).plan.offcut ≡ true)
 filling_numbers bytes order l =
-    let h = ProvedLeft.fill-numbers bytes order l in (plan_doubles_lem _ h.0, lent_doubles_lem _ h.1, h.0.offcut-not-below)
+    let h = ProvedLeft.fill-numbers bytes order l in (plan_doubles_lem _ h.0, lent_doubles_lem _ h.1, h.0.offcut_not_below)
 
 pub plan-numbers : (bytes : List ℕ) (l : Lent)
     → (every is_number (plan_doubles (nest_of bytes l).plan) ≡ true) × (every is_number (lent_doubles (nest_of bytes l).lent) ≡ true)
     × (le pos_zero (nest_of bytes l).plan.offcut ≡ true)
-plan-numbers bytes l = let h = Proved1.nest_numbers bytes l in (plan_doubles_lem _ h.0, lent_doubles_lem _ h.1, h.0.offcut-not-below)
+plan-numbers bytes l = let h = Proved1.nest_numbers bytes l in (plan_doubles_lem _ h.0, lent_doubles_lem _ h.1, h.0.offcut_not_below)
 
 -- the offcut is at most what right leaves, and begins where the spacing of every placed copy has ended: "the larger of right and the largest x1 of a
 -- placed apart strip"
@@ -204,14 +204,14 @@ pub filling_offcut : (bytes order : List ℕ) (l : Lent) (j : Job) → read_job 
     → let strips = standing_strips (planner_of j) (standing_of s) in
     (le (offcut_of (planner_of j) s) (not_below_zero (s.tables.sheet_bounds.right ⊖ s.layout.right)) ≡ true)
     × ((i : ℕ) → i < capacity strips → le (strip_at strips i).x1 (reach_of s.layout.right strips) ≡ true)
-filling_offcut bytes order l j e v s d = let h = ProvedLeft.fill-offcut bytes order l j e v s d in (h.not-above, h.covers)
+filling_offcut bytes order l j e v s d = let h = ProvedLeft.fill-offcut bytes order l j e v s d in (h.not_above, h.covers)
 
 pub plan-offcut : (bytes : List ℕ) (l : Lent) (j : Job) → read_job bytes ≡ accepted j → nest_verdict j l ≡ Accepted
     → (q : Kept) → swap_search j l ≡ kept q
     → let strips = standing_strips (planner_of j) (standing_of q.state) in
     (le (offcut_of (planner_of j) q.state) (not_below_zero (q.state.tables.sheet_bounds.right ⊖ q.state.layout.right)) ≡ true)
     × ((i : ℕ) → i < capacity strips → le (strip_at strips i).x1 (reach_of q.state.layout.right strips) ≡ true)
-plan-offcut bytes l j e v q d = let h = Proved1.nest_offcut bytes j e l v q d in (h.not-above, h.covers)
+plan-offcut bytes l j e v q d = let h = Proved1.nest_offcut bytes j e l v q d in (h.not_above, h.covers)
 
 -- ---- Demand 3. "take every list of next-copy calls, refused ones included .. After it the copies standing, with orientation, x and y, and those without
 -- ---- a place are exactly those of document 01's plain planner .. Each orientation's look count equals its last found column plus its finds .. For one

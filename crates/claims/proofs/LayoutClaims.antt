@@ -28,7 +28,7 @@ use Rattle.layouts.specs.PlanLayout.{layout_numbers}
 use Rattle.layouts.proofs.Exact as ProvedExact
 use Rattle.layouts.proofs.FirstBad as ProvedLine
 use Rattle.layouts.proofs.Made as ProvedMade
-use Rattle.claims.specs.LayoutCases.{layout_plates, layout-accepted, layout-refused, layout-rooms, layout-others}
+use Rattle.claims.specs.LayoutCases.{layout_plates, layout_accepted, layout_refused, layout_rooms, layout_others}
 use Rattle.claims.proofs.plan_promises.Replies as ProvedReplies
 use Rattle.claims.proofs.OwnPlans as ProvedPlans
 use Rattle.claims.proofs.LayoutComputed as ProvedCases
@@ -102,7 +102,7 @@ nest_accepted bytes l j e v =
     (r.0, r.1.positions_are, r.1.list_accepted)
 
 -- case 4's plates: the plan's own, a minus zero, every refusal of a line, rooms that are short by one
-pub layout_cases : (layout_plates.got ≡ layout_plates.want) × (layout-accepted.got ≡ layout-accepted.want)
-    × (layout-refused.got ≡ layout-refused.want) × (layout-rooms.got ≡ layout-rooms.want) × (layout-others.got ≡ layout-others.want)
+pub layout_cases : (layout_plates.got ≡ layout_plates.want) × (layout_accepted.got ≡ layout_accepted.want)
+    × (layout_refused.got ≡ layout_refused.want) × (layout_rooms.got ≡ layout_rooms.want) × (layout_others.got ≡ layout_others.want)
 layout_cases =
     (ProvedCases.plates_accepted, ProvedCases.lists_accepted, ProvedCases.lists_refused, ProvedCases.rooms-refused, ProvedCases.others-judged)

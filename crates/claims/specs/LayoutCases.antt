@@ -79,8 +79,8 @@ layout_plates =
     }
 
 -- "A minus zero in the list is read as plus zero", and two numbers that are no line; the last column and the top; no line
-unfoldable pub layout-accepted : Case
-layout-accepted =
+unfoldable pub layout_accepted : Case
+layout_accepted =
     record {
       got =
           map (plate_answer (rooms_sized 12 24 822))
@@ -89,8 +89,8 @@ layout-accepted =
     }
 
 -- "4 for a non-finite number" before "9 for a missing kind or orientation"; "26 outside the range": to its right, above it, and below it on another plate
-unfoldable pub layout-refused : Case
-layout-refused =
+unfoldable pub layout_refused : Case
+layout_refused =
     record {
       got =
           map (plate_answer (rooms_sized 12 24 822))
@@ -105,8 +105,8 @@ layout-refused =
     }
 
 -- "then 20 or 21 for that copy's strips or entries": a strip short, an entry short, both; "27 in the way" before 20; a shape's strip short
-unfoldable pub layout-rooms : Case
-layout-rooms =
+unfoldable pub layout_rooms : Case
+layout_rooms =
     record {
       got =
           plate_answer (rooms_sized 12 23 822) four_lines
@@ -119,8 +119,8 @@ layout-rooms =
     }
 
 -- "25 for too many copies" before 26: a second plate where the quantity is one; "positions go through `to`": the second table's own plates
-unfoldable pub layout-others : Case
-layout-others =
+unfoldable pub layout_others : Case
+layout_others =
     record {
       got =
           job_answer (job_of 1 1 12 0 (rectangle 4 3 ∷ [])) (plate 0 0 ++ plate d7 0)

@@ -177,7 +177,7 @@ both_yes a b e = sym (ap (λ t. t && b) e)
 
 -- ---- the second part of the shapes room
 
-pub slots-rest : {r : Bool} (bounds : Rect) (resolution : Float) (taken : ℕ) (inset-bounds : List Float) (parts : List ℕ) (apart : List Float) (n : ℕ) (room : List Float) (next looks rows : List ℕ) (kinds : ℕ)
-    → r ≡ slots_test (slots bounds resolution taken inset-bounds parts apart (take (length room - n) (drop n room)) next looks) rows kinds
-    → r ≡ slots_test (slots bounds resolution taken inset-bounds parts apart (drop n room) next looks) rows kinds
-slots-rest bounds resolution taken inset-bounds parts apart n room next looks rows kinds e = e ∙ ap (λ (l : List Float). slots_test (slots bounds resolution taken inset-bounds parts apart l next looks) rows kinds) (rest-is n room)
+pub slots-rest : {r : Bool} (bounds : Rect) (resolution : Float) (taken : ℕ) (inset_bounds : List Float) (parts : List ℕ) (apart : List Float) (n : ℕ) (room : List Float) (next looks rows : List ℕ) (kinds : ℕ)
+    → r ≡ slots_test (slots bounds resolution taken inset_bounds parts apart (take (length room - n) (drop n room)) next looks) rows kinds
+    → r ≡ slots_test (slots bounds resolution taken inset_bounds parts apart (drop n room) next looks) rows kinds
+slots-rest bounds resolution taken inset_bounds parts apart n room next looks rows kinds e = e ∙ ap (λ (l : List Float). slots_test (slots bounds resolution taken inset_bounds parts apart l next looks) rows kinds) (rest-is n room)

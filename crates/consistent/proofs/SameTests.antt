@@ -116,7 +116,7 @@ module _ (j : Job) (s : State) (w : Rooms) (rows : List ℕ) (areas : List Float
   room_fits part es fs = strips_fit part && (numbers_lie (firsts_for t.sheet_bounds part) fs && numbers_lie (entries_for t.sheet_bounds part) es)
 
   abbrev stands : Bool
-  stands = room_fits sheet w.sheet-entries w.sheet_firsts && room_fits standing w.placed-entries w.placed_firsts
+  stands = room_fits sheet w.sheet_entries w.sheet_firsts && room_fits standing w.placed_entries w.placed_firsts
 
   turns-long : length (orientation_counts j) ≡ kinds
   unfolding orientation_counts
@@ -134,7 +134,7 @@ module _ (j : Job) (s : State) (w : Rooms) (rows : List ℕ) (areas : List Float
   abbrev roomed : Bool
   roomed = rooms_test given rows kinds
       (counts_test t.sheet_strips t.apart_strips s.placed_strips w.sheet w.shapes w.placed w.sheet_firsts w.placed_firsts)
-      (standing_test t.sheet_bounds sheet standing w.sheet-entries w.placed-entries w.sheet_firsts w.placed_firsts)
+      (standing_test t.sheet_bounds sheet standing w.sheet_entries w.placed_entries w.sheet_firsts w.placed_firsts)
 
   abbrev copied : Bool
   copied = copies_test (held rows kinds t.parts (take (6 * t.apart_strips) w.shapes) standing) s.order s.layout.orientation
@@ -154,7 +154,7 @@ module _ (j : Job) (s : State) (w : Rooms) (rows : List ℕ) (areas : List Float
       go : (roomed ≡ true) ⊎ (roomed ≡ false) → roomed && copied ≡ roomed && fitting
       go (inl e) =
           let h = rooms-held given rows kinds t.sheet_strips t.apart_strips s.placed_strips w.sheet w.shapes w.placed w.sheet_firsts
-          w.placed_firsts (standing_test t.sheet_bounds sheet standing w.sheet-entries w.placed-entries w.sheet_firsts w.placed_firsts) e in
+          w.placed_firsts (standing_test t.sheet_bounds sheet standing w.sheet_entries w.placed_entries w.sheet_firsts w.placed_firsts) e in
           ap (λ b. roomed && b) (copies_are j s w rows kinds turns-long (λ i l. turns i (let z = turns-long in omega arith)) standing (whole h.1))
       go (inr e) = ap (λ b. b && copied) e ∙ sym (ap (λ b. b && fitting) e)
 
@@ -172,7 +172,7 @@ module _ (j : Job) (s : State) (w : Rooms) (rows : List ℕ) (areas : List Float
       (strips_fit sheet) (bounds_fit t.sheet_bounds)
       (every (every shape_fits) (planner_at j t w).shapes) (strips_fit standing) (layout_fits s.layout.right s.layout.unplaced_area) (gaps_fit s)
       (track_table_fits (planner_at j t w) s.taken (planner_at j t w).shapes (tracks_of j s)) fitting
-      (numbers_lie (entries_for t.sheet_bounds sheet) w.sheet-entries) (numbers_lie (entries_for t.sheet_bounds standing) w.placed-entries)
+      (numbers_lie (entries_for t.sheet_bounds sheet) w.sheet_entries) (numbers_lie (entries_for t.sheet_bounds standing) w.placed_entries)
       (numbers_lie (firsts_for t.sheet_bounds sheet) w.sheet_firsts) (numbers_lie (firsts_for t.sheet_bounds standing) w.placed_firsts)
 
   pub consistent_is :

@@ -121,18 +121,18 @@ module _ (j : Job) (w : Rooms) where
   part_is : (i : ℕ) → i < 1024
       → part_at (tables_of (planner_of j)).parts i
       ≡ record {
-        apart-start = starts (λ s. s.apart) 0 Slots i;
-        apart-count = capacity (get_or Slots i no_shape).apart;
-        inset-start = starts (λ s. s.inset) 0
+        apart_start = starts (λ s. s.apart) 0 Slots i;
+        apart_count = capacity (get_or Slots i no_shape).apart;
+        inset_start = starts (λ s. s.inset) 0
             Slots i;
-        inset-count = capacity (get_or Slots i no_shape).inset;
+        inset_count = capacity (get_or Slots i no_shape).inset;
       }
   unfolding tables_of
   part_is i h = let l = length-by_slot (slot_shape (planner_of j)) in part_slot Slots i (omega arith)
 
   -- the apart strips of slot i lie in the room where its part says, whatever follows them
   pub apart-lies : (i : ℕ) → i < 1024 → (rest : List Float)
-      → let q = part_at (tables_of (planner_of j)).parts i in part_of (apart_strips_of (planner_of j) ++ rest) q.apart-start q.apart-count ≡ (slot_shape
+      → let q = part_at (tables_of (planner_of j)).parts i in part_of (apart_strips_of (planner_of j) ++ rest) q.apart_start q.apart_count ≡ (slot_shape
       (planner_of j) i).apart
   apart-lies i h rest = let l = length-by_slot (slot_shape (planner_of j)) in rw (part_is i h) (read l)
     where
@@ -141,12 +141,12 @@ module _ (j : Job) (w : Rooms) where
           i).apart
       read l = unfold apart_strips_of in (part-read (λ s. s.apart) Slots 0 [] rest i refl apart_all (omega arith) ∙ ap (λ s. s.apart) (slot_at i h))
 
-  apart-read : (i : ℕ) → i < 1024 → part_of (apart_room (tables_of (planner_of j)) Room) (part_at (tables_of (planner_of j)).parts i).apart-start
-      (part_at (tables_of (planner_of j)).parts i).apart-count ≡ (slot_shape (planner_of j) i).apart
+  apart-read : (i : ℕ) → i < 1024 → part_of (apart_room (tables_of (planner_of j)) Room) (part_at (tables_of (planner_of j)).parts i).apart_start
+      (part_at (tables_of (planner_of j)).parts i).apart_count ≡ (slot_shape (planner_of j) i).apart
   apart-read i h = rw (apart-room ∙ sym (append-nil (apart_strips_of (planner_of j)))) (apart-lies i h [])
 
-  inset-read : (i : ℕ) → i < 1024 → part_of (inset_room (tables_of (planner_of j)) Room) (part_at (tables_of (planner_of j)).parts i).inset-start
-      (part_at (tables_of (planner_of j)).parts i).inset-count ≡ (slot_shape (planner_of j) i).inset
+  inset-read : (i : ℕ) → i < 1024 → part_of (inset_room (tables_of (planner_of j)) Room) (part_at (tables_of (planner_of j)).parts i).inset_start
+      (part_at (tables_of (planner_of j)).parts i).inset_count ≡ (slot_shape (planner_of j) i).inset
   inset-read i h =
       let l = length-by_slot (slot_shape (planner_of j)) in
       rw (part_is i h, inset-room) (read l)
@@ -269,7 +269,7 @@ module _ (j : Job) (z : Sized j) where
         le-leb 0 (min (min (length (zeros pos_zero w.placed) / 6) (length (zeros 0 w.placed_firsts))) strip_numbers) (omega arith),
       )
 
-  pub tracks_read : (order : List ℕ) → tracks_of j (first_state (planner_of j) order) ≡ map (map (λ s. record { next-column = column 0; look_count = 0 }))
+  pub tracks_read : (order : List ℕ) → tracks_of j (first_state (planner_of j) order) ≡ map (map (λ s. record { next_column = column 0; look_count = 0 }))
       (planner_of j).shapes
   unfolding tracks_of first_state track_at remembered_of
   tracks_read order =
@@ -277,10 +277,10 @@ module _ (j : Job) (z : Sized j) where
       ∙ rows-read (track_at (replicate 1024 1) (replicate 1024 0)) new 0 rows pointwise
     where
       new : Track
-      new = record { next-column = column 0; look_count = 0 }
+      new = record { next_column = column 0; look_count = 0 }
 
       rows : List (List Track)
-      rows = map (map (λ s. record { next-column = column 0; look_count = 0 })) (planner_of j).shapes
+      rows = map (map (λ s. record { next_column = column 0; look_count = 0 })) (planner_of j).shapes
 
       lengths : (sss : List (List Shape)) → map length sss ≡ map length (map (map (λ s. new)) sss)
       lengths [] = refl

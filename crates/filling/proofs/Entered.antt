@@ -72,13 +72,13 @@ remembered-back none = refl
 remembered-back (column c) = refl
 
 no_track : Track
-no_track = record { next-column = none; look_count = 0 }
+no_track = record { next_column = none; look_count = 0 }
 
 track_same : (m m' l l' : List ℕ) (i : ℕ) → get_or m i 0 ≡ get_or m' i 0 → get_or l i 0 ≡ get_or l' i 0 → track_at m l i ≡ track_at m' l' i
 unfolding track_at
 track_same m m' l l' i e f = rw (e, f)
 
-track_read : (m l : List ℕ) (i : ℕ) (t : Track) → get_or m i 0 ≡ remembered_number t.next-column → get_or l i 0 ≡ t.look_count → track_at m l i ≡ t
+track_read : (m l : List ℕ) (i : ℕ) (t : Track) → get_or m i 0 ≡ remembered_number t.next_column → get_or l i 0 ≡ t.look_count → track_at m l i ≡ t
 unfolding track_at
 track_read m l i t e f = rw (e, f, remembered-back)
 
@@ -95,12 +95,12 @@ off_row i k o n h a b = go (either (ltb i k)) (ltb→lt i k) (nltb→le i k)
 
 -- new tracks stored in row k
 pub tracks_write : (m l : List ℕ) (k : ℕ) (ns : List ℕ) (ts : List Track) → Sixteen ns → length ns ≤ 64 → length m ≡ 1024 → length l ≡ 1024 → length ts ≡ get_or ns k 0
-    → slot_rows (track_at (sets m (16 * k) (map (λ t. remembered_number t.next-column) ts)) (sets l (16 * k) (map (λ t. t.look_count) ts))) 0 ns ≡ set (slot_rows (track_at m l) 0 ns) k ts
+    → slot_rows (track_at (sets m (16 * k) (map (λ t. remembered_number t.next_column) ts)) (sets l (16 * k) (map (λ t. t.look_count) ts))) 0 ns ≡ set (slot_rows (track_at m l) 0 ns) k ts
 unfolding remembered_number no_track
 tracks_write m l k ns ts h few em el e = rows_write (track_at m l) (track_at m' l') 0 k ns ts no_track h e other here
   where
     ms : List ℕ
-    ms = map (λ t. remembered_number t.next-column) ts
+    ms = map (λ t. remembered_number t.next_column) ts
 
     ls : List ℕ
     ls = map (λ t. t.look_count) ts
@@ -115,7 +115,7 @@ tracks_write m l k ns ts h few em el e = rows_write (track_at m l) (track_at m' 
     fits = let b = sixteen_get h k in omega arith
 
     lm : length ms ≡ length ts
-    lm = length-map ts (λ t. remembered_number t.next-column)
+    lm = length-map ts (λ t. remembered_number t.next_column)
 
     ll : length ls ≡ length ts
     ll = length-map ts (λ t. t.look_count)
@@ -139,7 +139,7 @@ tracks_write m l k ns ts h few em el e = rows_write (track_at m l) (track_at m' 
         let cl = ll in
         ap (track_at m' l') z
         ∙ track_read m' l' (16 * k + o) (get_or ts o no_track)
-        (get_d_sets_here ms m (16 * k) o 0 (omega arith) (omega arith) ∙ get_or-map (λ t. remembered_number t.next-column) ts o no_track)
+        (get_d_sets_here ms m (16 * k) o 0 (omega arith) (omega arith) ∙ get_or-map (λ t. remembered_number t.next_column) ts o no_track)
         (get_d_sets_here ls l (16 * k) o 0 (omega arith) (omega arith) ∙ get_or-map (λ t. t.look_count) ts o no_track)
 
 pub searched-length : (p : Planner) (st : List Float) (ss : List Shape) (ts : List Track) → length ss ≡ length ts → length (searched_all p ss ts (search_all p st ss ts)) ≡ length ts

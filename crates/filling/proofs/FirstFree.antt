@@ -195,7 +195,7 @@ module _ (yl yh : Float) where
   all_count standing moving x i m =
       let a = keep_mem (counts_of yl yh) i (forbidden_of standing moving x) m in
       let f = forbidden_fits moving x standing i a.0 in
-      record { counts = a.1; from-fits = f.0; to_fits = f.1 }
+      record { counts = a.1; from_fits = f.0; to_fits = f.1 }
 
   counted_grows : (st st' moving : List Float) (x : Float) → Grows st st' → Within (counted_of yl yh st moving x) (counted_of yl yh st' moving x)
   unfolding counted_of

@@ -55,7 +55,7 @@ no_members (x ∷ xs) h = absurd (h x (Memᴰ.head refl))
 -- an interval that counts, whose ends are doubles
 pub record Counts (yl yh : Float) (i : Interval) : Type 0 where
   pub counts : counts_of yl yh i ≡ true
-  pub from-fits : T (fits binary64 i.from)
+  pub from_fits : T (fits binary64 i.from)
   pub to_fits : T (fits binary64 i.to)
 
 abbrev pub AllCount : Float → Float → List Interval → Type 0
@@ -73,7 +73,7 @@ module _ (yl yh : Float) (i : Interval) (c : Counts yl yh i) where
   ends : RealEnd i
   ends =
       let r = lt_reals i.from i.to order in
-      record { from = record { fit = c.from-fits; is_real = r.0 }; to = record { fit = c.to_fits; is_real = r.1 } }
+      record { from = record { fit = c.from_fits; is_real = r.0 }; to = record { fit = c.to_fits; is_real = r.1 } }
 
 module _ (yl yh : Float) (fl : T (fits binary64 yl)) (fh : T (fits binary64 yh)) where
   real? : (x : Float) → T (Keys.real x) ⊎ (x ≡ nan)

@@ -32,11 +32,11 @@ use Rattle.filling.proofs.Searches.{search_open, search-reversed}
 -- a place that a search can yield: a column, a height that a look found free there, and the clear height above it
 pub record Yielded (p : Planner) (s : Shape) (x y g : Float) : Type 0 where
   pub opened : reversed_for p s ≡ false
-  pub column-number : ℕ
-  pub within : column-number ≤ last_of p s
-  pub x_is : x ≡ column_at p.resolution (ranges_of p s) column-number
+  pub column_number : ℕ
+  pub within : column_number ≤ last_of p s
+  pub x_is : x ≡ column_at p.resolution (ranges_of p s) column_number
   pub standing : List Float
-  pub freed : look_at p standing s column-number ≡ Free y g
+  pub freed : look_at p standing s column_number ≡ Free y g
 
 -- areas, added in order
 unfoldable pub summed : Planner → Float → List Copy → Float
@@ -157,7 +157,7 @@ module _ (p : Planner) (k : ℕ) where
           let f = found_at (look_at p st s) (suc (last_of p s) - d) d c y g (sym (search_open p st s d o) ∙ e) in
           let i = f.from in
           let j = f.before in
-          record { opened = o; column-number = c; within = omega arith; x_is = refl; standing = st; freed = f.frees }
+          record { opened = o; column_number = c; within = omega arith; x_is = refl; standing = st; freed = f.frees }
 
   choice_good : (st : List Float) (o : ℕ) (s : Shape) → s ≡ shape_of p k o → (m : Remembered) (f : Found) → search p st s m ≡ f → (cs : List Choice) → Goods cs →
       Goods (choice_of p o s f ++ cs)
@@ -177,7 +177,7 @@ module _ (p : Planner) (k : ℕ) where
   choices-good st o (s ∷ ss) [] h = no_good
   choices-good st o (s ∷ ss) (t ∷ ts) h =
       let z : o + 0 ≡ o = omega arith in
-      choice_good st o s (h 0 (omega arith) ∙ ap (shape_of p k) z) t.next-column (search p st s t.next-column) refl
+      choice_good st o s (h 0 (omega arith) ∙ ap (shape_of p k) z) t.next_column (search p st s t.next_column) refl
       (choices p (suc o) ss (search_all p st ss ts))
       (choices-good st (suc o) ss ts (λ i l. let y : o + suc i ≡ suc o + i = omega arith in h (suc i) (omega arith) ∙ ap (shape_of p k) y))
 

@@ -84,8 +84,8 @@ module _ (j : Job) (z : Sized j) (b : WithinBounds (planner_of j)) (order : List
 
     order_now : (cs : List Choice) → order_of j (Now cs) ≡ order
     unfolding state_after state_with order_of
-    order_now [] = h.order-kept
-    order_now (c ∷ cs) = h.order-kept
+    order_now [] = h.order_kept
+    order_now (c ∷ cs) = h.order_kept
 
     few_now : (cs : List Choice) → (Now cs).taken ≤ j.copies
     few_now cs = let a = Steps.in_job j z s w h.kept.linked k ks e in rw (Steps.after-taken j s k Ts cs) a
@@ -95,22 +95,22 @@ module _ (j : Job) (z : Sized j) (b : WithinBounds (planner_of j)) (order : List
     parts_now [] = h.parts
     parts_now (c ∷ cs) = h.parts
 
-    sheet_now : (cs : List Choice) → numbers_lie (entries_for P.bounds P.sheet) (rooms_after P k w St cs).sheet-entries ≡ true
+    sheet_now : (cs : List Choice) → numbers_lie (entries_for P.bounds P.sheet) (rooms_after P k w St cs).sheet_entries ≡ true
     unfolding rooms_after stored
-    sheet_now [] = h.sheet-entries
-    sheet_now (c ∷ cs) = h.sheet-entries
+    sheet_now [] = h.sheet_entries
+    sheet_now (c ∷ cs) = h.sheet_entries
 
-    placed_now : (cs : List Choice) → numbers_lie (entries_for P.bounds (standing_strips P (standing_of (Now cs)))) (rooms_after P k w St cs).placed-entries ≡
+    placed_now : (cs : List Choice) → numbers_lie (entries_for P.bounds (standing_strips P (standing_of (Now cs)))) (rooms_after P k w St cs).placed_entries ≡
         true
     unfolding rooms_after stored
-    placed_now [] = ap (λ c. numbers_lie (entries_for P.bounds (standing_strips P c)) w.placed-entries)
-        (Steps.after-none-stands j z s w h.kept.linked k ks e Ts lts) ∙ h.placed-entries
+    placed_now [] = ap (λ c. numbers_lie (entries_for P.bounds (standing_strips P c)) w.placed_entries)
+        (Steps.after-none-stands j z s w h.kept.linked k ks e Ts lts) ∙ h.placed_entries
     placed_now (c ∷ cs) =
         let now = St ++ new_strips P k (best c cs) in
         let a : standing_strips P (standing_of (Now (c ∷ cs))) ≡ now = ap (standing_strips P) (Steps.after-one-stands j z s w h.kept.linked k ks e Ts lts c cs)
         ∙ Steps.standing_more P (standing_of s) (record { place = s.taken; kind = k }) (best c cs) in
-        ap (λ st. numbers_lie (entries_for P.bounds st) (laid (entries_for P.bounds now) w.placed-entries)) a ∙ numbers-laid (entries_for P.bounds now)
-        w.placed-entries
+        ap (λ st. numbers_lie (entries_for P.bounds st) (laid (entries_for P.bounds now) w.placed_entries)) a ∙ numbers-laid (entries_for P.bounds now)
+        w.placed_entries
 
     firsts_now : (cs : List Choice) → firsts_fit (Now cs) (rooms_after P k w St cs) ≡ true
     firsts_now cs = after_firsts P k Ts s w St cs bounds_are (Steps.standing_sixfold P (standing_of s)) h.firsts
@@ -173,12 +173,12 @@ module _ (j : Job) (z : Sized j) (b : WithinBounds (planner_of j)) (order : List
       (record {
         kept = rw (t.state_is, t.rooms_is) at a;
         fine = fine_now k t.rest t.order_is cs (row_good P k St (get_or (tracks_of j s) k []));
-        order-kept = order_now k t.rest t.order_is cs;
+        order_kept = order_now k t.rest t.order_is cs;
         few = few_now k t.rest t.order_is cs;
         counts = counts_now k t.rest t.order_is cs t.fits;
         parts = parts_now k t.rest t.order_is cs;
-        sheet-entries = sheet_now k t.rest t.order_is cs;
-        placed-entries = placed_now k t.rest t.order_is cs;
+        sheet_entries = sheet_now k t.rest t.order_is cs;
+        placed_entries = placed_now k t.rest t.order_is cs;
         firsts = firsts_now k t.rest t.order_is cs;
         stands = stands_now k t.rest t.order_is cs (row_good P k St (get_or (tracks_of j s) k [])) (under_now k t.rest t.order_is);
         reaches = reaches_now k t.rest t.order_is cs (row_good P k St (get_or (tracks_of j s) k []));
@@ -266,15 +266,15 @@ module _ (j : Job) (z : Sized j) (b : WithinBounds (planner_of j)) (order : List
     unfolding state_without rooms_without parts_fit
     parts_gone = h.parts
 
-    sheet_gone : numbers_lie (entries_for P.bounds P.sheet) Vs.sheet-entries ≡ true
+    sheet_gone : numbers_lie (entries_for P.bounds P.sheet) Vs.sheet_entries ≡ true
     unfolding rooms_without
-    sheet_gone = h.sheet-entries
+    sheet_gone = h.sheet_entries
 
-    placed_gone : numbers_lie (entries_for P.bounds (standing_strips P (standing_of G))) Vs.placed-entries ≡ true
+    placed_gone : numbers_lie (entries_for P.bounds (standing_strips P (standing_of G))) Vs.placed_entries ≡ true
     unfolding rooms_without
     placed_gone =
         let es = entries_for P.bounds (Left j s n) in
-        ap (λ st. numbers_lie (entries_for P.bounds st) (laid es (zeros 0 w.placed-entries))) strips_are ∙ numbers-laid es (zeros 0 w.placed-entries)
+        ap (λ st. numbers_lie (entries_for P.bounds st) (laid es (zeros 0 w.placed_entries))) strips_are ∙ numbers-laid es (zeros 0 w.placed_entries)
 
     firsts_gone : firsts_fit G Vs ≡ true
     firsts_gone = back_firsts j P s w n t.copy (Left j s n) bounds_are left_sixfold h.firsts
@@ -286,12 +286,12 @@ module _ (j : Job) (z : Sized j) (b : WithinBounds (planner_of j)) (order : List
         (record {
           kept = rw (t.state_is, t.rooms_is) at a;
           fine = record { strips = strips_gone; right = right_gone; gaps = gaps_gone; area = area_gone };
-          order-kept = refl;
+          order_kept = refl;
           few = few_gone;
           counts = counts_gone;
           parts = parts_gone;
-          sheet-entries = sheet_gone;
-          placed-entries = placed_gone;
+          sheet_entries = sheet_gone;
+          placed_entries = placed_gone;
           firsts = firsts_gone;
           stands = ap (every (Stands j)) standing ∙ others_pass (Stands j) n (stands_same j n) (standing_of s) h.stands;
           reaches = ap (every (Reaches P)) standing ∙ others_pass (Reaches P) n (reaches_same P n) (standing_of s) h.reaches;

@@ -71,12 +71,12 @@ no_entries b = go (up_from 512 0)
 pub record Own (j : Job) (order : List ℕ) (s : State) (w : Rooms) (q : Plain) : Type 0 where
   pub kept : Kept j s w q
   pub fine : Fine j s
-  pub order-kept : order_of j s ≡ order
+  pub order_kept : order_of j s ≡ order
   pub few : s.taken ≤ j.copies
   pub counts : strip_counts_fit s.tables s.placed_strips w ≡ true
   pub parts : parts_fit j s.tables w ≡ true
-  pub sheet-entries : numbers_lie (entries_for (planner_of j).bounds (planner_of j).sheet) w.sheet-entries ≡ true
-  pub placed-entries : numbers_lie (entries_for (planner_of j).bounds (standing_strips (planner_of j) (standing_of s))) w.placed-entries ≡ true
+  pub sheet_entries : numbers_lie (entries_for (planner_of j).bounds (planner_of j).sheet) w.sheet_entries ≡ true
+  pub placed_entries : numbers_lie (entries_for (planner_of j).bounds (standing_strips (planner_of j) (standing_of s))) w.placed_entries ≡ true
   pub firsts : firsts_fit s w ≡ true
   pub stands : every (Stands j) (standing_of s) ≡ true
   pub reaches : every (Reaches (planner_of j)) (standing_of s) ≡ true
@@ -95,7 +95,7 @@ own_consistent j order s w q z b r h =
       le-leb s.taken j.copies h.few,
       h.counts,
       h.parts,
-      h.order-kept,
+      h.order_kept,
       r,
       h.kept.linked.plan,
       b.own,
@@ -105,8 +105,8 @@ own_consistent j order s w q z b r h =
       h.fine.gaps,
       fits-table (planner_of j) (standing_strips (planner_of j) (standing_of s)) s.taken h.kept.paired.table,
       copies-fit j s h.stands h.fine.strips,
-      h.sheet-entries,
-      h.placed-entries,
+      h.sheet_entries,
+      h.placed_entries,
       h.firsts,
     )
 
@@ -137,9 +137,9 @@ pub first-few : (j : Job) (order : List ℕ) → (first_state (planner_of j) ord
 unfolding first_state
 first-few j order = omega arith
 
-pub first-sheet : (j : Job) (w : Rooms) → numbers_lie (entries_for (planner_of j).bounds (planner_of j).sheet) (first_rooms (planner_of j) w).sheet-entries ≡ true
+pub first-sheet : (j : Job) (w : Rooms) → numbers_lie (entries_for (planner_of j).bounds (planner_of j).sheet) (first_rooms (planner_of j) w).sheet_entries ≡ true
 unfolding first_rooms
-first-sheet j w = numbers-laid (entries_for (planner_of j).bounds (planner_of j).sheet) (zeros 0 w.sheet-entries)
+first-sheet j w = numbers-laid (entries_for (planner_of j).bounds (planner_of j).sheet) (zeros 0 w.sheet_entries)
 
 pub first-placed : (j : Job) (z : Sized j) (order : List ℕ) → length order ≡ j.copies → (room : List ℕ) → numbers_lie
     (entries_for (planner_of j).bounds (standing_strips (planner_of j) (standing_of (first_state (planner_of j) order)))) room ≡ true
@@ -163,12 +163,12 @@ own_start j z b order l v =
     record {
       kept = first-kept j z order l v;
       fine = first_fine j z b order n;
-      order-kept = first-order j z order n;
+      order_kept = first-order j z order n;
       few = first-few j order;
       counts = first-counts j z l.rooms (prepared-few (planner_of j) l.rooms (begun j order l v).prepared);
       parts = first-parts j z l.rooms;
-      sheet-entries = first-sheet j l.rooms;
-      placed-entries = first-placed j z order n (first_rooms (planner_of j) l.rooms).placed-entries;
+      sheet_entries = first-sheet j l.rooms;
+      placed_entries = first-placed j z order n (first_rooms (planner_of j) l.rooms).placed_entries;
       firsts = first_firsts j order l.rooms (first_rooms (planner_of j) l.rooms) refl refl;
       stands = first_passes j z order n (Stands j);
       reaches = first_passes j z order n (Reaches (planner_of j));

@@ -216,7 +216,7 @@ module _ (f : Shape → List Float) where
 
 parts_are : (ss : List Shape) (a b i : ℕ) (d : Part) → i < length ss
     → get_or (parts_from a b ss) i d
-    ≡ record { apart-start = starts (λ s. s.apart) a ss i; apart-count = capacity (get_or ss i no_shape).apart; inset-start = starts (λ s. s.inset) b ss i; inset-count = capacity (get_or ss i no_shape).inset }
+    ≡ record { apart_start = starts (λ s. s.apart) a ss i; apart_count = capacity (get_or ss i no_shape).apart; inset_start = starts (λ s. s.inset) b ss i; inset_count = capacity (get_or ss i no_shape).inset }
 unfolding parts_from starts
 parts_are [] a b i d h = absurd (omega arith)
 parts_are (s ∷ ss) a b zero d h = refl
@@ -228,11 +228,11 @@ parts-length [] a b = refl
 parts-length (s ∷ ss) a b = ap suc (parts-length ss (a + capacity s.apart) (b + capacity s.inset))
 
 no_part : Part
-no_part = record { apart-start = 0; apart-count = 0; inset-start = 0; inset-count = 0 }
+no_part = record { apart_start = 0; apart_count = 0; inset_start = 0; inset_count = 0 }
 
 pub part_slot : (ss : List Shape) (i : ℕ) → i < length ss
     → part_at (flat_parts (parts_from 0 0 ss)) i
-    ≡ record { apart-start = starts (λ s. s.apart) 0 ss i; apart-count = capacity (get_or ss i no_shape).apart; inset-start = starts (λ s. s.inset) 0 ss i; inset-count = capacity (get_or ss i no_shape).inset }
+    ≡ record { apart_start = starts (λ s. s.apart) 0 ss i; apart_count = capacity (get_or ss i no_shape).apart; inset_start = starts (λ s. s.inset) 0 ss i; inset_count = capacity (get_or ss i no_shape).inset }
 part_slot ss i h = let l = parts-length ss 0 0 in parts_at (parts_from 0 0 ss) i no_part (omega arith) ∙ parts_are ss 0 0 i no_part h
 
 -- ---- tables

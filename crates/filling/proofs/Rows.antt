@@ -41,23 +41,23 @@ module _ (R : Relation) where
   table-set (and_kind g r) zero ts fss h = and_kind h r
   table-set (and_kind g r) (suc k) ts fss h = and_kind g (table-set r k ts fss h)
 
-  fresh_row : ((s : Shape) → R s (record { next-column = column 0; look_count = 0 }) []) → (ss : List Shape) → Row R ss (map (λ s. record { next-column = column 0; look_count = 0 }) ss) (map (λ s. []) ss)
+  fresh_row : ((s : Shape) → R s (record { next_column = column 0; look_count = 0 }) []) → (ss : List Shape) → Row R ss (map (λ s. record { next_column = column 0; look_count = 0 }) ss) (map (λ s. []) ss)
   fresh_row f [] = no_more
   fresh_row f (s ∷ ss) = and_more (f s) (fresh_row f ss)
 
-  pub fresh_table : ((s : Shape) → R s (record { next-column = column 0; look_count = 0 }) []) → (sss : List (List Shape)) → Table R sss (map (map (λ s. record { next-column = column 0; look_count = 0 })) sss) (map (map (λ s. [])) sss)
+  pub fresh_table : ((s : Shape) → R s (record { next_column = column 0; look_count = 0 }) []) → (sss : List (List Shape)) → Table R sss (map (map (λ s. record { next_column = column 0; look_count = 0 })) sss) (map (map (λ s. [])) sss)
   fresh_table f [] = no_kind
   fresh_table f (ss ∷ sss) = and_kind (fresh_row f ss) (fresh_table f sss)
 
 -- a kind's orientations are searched
 module _ (p : Planner) (st : List Float) (R Q : Relation) where
-  pub same-found : ((s : Shape) (t : Track) (fs : List Found) → R s t fs → search p st s t.next-column ≡ plain_search p st s)
+  pub same-found : ((s : Shape) (t : Track) (fs : List Found) → R s t fs → search p st s t.next_column ≡ plain_search p st s)
       → {ss : List Shape} {ts : List Track} {fss : List (List Found)} → Row R ss ts fss → search_all p st ss ts ≡ map (plain_search p st) ss
   unfolding search_all
   same-found f no_more = refl
   same-found f (and_more {s = s} {t = t} {fs = fs} h k) = ap₂ ◌∷◌ (f s t fs h) (same-found f k)
 
-  pub row_searched : ((s : Shape) (t : Track) (fs : List Found) → R s t fs → Q s (searched p s t (search p st s t.next-column)) (plain_searched p st s fs))
+  pub row_searched : ((s : Shape) (t : Track) (fs : List Found) → R s t fs → Q s (searched p s t (search p st s t.next_column)) (plain_searched p st s fs))
       → {ss : List Shape} {ts : List Track} {fss : List (List Found)} → Row R ss ts fss → Row Q ss (searched_all p ss ts (search_all p st ss ts)) (plain_searched_all p st ss fss)
   unfolding search_all searched_all plain_searched_all
   row_searched f no_more = no_more

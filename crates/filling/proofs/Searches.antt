@@ -72,11 +72,11 @@ module _ (p : Planner) (st : List Float) (s : Shape) where
 
   -- what an orientation's track says of the standing strips, and of the plain planner's searches
   pub data Fit (t : Track) (fs : List Found) : Type 0 where
-    fresh : t.next-column ≡ column 0 → t.look_count ≡ 0 → fs ≡ [] → Fit t fs
-    closed : reversed_for p s ≡ true → t.next-column ≡ none → t.look_count ≡ 0 → fs ≡ [] → Fit t fs
-    reached : (c : ℕ) (y g : Float) (gs : List Found) → reversed_for p s ≡ false → c ≤ last_of p s → Fulls c → t.next-column ≡ column c → fs ≡ at c y g ∷ gs →
+    fresh : t.next_column ≡ column 0 → t.look_count ≡ 0 → fs ≡ [] → Fit t fs
+    closed : reversed_for p s ≡ true → t.next_column ≡ none → t.look_count ≡ 0 → fs ≡ [] → Fit t fs
+    reached : (c : ℕ) (y g : Float) (gs : List Found) → reversed_for p s ≡ false → c ≤ last_of p s → Fulls c → t.next_column ≡ column c → fs ≡ at c y g ∷ gs →
         t.look_count ≡ c + finds fs → Fit t fs
-    spent : (gs : List Found) → reversed_for p s ≡ false → Fulls (suc (last_of p s)) → t.next-column ≡ none → fs ≡ nowhere ∷ gs → t.look_count ≡ suc
+    spent : (gs : List Found) → reversed_for p s ≡ false → Fulls (suc (last_of p s)) → t.next_column ≡ none → fs ≡ nowhere ∷ gs → t.look_count ≡ suc
         (last_of p s) + finds fs → Fit t fs
 
   -- from a column below which all is full the search finds what the plain planner finds
@@ -93,7 +93,7 @@ module _ (p : Planner) (st : List Float) (s : Shape) where
   all_full : reversed_for p s ≡ false → Fulls (suc (last_of p s)) → plain_search p st s ≡ nowhere
   all_full o h = plain_open o ∙ none_free (look_at p st s) (suc (last_of p s)) 0 (λ d i j. h d i (omega arith))
 
-  pub same-search : (t : Track) (fs : List Found) → Fit t fs → search p st s t.next-column ≡ plain_search p st s
+  pub same-search : (t : Track) (fs : List Found) → Fit t fs → search p st s t.next_column ≡ plain_search p st s
   unfolding search
   same-search t fs (fresh m n e) = ap (search p st s) m ∙ go (either (reversed_for p s))
     where
@@ -109,17 +109,17 @@ module _ (p : Planner) (st : List Float) (s : Shape) where
   yields (at d y g) = inr (d, y, g, refl)
 
   -- a search from a column below which all is full
-  from_open : (t : Track) (fs : List Found) (c : ℕ) → reversed_for p s ≡ false → c ≤ last_of p s → Fulls c → t.next-column ≡ column c → t.look_count ≡ c + finds
+  from_open : (t : Track) (fs : List Found) (c : ℕ) → reversed_for p s ≡ false → c ≤ last_of p s → Fulls c → t.next_column ≡ column c → t.look_count ≡ c + finds
       fs
-      → Fit (searched p s t (search p st s t.next-column)) (plain_searched p st s fs)
+      → Fit (searched p s t (search p st s t.next_column)) (plain_searched p st s fs)
   unfolding searched remembered columns_from finds
-  from_open t fs c o l h m n = go (yields (search p st s t.next-column))
+  from_open t fs c o l h m n = go (yields (search p st s t.next_column))
     where
       last : ℕ
       last = last_of p s
 
       f : Found
-      f = search p st s t.next-column
+      f = search p st s t.next_column
 
       found : f ≡ first_free (look_at p st s) (suc last - c) c
       found = ap (search p st s) m ∙ search_open c o
@@ -130,7 +130,7 @@ module _ (p : Planner) (st : List Float) (s : Shape) where
       searches : plain_searched p st s fs ≡ f ∷ fs
       searches = searched_open fs o ∙ ap (λ g. g ∷ fs) plain
 
-      looks_f : looks p s t.next-column f ≡ columns_from c last f
+      looks_f : looks p s t.next_column f ≡ columns_from c last f
       looks_f = ap (λ k. looks p s k f) m ∙ looks_open c f o
 
       go : (f ≡ nowhere) ⊎ ((d : ℕ) × (y : Float) × (g : Float) × (f ≡ at d y g)) → Fit (searched p s t f) (plain_searched p st s fs)
@@ -142,9 +142,9 @@ module _ (p : Planner) (st : List Float) (s : Shape) where
           fulls : Fulls (suc last)
           fulls d i j = join (look_at p st s) c (suc last) h (λ d' i' j'. rest d' i' (omega arith)) d i j
 
-          count : t.look_count + length (looks p s t.next-column f) ≡ suc last + finds (plain_searched p st s fs)
+          count : t.look_count + length (looks p s t.next_column f) ≡ suc last + finds (plain_searched p st s fs)
           count =
-              let a : length (looks p s t.next-column f) ≡ suc last - c = ap length (looks_f ∙ ap (columns_from c last) e) ∙ length-up_from (suc last - c) c in
+              let a : length (looks p s t.next_column f) ≡ suc last - c = ap length (looks_f ∙ ap (columns_from c last) e) ∙ length-up_from (suc last - c) c in
               let b : finds (plain_searched p st s fs) ≡ finds fs = ap finds (searches ∙ ap (λ g. g ∷ fs) e) in
               omega arith
       go (inr e) = reached e.0 e.1 e.2 fs o within fulls (ap remembered e.3) (searches ∙ ap (λ g. g ∷ fs) e.3) count
@@ -158,33 +158,33 @@ module _ (p : Planner) (st : List Float) (s : Shape) where
           within : e.0 ≤ last
           within = let i = place.before in omega arith
 
-          count : t.look_count + length (looks p s t.next-column f) ≡ e.0 + finds (plain_searched p st s fs)
+          count : t.look_count + length (looks p s t.next_column f) ≡ e.0 + finds (plain_searched p st s fs)
           count =
               let i = place.from in
-              let a : length (looks p s t.next-column f) ≡ suc e.0 - c = ap length (looks_f ∙ ap (columns_from c last) e.3) ∙ length-up_from
+              let a : length (looks p s t.next_column f) ≡ suc e.0 - c = ap length (looks_f ∙ ap (columns_from c last) e.3) ∙ length-up_from
               (suc e.0 - c) c in
               let b : finds (plain_searched p st s fs) ≡ suc (finds fs) = ap finds (searches ∙ ap (λ g. g ∷ fs) e.3) in
               omega arith
 
-  pub fit-searched : (t : Track) (fs : List Found) → Fit t fs → Fit (searched p s t (search p st s t.next-column)) (plain_searched p st s fs)
+  pub fit-searched : (t : Track) (fs : List Found) → Fit t fs → Fit (searched p s t (search p st s t.next_column)) (plain_searched p st s fs)
   unfolding searched remembered looks search finds
   fit-searched t fs (fresh m n e) = go (either (reversed_for p s))
     where
-      go : (reversed_for p s ≡ true) ⊎ (reversed_for p s ≡ false) → Fit (searched p s t (search p st s t.next-column)) (plain_searched p st s fs)
+      go : (reversed_for p s ≡ true) ⊎ (reversed_for p s ≡ false) → Fit (searched p s t (search p st s t.next_column)) (plain_searched p st s fs)
       go (inl o) =
           let f = ap (search p st s) m ∙ search-reversed 0 o in
-          let a : length (looks p s t.next-column (search p st s t.next-column)) ≡ 0 = ap (λ k. length (looks p s k (search p st s t.next-column))) m ∙
-          ap length (looks-reversed 0 (search p st s t.next-column) o) in
+          let a : length (looks p s t.next_column (search p st s t.next_column)) ≡ 0 = ap (λ k. length (looks p s k (search p st s t.next_column))) m ∙
+          ap length (looks-reversed 0 (search p st s t.next_column) o) in
           closed o (ap remembered f) (omega arith) (searched-reversed fs o ∙ e)
       go (inr o) =
           let z : finds fs ≡ 0 = ap finds e in
           from_open t fs 0 o (omega arith) (λ d i j. absurd (omega arith)) m (omega arith)
   fit-searched t fs (closed o m n e) =
-      let a : length (looks p s t.next-column (search p st s t.next-column)) ≡ 0 = ap (λ k. length (looks p s k (search p st s t.next-column))) m in
+      let a : length (looks p s t.next_column (search p st s t.next_column)) ≡ 0 = ap (λ k. length (looks p s k (search p st s t.next_column))) m in
       closed o (ap (λ k. remembered (search p st s k)) m) (omega arith) (searched-reversed fs o ∙ e)
   fit-searched t fs (reached c y g gs o l h m e n) = from_open t fs c o l h m n
   fit-searched t fs (spent gs o h m e n) =
-      let a : length (looks p s t.next-column (search p st s t.next-column)) ≡ 0 = ap (λ k. length (looks p s k (search p st s t.next-column))) m in
+      let a : length (looks p s t.next_column (search p st s t.next_column)) ≡ 0 = ap (λ k. length (looks p s k (search p st s t.next_column))) m in
       let z : plain_searched p st s fs ≡ nowhere ∷ fs = searched_open fs o ∙ ap (λ g. g ∷ fs) (all_full o h) in
       let b : finds (plain_searched p st s fs) ≡ finds fs = ap finds z in
       spent fs o h (ap (λ k. remembered (search p st s k)) m) z (omega arith)

@@ -212,9 +212,9 @@ module _ (j : Job) (z : Sized j) (s : State) (w : Rooms) (h : Linked j s w) (k :
   unfolding to_come copies_from
   to_come_is = ap (copies_from s.taken) e
 
-  kinds-few : length (orientation_counts j) ≤ 64
+  kinds_few : length (orientation_counts j) ≤ 64
   unfolding orientation_counts
-  kinds-few = let a = z.kinds in simp length-map (omega arith)
+  kinds_few = let a = z.kinds in simp length-map (omega arith)
 
   module _ (ts : List Track) (lts : length ts ≡ get_or (orientation_counts j) k 0) (strips out : ℕ) (x y gap area right : Float) where
     abbrev New : State
@@ -226,7 +226,7 @@ module _ (j : Job) (z : Sized j) (s : State) (w : Rooms) (h : Linked j s w) (k :
 
     tracks_now : tracks_of j New ≡ set (tracks_of j s) k ts
     unfolding tracks_of state_with
-    tracks_now = tracks_write s.next_column s.look_counts k (orientation_counts j) ts z.turns kinds-few h.next-columns h.look_counts lts
+    tracks_now = tracks_write s.next_column s.look_counts k (orientation_counts j) ts z.turns kinds_few h.next-columns h.look_counts lts
 
     copy_now : copy_at New s.taken ≡ Next
     unfolding copy_at state_with
@@ -246,7 +246,7 @@ module _ (j : Job) (z : Sized j) (s : State) (w : Rooms) (h : Linked j s w) (k :
           xs = length-set s.layout.x s.taken x ∙ h.xs;
           ys = length-set s.layout.y s.taken y ∙ h.ys;
           gaps = length-set s.layout.gap s.taken gap ∙ h.gaps;
-          next-columns = length-sets s.next_column (16 * k) (map (λ t. remembered_number t.next-column) ts) ∙ h.next-columns;
+          next-columns = length-sets s.next_column (16 * k) (map (λ t. remembered_number t.next_column) ts) ∙ h.next-columns;
           look_counts = length-sets s.look_counts (16 * k) (map (λ t. t.look_count) ts) ∙ h.look_counts;
         }
 

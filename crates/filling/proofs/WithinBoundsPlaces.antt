@@ -276,13 +276,13 @@ unfolding ranges_of reversed_for look_at intervals_at
 place-small p s R P S x y g Y =
     let W = ranges_spread p.bounds s.bounds P S in
     let r = ranges p.bounds s.bounds in
-    let c = column_at p.resolution r Y.column-number in
+    let c = column_at p.resolution r Y.column_number in
     let is = counted_in c r.y_low r.y_high s.inset s.apart p.sheet Y.standing in
     let F = counted-fits c r.y_low r.y_high s.inset s.apart p.sheet Y.standing in
     let h = height_between r.y_low r.y_high (finite W.y_low.num) (finite W.y_high.num) is F y g Y.freed in
     let Q : Upto 200000 y = record { at_least = a (k r.y_low) (k y) (200000 * u) W.y_low.bound.at_least h.1; at_most = b (k r.y_high) (k y) (200000 * u) W.y_high.bound.at_most h.2 } in
     let G = clear-between r.y_high y (finite W.y_high.num) (finite h.0) h.2 is F 200000 W.y_high.bound Q (lit≤ tt) in (
-      subst (λ (v : Float). Small 610000 v) (sym Y.x_is) (column-small p.resolution r R W Y.opened Y.column-number),
+      subst (λ (v : Float). Small 610000 v) (sym Y.x_is) (column-small p.resolution r R W Y.opened Y.column_number),
       record { num = h.0; bound = Q },
       subst (λ (v : Float). Small 400000 v) (sym h.3) G.0,
       subst (λ (v : Float). o ≤ k v) (sym h.3) G.1,

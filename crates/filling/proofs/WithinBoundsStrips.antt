@@ -135,9 +135,9 @@ flat-numbers n m (s ∷ l) h =
 own_numbers : (l : List Trapezoid) → All Good l → All Number (flat l)
 own_numbers l h = flat-numbers 100000 300000 l (all_more Good (Sized 100000 300000) (λ s G. G.sizes) l h)
 
-moved-numbers : (x y : Float) → Small 610000 x → Small 200000 y → (l : List Trapezoid) → All Good l → All Number (moved_strips (flat l) x y)
+moved_numbers : (x y : Float) → Small 610000 x → Small 200000 y → (l : List Trapezoid) → All Good l → All Number (moved_strips (flat l) x y)
 unfolding moved_strips
-moved-numbers x y X Y l h =
+moved_numbers x y X Y l h =
     flat-numbers (100000 + 610000) (300000 + 200000) (map (λ i. moved_by (strip_at (flat l) i) x y) (up_from (capacity (flat l)) 0))
     (all_up_from (Sized (100000 + 610000) (300000 + 200000)) (λ i. moved_by (strip_at (flat l) i) x y) (capacity (flat l)) 0
     (λ i b. moved-sized (strip_at (flat l) i) (good_at l h i (let e = capacity-flat l in omega arith)).sizes X Y (lit≤ tt) (lit≤ tt)))
@@ -174,7 +174,7 @@ module _ (s : Set) (m : ℕ) (G : Sets.Good s m) where
 
   set-moved-numbers : (sheet : Bool) (x y : Float) → Small 610000 x → Small 200000 y → All Number (moved_strips (set_strips sheet s) x y)
   unfolding set_strips
-  set-moved-numbers sheet x y X Y = moved-numbers x y X Y (trapezoids s.points (length s.points / 2) s.ends sheet) (set-good sheet)
+  set-moved-numbers sheet x y X Y = moved_numbers x y X Y (trapezoids s.points (length s.points / 2) s.ends sheet) (set-good sheet)
 
   pub set-moved : (sheet : Bool) (x y : Float) → Small 610000 x → Small 200000 y → strips_fit (moved_strips (set_strips sheet s) x y) ≡ true
   unfolding set_strips
@@ -195,9 +195,9 @@ frame-fits b F = rw (
 pub record FineShape (s : Shape) : Type 0 where
   pub frame : Framed s.bounds
   pub moved : (x y : Float) → Small 610000 x → Small 200000 y → strips_fit (moved_strips s.apart x y) ≡ true
-  pub apart-numbers : All Number s.apart
-  pub inset-numbers : All Number s.inset
-  pub moved-numbers : (x y : Float) → Small 610000 x → Small 200000 y → All Number (moved_strips s.apart x y)
+  pub apart_numbers : All Number s.apart
+  pub inset_numbers : All Number s.inset
+  pub moved_numbers : (x y : Float) → Small 610000 x → Small 200000 y → All Number (moved_strips s.apart x y)
 
 pub shape_fine : (f : Frame) (t : Orientation) → GoodSets t → FineShape (shape_for f t)
 unfolding shape_for
@@ -207,9 +207,9 @@ shape_fine f t G =
     record {
       frame = set-framed (framed f t.inset) G.inset_points i;
       moved = set-moved (framed f t.apart) G.apart_points a false;
-      apart-numbers = set-numbers (framed f t.apart) G.apart_points a false;
-      inset-numbers = set-numbers (framed f t.inset) G.inset_points i false;
-      moved-numbers = set-moved-numbers (framed f t.apart) G.apart_points a false;
+      apart_numbers = set-numbers (framed f t.apart) G.apart_points a false;
+      inset_numbers = set-numbers (framed f t.inset) G.inset_points i false;
+      moved_numbers = set-moved-numbers (framed f t.apart) G.apart_points a false;
     }
 
 pub shape_fits_lem : (f : Frame) (t : Orientation) → GoodSets t → shape_fits (shape_for f t) ≡ true
@@ -233,7 +233,7 @@ lacking_fine =
     record {
       frame = record { left = zero_side; bottom = zero_side; right = zero_side; top = zero_side };
       moved = λ x y X Y. strips-moved x y X Y [] tt;
-      apart-numbers = tt;
-      inset-numbers = tt;
-      moved-numbers = λ x y X Y. moved-numbers x y X Y [] tt;
+      apart_numbers = tt;
+      inset_numbers = tt;
+      moved_numbers = λ x y X Y. moved_numbers x y X Y [] tt;
     }

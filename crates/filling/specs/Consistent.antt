@@ -56,7 +56,7 @@ strip_counts_fit t placed w =
 
 -- an orientation's strips lie within the two parts of the shapes room
 unfoldable pub part_fits : ℕ → ℕ → Part → Bool
-part_fits apart inset q = leb (q.apart-start + q.apart-count) apart && leb (q.inset-start + q.inset-count) inset
+part_fits apart inset q = leb (q.apart_start + q.apart_count) apart && leb (q.inset_start + q.inset_count) inset
 
 -- the same of every orientation of the job; unused slots are not looked at
 unfoldable pub parts_fit : Job → Tables → Rooms → Bool
@@ -73,7 +73,7 @@ column_fits last (column c) = leb c last
 
 -- its look count: a column looked at again for each copy taken, and each column once
 unfoldable pub track_fits : ℕ → ℕ → Track → Bool
-track_fits taken last t = column_fits last t.next-column && leb t.look_count (suc last + taken)
+track_fits taken last t = column_fits last t.next_column && leb t.look_count (suc last + taken)
 
 -- the orientations of a kind
 unfoldable pub tracks_fit : Planner → ℕ → List Shape → List Track → Bool
@@ -139,7 +139,7 @@ entries_for b strips = entries_of (sheet_index b) strips (capacity strips)
 -- "entries that are not those of the standing strips", sheet and placed
 unfoldable pub entries_fit : Planner → Rooms → List Float → Bool
 entries_fit p w standing =
-    numbers_lie (entries_for p.bounds p.sheet) w.sheet-entries && numbers_lie (entries_for p.bounds standing) w.placed-entries
+    numbers_lie (entries_for p.bounds p.sheet) w.sheet_entries && numbers_lie (entries_for p.bounds standing) w.placed_entries
 
 -- ---- document 02, W4: the standing copies
 

@@ -23,10 +23,10 @@ shape_verdict bytes k o = shape_given (read_job bytes) k o
 
 -- where the strips of one orientation lie, by its part of the table and the flag
 unfoldable pub part_in : Bool → Part → List Float → List Float → List Float
-part_in is-inset q apart inset =
-    cond is-inset (part_of inset q.inset-start q.inset-count) (part_of apart q.apart-start q.apart-count)
+part_in is_inset q apart inset =
+    cond is_inset (part_of inset q.inset_start q.inset_count) (part_of apart q.apart_start q.apart_count)
 
 -- the public operation `strips_by_kind`, with the table of parts that a start leaves; "9 hands back an empty part"
 unfoldable pub strips_by_kind : List ℕ → List ℕ → List Float → List Float → ℕ → ℕ → Bool → List Float
-strips_by_kind bytes parts apart inset k o is-inset =
-    cond (is_refused (shape_verdict bytes k o)) [] (part_in is-inset (part_at parts (16 * k + o)) apart inset)
+strips_by_kind bytes parts apart inset k o is_inset =
+    cond (is_refused (shape_verdict bytes k o)) [] (part_in is_inset (part_at parts (16 * k + o)) apart inset)

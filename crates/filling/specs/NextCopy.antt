@@ -27,7 +27,7 @@ interval_counts p standing [] ts fs = []
 interval_counts p standing (s ∷ ss) [] fs = []
 interval_counts p standing (s ∷ ss) (t ∷ ts) [] = []
 interval_counts p standing (s ∷ ss) (t ∷ ts) (f ∷ fs) =
-    map (λ c. length (intervals_at p standing s c)) (looks p s t.next-column f) ++ interval_counts p standing ss ts fs
+    map (λ c. length (intervals_at p standing s c)) (looks p s t.next_column f) ++ interval_counts p standing ss ts fs
 
 -- one of the numbers is above the room
 unfoldable pub any_above : ℕ → List ℕ → Bool
@@ -44,7 +44,7 @@ new_strips p k c = moved_strips (shape_of p k c.orientation).apart c.x c.y
 unfoldable pub store_verdict : Planner → Rooms → List Float → Verdict
 store_verdict p w strips =
     refuse_if (ltb (standing_capacity w.placed w.placed_firsts) (capacity strips)) Why.StripRoom
-    (refuse_if (ltb (length w.placed-entries) (length (entries_for p.bounds strips))) Why.EntryRoom Accepted)
+    (refuse_if (ltb (length w.placed_entries) (length (entries_for p.bounds strips))) Why.EntryRoom Accepted)
 
 -- a copy without a place stores nothing
 unfoldable pub winner_verdict : Planner → Rooms → ℕ → List Float → List Choice → Verdict
@@ -78,7 +78,7 @@ state_with s k ts strips layout =
       tables = s.tables;
       order = s.order;
       taken = suc s.taken;
-      next_column = sets s.next_column (16 * k) (map (λ t. remembered_number t.next-column) ts);
+      next_column = sets s.next_column (16 * k) (map (λ t. remembered_number t.next_column) ts);
       look_counts = sets s.look_counts (16 * k) (map (λ t. t.look_count) ts);
       placed_strips = strips;
       layout = layout;
@@ -104,8 +104,8 @@ stored p w strips =
       shapes = w.shapes;
       sheet = w.sheet;
       placed = laid strips w.placed;
-      sheet-entries = w.sheet-entries;
-      placed-entries = laid (entries_for p.bounds strips) w.placed-entries;
+      sheet_entries = w.sheet_entries;
+      placed_entries = laid (entries_for p.bounds strips) w.placed_entries;
       sheet_firsts = w.sheet_firsts;
       placed_firsts = laid (firsts_for p.bounds strips) w.placed_firsts;
     }

@@ -46,7 +46,7 @@ position_line j l = record { holds = ltb (position_capacity l.positions) j.copie
 unfoldable pub prepare_lines : Planner → Rooms → List Line
 prepare_lines p w =
     record { holds = ltb (standing_capacity w.sheet w.sheet_firsts) (capacity p.sheet); refusal = Why.StripRoom }
-    ∷ record { holds = ltb (length w.sheet-entries) (length (entries_for p.bounds p.sheet)); refusal = Why.EntryRoom }
+    ∷ record { holds = ltb (length w.sheet_entries) (length (entries_for p.bounds p.sheet)); refusal = Why.EntryRoom }
     ∷ record { holds = ltb (capacity w.shapes) (capacity (apart_strips_of p ++ inset_strips p)); refusal = Why.StripRoom }
     ∷ []
 
@@ -64,7 +64,7 @@ copy_lines p w iv k st ss ts fs (a ∷ as') =
     let strips = st ++ new_strips p k (best a as') in
     record { holds = any_above (interval_capacity iv) (interval_counts p st ss ts fs); refusal = Why.IntervalRoom }
     ∷ record { holds = ltb (standing_capacity w.placed w.placed_firsts) (capacity strips); refusal = Why.StripRoom }
-    ∷ record { holds = ltb (length w.placed-entries) (length (entries_for p.bounds strips)); refusal = Why.EntryRoom }
+    ∷ record { holds = ltb (length w.placed_entries) (length (entries_for p.bounds strips)); refusal = Why.EntryRoom }
     ∷ []
 
 -- 23 where the order is used up: "next copy asked for, order used up"

@@ -8,8 +8,8 @@ pub record Rooms : Type 0 where
   pub shapes : List Float
   pub sheet : List Float
   pub placed : List Float
-  pub sheet-entries : List ℕ
-  pub placed-entries : List ℕ
+  pub sheet_entries : List ℕ
+  pub placed_entries : List ℕ
   pub sheet_firsts : List ℕ
   pub placed_firsts : List ℕ
 
@@ -21,22 +21,22 @@ pub record Lent : Type 0 where
 
 -- the rooms of strips, entries and bucket numbers with these contents
 abbrev pub rooms_of : List Float → List Float → List Float → List ℕ → List ℕ → List ℕ → List ℕ → Rooms
-rooms_of shapes sheet placed sheet-entries placed-entries sheet_firsts placed_firsts =
+rooms_of shapes sheet placed sheet_entries placed_entries sheet_firsts placed_firsts =
     record {
       shapes = shapes;
       sheet = sheet;
       placed = placed;
-      sheet-entries = sheet-entries;
-      placed-entries = placed-entries;
+      sheet_entries = sheet_entries;
+      placed_entries = placed_entries;
       sheet_firsts = sheet_firsts;
       placed_firsts = placed_firsts;
     }
 
 -- all nine rooms with these contents
 abbrev pub lent_of : List Float → List Float → List Float → List ℕ → List ℕ → List ℕ → List ℕ → List Float → List Float → Lent
-lent_of shapes sheet placed sheet-entries placed-entries sheet_firsts placed_firsts intervals positions =
+lent_of shapes sheet placed sheet_entries placed_entries sheet_firsts placed_firsts intervals positions =
     record {
-      rooms = rooms_of shapes sheet placed sheet-entries placed-entries sheet_firsts placed_firsts;
+      rooms = rooms_of shapes sheet placed sheet_entries placed_entries sheet_firsts placed_firsts;
       intervals = intervals;
       positions = positions;
     }
@@ -64,8 +64,8 @@ zero_rooms w =
       shapes = zeros pos_zero w.shapes;
       sheet = zeros pos_zero w.sheet;
       placed = zeros pos_zero w.placed;
-      sheet-entries = zeros 0 w.sheet-entries;
-      placed-entries = zeros 0 w.placed-entries;
+      sheet_entries = zeros 0 w.sheet_entries;
+      placed_entries = zeros 0 w.placed_entries;
       sheet_firsts = zeros 0 w.sheet_firsts;
       placed_firsts = zeros 0 w.placed_firsts;
     }

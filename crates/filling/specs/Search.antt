@@ -73,12 +73,12 @@ looks p s (column c) f = elim (reversed_for p s) [ true ↦ [] | false ↦ colum
 
 -- what is kept of an orientation: its remembered column and its look count
 pub record Track : Type 0 where
-  pub next-column : Remembered
+  pub next_column : Remembered
   pub look_count : ℕ
 
 -- "one column step answers each look and adds one to its orientation's look count, which nothing else in a filling changes"
 unfoldable pub searched : Planner → Shape → Track → Found → Track
-searched p s t f = record { next-column = remembered f; look_count = t.look_count + length (looks p s t.next-column f) }
+searched p s t f = record { next_column = remembered f; look_count = t.look_count + length (looks p s t.next_column f) }
 
 -- ---- every orientation of a kind is searched
 
@@ -86,7 +86,7 @@ searched p s t f = record { next-column = remembered f; look_count = t.look_coun
 unfoldable pub search_all : Planner → List Float → List Shape → List Track → List Found
 search_all p standing [] ts = []
 search_all p standing (s ∷ ss) [] = []
-search_all p standing (s ∷ ss) (t ∷ ts) = search p standing s t.next-column ∷ search_all p standing ss ts
+search_all p standing (s ∷ ss) (t ∷ ts) = search p standing s t.next_column ∷ search_all p standing ss ts
 
 -- their tracks after it
 unfoldable pub searched_all : Planner → List Shape → List Track → List Found → List Track

@@ -34,7 +34,7 @@ parts_from a b [] = []
 parts_from a b (s ∷ ss) =
     let m = capacity s.apart in
     let n = capacity s.inset in
-    record { apart-start = a; apart-count = m; inset-start = b; inset-count = n } ∷ parts_from (a + m) (b + n) ss
+    record { apart_start = a; apart_count = m; inset_start = b; inset_count = n } ∷ parts_from (a + m) (b + n) ss
 
 -- the tables that a start prepares
 unfoldable pub tables_of : Planner → Tables
@@ -68,8 +68,8 @@ first_rooms p w =
       shapes = laid (apart_strips_of p ++ inset_strips p) (zeros pos_zero w.shapes);
       sheet = laid p.sheet (zeros pos_zero w.sheet);
       placed = zeros pos_zero w.placed;
-      sheet-entries = laid (entries_for p.bounds p.sheet) (zeros 0 w.sheet-entries);
-      placed-entries = zeros 0 w.placed-entries;
+      sheet_entries = laid (entries_for p.bounds p.sheet) (zeros 0 w.sheet_entries);
+      placed_entries = zeros 0 w.placed_entries;
       sheet_firsts = laid (firsts_for p.bounds p.sheet) (zeros 0 w.sheet_firsts);
       placed_firsts = zeros 0 w.placed_firsts;
     }
@@ -80,7 +80,7 @@ first_rooms p w =
 unfoldable pub prepare_verdict : Planner → Rooms → Verdict
 prepare_verdict p w =
     refuse_if (ltb (standing_capacity w.sheet w.sheet_firsts) (capacity p.sheet)) Why.StripRoom
-    (refuse_if (ltb (length w.sheet-entries) (length (entries_for p.bounds p.sheet))) Why.EntryRoom
+    (refuse_if (ltb (length w.sheet_entries) (length (entries_for p.bounds p.sheet))) Why.EntryRoom
     (refuse_if (ltb (capacity w.shapes) (capacity (apart_strips_of p ++ inset_strips p))) Why.StripRoom
     Accepted))
 

@@ -37,20 +37,20 @@ slot_rows f k (n ∷ ns) = map (λ o. f (16 * k + o)) (up_from n 0) ∷ slot_row
 
 -- an orientation's first strip and number of strips, apart and inset
 pub record Part : Type 0 where
-  pub apart-start : ℕ
-  pub apart-count : ℕ
-  pub inset-start : ℕ
-  pub inset-count : ℕ
+  pub apart_start : ℕ
+  pub apart_count : ℕ
+  pub inset_start : ℕ
+  pub inset_count : ℕ
 
 -- four numbers to a slot
 unfoldable pub flat_parts : List Part → List ℕ
 flat_parts [] = []
-flat_parts (q ∷ qs) = q.apart-start ∷ q.apart-count ∷ q.inset-start ∷ q.inset-count ∷ flat_parts qs
+flat_parts (q ∷ qs) = q.apart_start ∷ q.apart_count ∷ q.inset_start ∷ q.inset_count ∷ flat_parts qs
 
 -- the part of slot i
 unfoldable pub part_at : List ℕ → ℕ → Part
 part_at t i =
-    record { apart-start = get_or t (4 * i) 0; apart-count = get_or t (4 * i + 1) 0; inset-start = get_or t (4 * i + 2) 0; inset-count = get_or t (4 * i + 3) 0 }
+    record { apart_start = get_or t (4 * i) 0; apart_count = get_or t (4 * i + 1) 0; inset_start = get_or t (4 * i + 2) 0; inset_count = get_or t (4 * i + 3) 0 }
 
 -- four numbers to a slot: b0 to b3
 unfoldable pub flat_bounds : List Rect → List Float
@@ -74,8 +74,8 @@ unfoldable pub shape_at : Tables → List Float → ℕ → Shape
 shape_at t room i =
     let q = part_at t.parts i in
     record {
-      apart = part_of (apart_room t room) q.apart-start q.apart-count;
-      inset = part_of (inset_room t room) q.inset-start q.inset-count;
+      apart = part_of (apart_room t room) q.apart_start q.apart_count;
+      inset = part_of (inset_room t room) q.inset_start q.inset_count;
       bounds = bounds_at t.inset_bounds i;
     }
 
@@ -150,7 +150,7 @@ remembered_number (column c) = suc c
 
 -- remembered column and look count of slot i
 unfoldable pub track_at : List ℕ → List ℕ → ℕ → Track
-track_at next looks i = record { next-column = remembered_of (get_or next i 0); look_count = get_or looks i 0 }
+track_at next looks i = record { next_column = remembered_of (get_or next i 0); look_count = get_or looks i 0 }
 
 -- by kind and orientation
 unfoldable pub tracks_of : Job → State → List (List Track)

@@ -68,8 +68,8 @@ rooms_without p w strips =
       shapes = w.shapes;
       sheet = w.sheet;
       placed = laid strips (zeros pos_zero w.placed);
-      sheet-entries = w.sheet-entries;
-      placed-entries = laid (entries_for p.bounds strips) (zeros 0 w.placed-entries);
+      sheet_entries = w.sheet_entries;
+      placed_entries = laid (entries_for p.bounds strips) (zeros 0 w.placed_entries);
       sheet_firsts = w.sheet_firsts;
       placed_firsts = laid (firsts_for p.bounds strips) (zeros 0 w.placed_firsts);
     }

@@ -49,8 +49,8 @@ use Rattle.filling_laws.proofs.ReadyStrips.{AllFit, take-fit, drop-fit, part-fit
 -- every float of a state and of the strip rooms is a double: so are all that code holds
 pub record InDoubles (s : State) (w : Rooms) : Type 0 where
   pub resolution : T (fits binary64 s.tables.resolution)
-  pub sheet-bounds : RectFits s.tables.sheet_bounds
-  pub inset-bounds : AllFit s.tables.inset_bounds
+  pub sheet_bounds : RectFits s.tables.sheet_bounds
+  pub inset_bounds : AllFit s.tables.inset_bounds
   pub shapes : AllFit w.shapes
   pub sheet : AllFit w.sheet
   pub placed : AllFit w.placed
@@ -200,7 +200,7 @@ module _ (j : Job) (s : State) (w : Rooms) (e : consistent j s w ≡ true) (D : 
 
   pub bounds_in : BoundedRect bounds
   unfolding planner_at
-  bounds_in = bounds_are D.sheet-bounds P.bounds
+  bounds_in = bounds_are D.sheet_bounds P.bounds
 
   pub index_fair : Fair (sheet_index bounds)
   unfolding sheet_index
@@ -229,19 +229,19 @@ module _ (j : Job) (s : State) (w : Rooms) (e : consistent j s w ≡ true) (D : 
 
     pub shape_bounds : BoundedRect (bounds_at s.tables.inset_bounds i)
     unfolding shape_fits shape_at States.bounds_at bounds_at
-    shape_bounds = bounds_are (record { left = D.inset-bounds (4 * i); bottom = D.inset-bounds (4 * i + 1); right = D.inset-bounds (4 * i + 2); top = D.inset-bounds (4 * i + 3) })
+    shape_bounds = bounds_are (record { left = D.inset_bounds (4 * i); bottom = D.inset_bounds (4 * i + 1); right = D.inset_bounds (4 * i + 2); top = D.inset_bounds (4 * i + 3) })
         (both_second (strips_fit (shape_at s.tables w.shapes i).inset) _ (both_second (strips_fit (shape_at s.tables w.shapes i).apart) _ shape_fits_lem))
 
     -- whatever stands and however large the interval room is
-    pub ready_fixed : (room : ℕ) (placed : List Float) (sheet-starts : List ℕ) → length s.tables.inset_bounds ≡ 4096 → length s.tables.parts ≡ 4096 → i < 1024
-        → Laid (sheet_index bounds) sheet (capacity sheet) w.sheet-entries sheet-starts
-        → Fixed (sheet_index bounds) (surroundings room bounds s.tables.resolution s.tables.inset_bounds s.tables.parts (apart_room s.tables w.shapes) (inset_room s.tables w.shapes) sheet placed) w.sheet-entries sheet-starts i
-    ready_fixed room placed sheet-starts a b c L =
+    pub ready_fixed : (room : ℕ) (placed : List Float) (sheet_starts : List ℕ) → length s.tables.inset_bounds ≡ 4096 → length s.tables.parts ≡ 4096 → i < 1024
+        → Laid (sheet_index bounds) sheet (capacity sheet) w.sheet_entries sheet_starts
+        → Fixed (sheet_index bounds) (surroundings room bounds s.tables.resolution s.tables.inset_bounds s.tables.parts (apart_room s.tables w.shapes) (inset_room s.tables w.shapes) sheet placed) w.sheet_entries sheet_starts i
+    ready_fixed room placed sheet_starts a b c L =
         let B = shape_bounds in
         let r = s.tables.resolution in
         record {
           index = index_fair;
-          sheet-laid = L;
+          sheet_laid = L;
           sheets = sheet_in;
           insets = inset_in;
           aparts = apart_in;
@@ -262,7 +262,7 @@ module _ (j : Job) (s : State) (w : Rooms) (e : consistent j s w ≡ true) (D : 
     ready-counts c =
         let t = slots_track p s.taken (shape_at s.tables w.shapes) (track_at s.next_column s.look_counts) (orientation_counts j) (tests_of j s w e).tracks k kind o turn in
         let last = Filling.last_of p (shape_at s.tables w.shapes i) in
-        let n = leb-true (get_or s.look_counts i 0) (suc last + s.taken) (both_second (column_fits last (track_at s.next_column s.look_counts i).next-column) _ t) in
+        let n = leb-true (get_or s.look_counts i 0) (suc last + s.taken) (both_second (column_fits last (track_at s.next_column s.look_counts i).next_column) _ t) in
         z (get_or s.look_counts i 0) last s.taken j.copies n (last-few p (shape_at s.tables w.shapes i) bounds_in shape_bounds resolution_in) (taken_upto j s w e) c
       where
         z : (n l t m : ℕ) → n ≤ suc l + t → l ≤ 4000000001 → t ≤ m → m ≤ 4096 → n + 4000000002 < 2 ^ 64
@@ -275,6 +275,6 @@ module _ (j : Job) (s : State) (w : Rooms) (e : consistent j s w ≡ true) (D : 
       let n = s.placed_strips in
       subst BoundedStrip (prefix_strip w.placed n i h) (strips_are (take (6 * n) w.placed) (take-fit (6 * n) w.placed D.placed) (tests_of j s w e).strips i (subst⁻¹ (λ (m : ℕ). i < m) (taken-strips n w.placed r) h))
 
-  pub ready-standing : (starts : List ℕ) → Laid (sheet_index bounds) w.placed s.placed_strips w.placed-entries starts
-      → Standing (sheet_index bounds) w.placed s.placed_strips w.placed-entries starts
+  pub ready-standing : (starts : List ℕ) → Laid (sheet_index bounds) w.placed s.placed_strips w.placed_entries starts
+      → Standing (sheet_index bounds) w.placed s.placed_strips w.placed_entries starts
   ready-standing starts L = record { laid = L; strips = placed_in_lem L.room }

@@ -121,13 +121,13 @@ module _ (capacity : ℕ) (xs ys : List ℕ) where
   some-rest h f = sym (ap (λ (t : Bool). t || any_above capacity ys) f) ∙ (sym (above_append capacity xs ys) ∙ h)
 
 -- ---- the orientations in turn
-module _ (p : Planner) (standing : List Float) (capacity : ℕ) (inset-bounds : List Float) (parts : List ℕ) (apart inset : List Float) (slot : ℕ) where
+module _ (p : Planner) (standing : List Float) (capacity : ℕ) (inset_bounds : List Float) (parts : List ℕ) (apart inset : List Float) (slot : ℕ) where
   abbrev pub world_of : Surroundings
-  world_of = surroundings capacity p.bounds p.resolution inset-bounds parts apart inset p.sheet standing
+  world_of = surroundings capacity p.bounds p.resolution inset_bounds parts apart inset p.sheet standing
 
   -- the shape in slot i, as the rooms and tables hold it
   abbrev pub shape_in : ℕ → Shape
-  shape_in i = record { apart = apart_part (part_at parts i) apart; inset = inset_part (part_at parts i) inset; bounds = bounds_at inset-bounds i }
+  shape_in i = record { apart = apart_part (part_at parts i) apart; inset = inset_part (part_at parts i) inset; bounds = bounds_at inset_bounds i }
 
   abbrev pub shapes_from : ℕ → ℕ → List Shape
   shapes_from n o = map (λ j. shape_in (slot + j)) (up_from n o)
@@ -164,10 +164,10 @@ module _ (p : Planner) (standing : List Float) (capacity : ℕ) (inset-bounds : 
     abbrev number : ℕ
     number = remembered_number (remembered found)
 
-    choice_is : (g : Filling.Found) (cs : List Definition.Choice) → better_of (best_of cs) (winner_of (columns_at world_of i) (bounds_at inset-bounds i) o (found_of g)) ≡ best_of (cs ++ choice_of p o (shape_in i) g)
+    choice_is : (g : Filling.Found) (cs : List Definition.Choice) → better_of (best_of cs) (winner_of (columns_at world_of i) (bounds_at inset_bounds i) o (found_of g)) ≡ best_of (cs ++ choice_of p o (shape_in i) g)
     unfolding choice_of ranges_of
     choice_is (Filling.at c y g) cs =
-        ap (λ (x : Float). better_of (best_of cs) (At (record { orientation = o; x = x; y = y; gap = g; right = x ⊕ (bounds_at inset-bounds i).right; top = y ⊕ (bounds_at inset-bounds i).top }))) (Same.x_same p.bounds (bounds_at inset-bounds i) p.resolution c)
+        ap (λ (x : Float). better_of (best_of cs) (At (record { orientation = o; x = x; y = y; gap = g; right = x ⊕ (bounds_at inset_bounds i).right; top = y ⊕ (bounds_at inset_bounds i).top }))) (Same.x_same p.bounds (bounds_at inset_bounds i) p.resolution c)
         ∙ better-one cs _
     choice_is Filling.nowhere cs = better-nowhere cs
 
@@ -175,13 +175,13 @@ module _ (p : Planner) (standing : List Float) (capacity : ℕ) (inset-bounds : 
         → bettered (best_of cs) (orientation_of world_of i o counts next) ≡ chosen (best_of (cs ++ choice_of p o (shape_in i) found)) (set counts i count) (set next i number)
     unfolding bettered orientation_of won
     turn_fine cs b h =
-        ap (λ (z : Tracked). chosen (better_of (best_of cs) (winner_of (columns_at world_of i) (bounds_at inset-bounds i) o z.found)) z.counts z.next) (same-fine p standing (shape_in i) capacity i counts next m refl b h)
+        ap (λ (z : Tracked). chosen (better_of (best_of cs) (winner_of (columns_at world_of i) (bounds_at inset_bounds i) o z.found)) z.counts z.next) (same-fine p standing (shape_in i) capacity i counts next m refl b h)
         ∙ ap (λ (v : Winner). chosen v (set counts i count) (set next i number)) (choice_is found cs)
 
     turn_over : (cs : List Definition.Choice) → any_above capacity made ≡ true → (bettered (best_of cs) (orientation_of world_of i o counts next)).winner ≡ Overflow
     unfolding bettered orientation_of won
     turn_over cs h =
-        ap (λ (z : Found). better_of (best_of cs) (winner_of (columns_at world_of i) (bounds_at inset-bounds i) o z)) (same_over p standing (shape_in i) capacity i counts next m refl h)
+        ap (λ (z : Found). better_of (best_of cs) (winner_of (columns_at world_of i) (bounds_at inset_bounds i) o z)) (same_over p standing (shape_in i) capacity i counts next m refl h)
         ∙ better_overflow cs
 
     -- ---- the lists, taken apart
@@ -198,7 +198,7 @@ module _ (p : Planner) (standing : List Float) (capacity : ℕ) (inset-bounds : 
       unfolding up_from search_all searched_all Filling.searched track_at
       counts_are = refl
 
-      numbers_are : map (λ (t : Track). remembered_number t.next-column) (tracked_from counts next (suc n) o) ≡ number ∷ map (λ (t : Track). remembered_number t.next-column) (tracked_from counts next n (suc o))
+      numbers_are : map (λ (t : Track). remembered_number t.next_column) (tracked_from counts next (suc n) o) ≡ number ∷ map (λ (t : Track). remembered_number t.next_column) (tracked_from counts next n (suc o))
       unfolding up_from search_all searched_all Filling.searched track_at
       numbers_are = refl
 
@@ -232,7 +232,7 @@ module _ (p : Planner) (standing : List Float) (capacity : ℕ) (inset-bounds : 
   none-zero counts next o = refl
 
   fine-zero : (o : ℕ) (cs : List Definition.Choice) (counts next : List ℕ) → choose_from world_of slot 0 o (chosen (best_of cs) counts next)
-      ≡ chosen (best_of (cs ++ choices p o (shapes_from 0 o) (founds_from counts next 0 o))) (sets counts (slot + o) (map (λ (t : Track). t.look_count) (tracked_from counts next 0 o))) (sets next (slot + o) (map (λ (t : Track). remembered_number t.next-column) (tracked_from counts next 0 o)))
+      ≡ chosen (best_of (cs ++ choices p o (shapes_from 0 o) (founds_from counts next 0 o))) (sets counts (slot + o) (map (λ (t : Track). t.look_count) (tracked_from counts next 0 o))) (sets next (slot + o) (map (λ (t : Track). remembered_number t.next_column) (tracked_from counts next 0 o)))
   unfolding choose_from up_from choices search_all searched_all
   fine-zero o cs counts next = ap (λ (z : List Definition.Choice). chosen (best_of z) counts next) (sym (append-nil cs))
 
@@ -264,13 +264,13 @@ module _ (p : Planner) (standing : List Float) (capacity : ℕ) (inset-bounds : 
 
   pub choose_fine : (n o : ℕ) (cs : List Definition.Choice) (counts next : List ℕ) → slot + o + n ≤ length counts → above_from counts next n o ≡ false
       → choose_from world_of slot n o (chosen (best_of cs) counts next)
-      ≡ chosen (best_of (cs ++ choices p o (shapes_from n o) (founds_from counts next n o))) (sets counts (slot + o) (map (λ (t : Track). t.look_count) (tracked_from counts next n o))) (sets next (slot + o) (map (λ (t : Track). remembered_number t.next-column) (tracked_from counts next n o)))
+      ≡ chosen (best_of (cs ++ choices p o (shapes_from n o) (founds_from counts next n o))) (sets counts (slot + o) (map (λ (t : Track). t.look_count) (tracked_from counts next n o))) (sets next (slot + o) (map (λ (t : Track). remembered_number t.next_column) (tracked_from counts next n o)))
   choose_fine zero o cs counts next b h = fine-zero o cs counts next
   choose_fine (suc n) o cs counts next b h =
       choose_suc n o (chosen (best_of cs) counts next)
       ∙ (ap (choose_from world_of slot n (suc o)) (turn_fine o counts next cs (omega arith) head)
       ∙ (choose_fine n (suc o) (cs ++ here) counts' next' (let l = length-set counts (slot + o) (count o counts next) in omega arith) (ap (λ (z : List Track). any_above capacity (interval_counts p standing (shapes_from n (suc o)) z (search_all p standing (shapes_from n (suc o)) z))) same ∙ tail)
-      ∙ (ap (λ (z : List Track). chosen (best_of (cs ++ here ++ choices p (suc o) (shapes_from n (suc o)) (search_all p standing (shapes_from n (suc o)) z))) (sets counts' (slot + suc o) (map (λ (t : Track). t.look_count) (searched_all p (shapes_from n (suc o)) z (search_all p standing (shapes_from n (suc o)) z)))) (sets next' (slot + suc o) (map (λ (t : Track). remembered_number t.next-column) (searched_all p (shapes_from n (suc o)) z (search_all p standing (shapes_from n (suc o)) z))))) same
+      ∙ (ap (λ (z : List Track). chosen (best_of (cs ++ here ++ choices p (suc o) (shapes_from n (suc o)) (search_all p standing (shapes_from n (suc o)) z))) (sets counts' (slot + suc o) (map (λ (t : Track). t.look_count) (searched_all p (shapes_from n (suc o)) z (search_all p standing (shapes_from n (suc o)) z)))) (sets next' (slot + suc o) (map (λ (t : Track). remembered_number t.next_column) (searched_all p (shapes_from n (suc o)) z (search_all p standing (shapes_from n (suc o)) z))))) same
       ∙ joined)))
     where
       here : List Definition.Choice
@@ -297,11 +297,11 @@ module _ (p : Planner) (standing : List Float) (capacity : ℕ) (inset-bounds : 
       on : slot + suc o ≡ suc (slot + o)
       on = omega arith
 
-      joined : chosen (best_of (cs ++ here ++ choices p (suc o) (shapes_from n (suc o)) (founds_from counts next n (suc o)))) (sets counts' (slot + suc o) (map (λ (t : Track). t.look_count) (tracked_from counts next n (suc o)))) (sets next' (slot + suc o) (map (λ (t : Track). remembered_number t.next-column) (tracked_from counts next n (suc o))))
-          ≡ chosen (best_of (cs ++ choices p o (shapes_from (suc n) o) (founds_from counts next (suc n) o))) (sets counts (slot + o) (map (λ (t : Track). t.look_count) (tracked_from counts next (suc n) o))) (sets next (slot + o) (map (λ (t : Track). remembered_number t.next-column) (tracked_from counts next (suc n) o)))
+      joined : chosen (best_of (cs ++ here ++ choices p (suc o) (shapes_from n (suc o)) (founds_from counts next n (suc o)))) (sets counts' (slot + suc o) (map (λ (t : Track). t.look_count) (tracked_from counts next n (suc o)))) (sets next' (slot + suc o) (map (λ (t : Track). remembered_number t.next_column) (tracked_from counts next n (suc o))))
+          ≡ chosen (best_of (cs ++ choices p o (shapes_from (suc n) o) (founds_from counts next (suc n) o))) (sets counts (slot + o) (map (λ (t : Track). t.look_count) (tracked_from counts next (suc n) o))) (sets next (slot + o) (map (λ (t : Track). remembered_number t.next_column) (tracked_from counts next (suc n) o)))
       joined =
-          ap (λ (z : ℕ). chosen (best_of (cs ++ here ++ choices p (suc o) (shapes_from n (suc o)) (founds_from counts next n (suc o)))) (sets counts' z (map (λ (t : Track). t.look_count) (tracked_from counts next n (suc o)))) (sets next' z (map (λ (t : Track). remembered_number t.next-column) (tracked_from counts next n (suc o))))) on
-          ∙ sym (ap (λ (z : List Definition.Choice). chosen (best_of (cs ++ z)) (sets counts (slot + o) (map (λ (t : Track). t.look_count) (tracked_from counts next (suc n) o))) (sets next (slot + o) (map (λ (t : Track). remembered_number t.next-column) (tracked_from counts next (suc n) o)))) (choices_are o counts next n)
-          ∙ (ap (λ (z : List Definition.Choice). chosen (best_of z) (sets counts (slot + o) (map (λ (t : Track). t.look_count) (tracked_from counts next (suc n) o))) (sets next (slot + o) (map (λ (t : Track). remembered_number t.next-column) (tracked_from counts next (suc n) o)))) (sym (append_assoc cs here (choices p (suc o) (shapes_from n (suc o)) (founds_from counts next n (suc o)))))
-          ∙ (ap (λ (z : List ℕ). chosen (best_of (cs ++ here ++ choices p (suc o) (shapes_from n (suc o)) (founds_from counts next n (suc o)))) (sets counts (slot + o) z) (sets next (slot + o) (map (λ (t : Track). remembered_number t.next-column) (tracked_from counts next (suc n) o)))) (counts_are o counts next n)
+          ap (λ (z : ℕ). chosen (best_of (cs ++ here ++ choices p (suc o) (shapes_from n (suc o)) (founds_from counts next n (suc o)))) (sets counts' z (map (λ (t : Track). t.look_count) (tracked_from counts next n (suc o)))) (sets next' z (map (λ (t : Track). remembered_number t.next_column) (tracked_from counts next n (suc o))))) on
+          ∙ sym (ap (λ (z : List Definition.Choice). chosen (best_of (cs ++ z)) (sets counts (slot + o) (map (λ (t : Track). t.look_count) (tracked_from counts next (suc n) o))) (sets next (slot + o) (map (λ (t : Track). remembered_number t.next_column) (tracked_from counts next (suc n) o)))) (choices_are o counts next n)
+          ∙ (ap (λ (z : List Definition.Choice). chosen (best_of z) (sets counts (slot + o) (map (λ (t : Track). t.look_count) (tracked_from counts next (suc n) o))) (sets next (slot + o) (map (λ (t : Track). remembered_number t.next_column) (tracked_from counts next (suc n) o)))) (sym (append_assoc cs here (choices p (suc o) (shapes_from n (suc o)) (founds_from counts next n (suc o)))))
+          ∙ (ap (λ (z : List ℕ). chosen (best_of (cs ++ here ++ choices p (suc o) (shapes_from n (suc o)) (founds_from counts next n (suc o)))) (sets counts (slot + o) z) (sets next (slot + o) (map (λ (t : Track). remembered_number t.next_column) (tracked_from counts next (suc n) o)))) (counts_are o counts next n)
           ∙ ap (λ (z : List ℕ). chosen (best_of (cs ++ here ++ choices p (suc o) (shapes_from n (suc o)) (founds_from counts next n (suc o)))) (sets counts (slot + o) (count o counts next ∷ map (λ (t : Track). t.look_count) (tracked_from counts next n (suc o)))) (sets next (slot + o) z)) (numbers_are o counts next n))))

@@ -71,8 +71,8 @@ taken_with s w intervals firsts r =
         shapes = w.shapes;
         sheet = w.sheet;
         placed = r.left.placed;
-        sheet-entries = w.sheet-entries;
-        placed-entries = r.left.entries;
+        sheet_entries = w.sheet_entries;
+        placed_entries = r.left.entries;
         sheet_firsts = w.sheet_firsts;
         placed_firsts = firsts;
       };
@@ -96,7 +96,7 @@ get_d_shapes f zero c i h = absurd (no h)
 get_d_shapes f (suc n) c zero h = let e : c + 0 ≡ c = omega arith in rw e
 get_d_shapes f (suc n) c (suc i) h = let e : suc c + i ≡ c + suc i = omega arith in get_d_shapes f n (suc c) i (omega arith) ∙ ap f e
 
-module _ (p : Planner) (k : ℕ) (s : State) (w : Rooms) (intervals : List Float) (inset-bounds : List Float) (parts : List ℕ) (apart inset : List Float) (n : ℕ) (starts : List ℕ)
+module _ (p : Planner) (k : ℕ) (s : State) (w : Rooms) (intervals : List Float) (inset_bounds : List Float) (parts : List ℕ) (apart inset : List Float) (n : ℕ) (starts : List ℕ)
     (room : 6 * s.placed_strips ≤ length w.placed) (slots : 16 * k + n ≤ length s.look_counts) where
   abbrev pub standing : List Float
   standing = take (6 * s.placed_strips) w.placed
@@ -108,10 +108,10 @@ module _ (p : Planner) (k : ℕ) (s : State) (w : Rooms) (intervals : List Float
   room_of = interval_capacity intervals
 
   abbrev pub ss : List Shape
-  ss = shapes_from p standing room_of inset-bounds parts apart inset slot n 0
+  ss = shapes_from p standing room_of inset_bounds parts apart inset slot n 0
 
   abbrev pub ts : List Track
-  ts = tracks_from p standing room_of inset-bounds parts apart inset slot s.look_counts s.next_column n 0
+  ts = tracks_from p standing room_of inset_bounds parts apart inset slot s.look_counts s.next_column n 0
 
   abbrev cs : List Definition.Choice
   cs = choices p 0 ss (search_all p standing ss ts)
@@ -127,13 +127,13 @@ module _ (p : Planner) (k : ℕ) (s : State) (w : Rooms) (intervals : List Float
 
   -- what the code leaves
   abbrev pub code_of : Placed
-  code_of = place_of ix (world_of p standing room_of inset-bounds parts apart inset slot) area slot n t w.placed w.placed-entries starts w.placed_firsts s.look_counts s.next_column
+  code_of = place_of ix (world_of p standing room_of inset_bounds parts apart inset slot) area slot n t w.placed w.placed_entries starts w.placed_firsts s.look_counts s.next_column
 
   abbrev given : Chosen → Placed
-  given c = place_with ix (world_of p standing room_of inset-bounds parts apart inset slot) area slot t w.placed w.placed-entries starts w.placed_firsts c
+  given c = place_with ix (world_of p standing room_of inset_bounds parts apart inset slot) area slot t w.placed w.placed_entries starts w.placed_firsts c
 
   abbrev choice : Chosen
-  choice = choose_from (world_of p standing room_of inset-bounds parts apart inset slot) slot n 0 (chosen Winners.Nowhere s.look_counts s.next_column)
+  choice = choose_from (world_of p standing room_of inset_bounds parts apart inset slot) slot n 0 (chosen Winners.Nowhere s.look_counts s.next_column)
 
   code_is : (c : Chosen) → choice ≡ c → code_of ≡ given c
   unfolding place_of
@@ -143,18 +143,18 @@ module _ (p : Planner) (k : ℕ) (s : State) (w : Rooms) (intervals : List Float
   counts' = sets s.look_counts slot (map (λ (t : Track). t.look_count) (searched_all p ss ts (search_all p standing ss ts)))
 
   abbrev next' : List ℕ
-  next' = sets s.next_column slot (map (λ (t : Track). remembered_number t.next-column) (searched_all p ss ts (search_all p standing ss ts)))
+  next' = sets s.next_column slot (map (λ (t : Track). remembered_number t.next_column) (searched_all p ss ts (search_all p standing ss ts)))
 
   at_slot : slot + 0 ≡ slot
   at_slot = omega arith
 
   fine_choice : any_above room_of (interval_counts p standing ss ts (search_all p standing ss ts)) ≡ false → choice ≡ chosen (best_of cs) counts' next'
   fine_choice h =
-      choose_fine p standing room_of inset-bounds parts apart inset slot n 0 [] s.look_counts s.next_column (omega arith) h
-      ∙ ap (λ (z : ℕ). chosen (best_of cs) (sets s.look_counts z (map (λ (t : Track). t.look_count) (searched_all p ss ts (search_all p standing ss ts)))) (sets s.next_column z (map (λ (t : Track). remembered_number t.next-column) (searched_all p ss ts (search_all p standing ss ts))))) at_slot
+      choose_fine p standing room_of inset_bounds parts apart inset slot n 0 [] s.look_counts s.next_column (omega arith) h
+      ∙ ap (λ (z : ℕ). chosen (best_of cs) (sets s.look_counts z (map (λ (t : Track). t.look_count) (searched_all p ss ts (search_all p standing ss ts)))) (sets s.next_column z (map (λ (t : Track). remembered_number t.next_column) (searched_all p ss ts (search_all p standing ss ts))))) at_slot
 
   over_choice : any_above room_of (interval_counts p standing ss ts (search_all p standing ss ts)) ≡ true → choice.winner ≡ Winners.Overflow
-  over_choice h = choose_over p standing room_of inset-bounds parts apart inset slot n 0 [] s.look_counts s.next_column (omega arith) h
+  over_choice h = choose_over p standing room_of inset_bounds parts apart inset slot n 0 [] s.look_counts s.next_column (omega arith) h
 
   -- ---- the definition, by the list of the kind's shapes and tracks
   abbrev accepted : Next.Step
@@ -212,7 +212,7 @@ module _ (p : Planner) (k : ℕ) (s : State) (w : Rooms) (intervals : List Float
 
     over-step : (v : Winner) (c : Chosen) → v ≡ Winners.Overflow → c.winner ≡ v → step_from s w intervals firsts (given c) ≡ no_step Why.IntervalRoom s w intervals
     unfolding place_with
-    over-step v c e f = ap (λ (z : Winner). step_from s w intervals firsts (record { left = settle_of ix z area slot t parts apart w.placed w.placed-entries starts w.placed_firsts; counts = c.counts; next = c.next })) (f ∙ e)
+    over-step v c e f = ap (λ (z : Winner). step_from s w intervals firsts (record { left = settle_of ix z area slot t parts apart w.placed w.placed_entries starts w.placed_firsts; counts = c.counts; next = c.next })) (f ∙ e)
 
     -- 22
     same_over : any_above room_of (interval_counts p standing ss ts (search_all p standing ss ts)) ≡ true → step_from s w intervals firsts code_of ≡ place_copy p standing ts k s w intervals
@@ -235,12 +235,12 @@ module _ (p : Planner) (k : ℕ) (s : State) (w : Rooms) (intervals : List Float
       abbrev strips : List Float
       strips = together part c.x c.y s.placed_strips w.placed
 
-      shape_is : shape_of p k c.orientation ≡ shape_in p standing room_of inset-bounds parts apart inset slot (slot + c.orientation)
+      shape_is : shape_of p k c.orientation ≡ shape_in p standing room_of inset_bounds parts apart inset slot (slot + c.orientation)
       unfolding shape_of
       shape_is =
           ap (λ (z : List Shape). get_or z c.orientation no_shape) shaped
-          ∙ (get_d_shapes (λ j. shape_in p standing room_of inset-bounds parts apart inset slot (slot + j)) n 0 c.orientation inside
-          ∙ ap (λ (z : ℕ). shape_in p standing room_of inset-bounds parts apart inset slot (slot + z)) (let e : 0 + c.orientation ≡ c.orientation = omega arith in e))
+          ∙ (get_d_shapes (λ j. shape_in p standing room_of inset_bounds parts apart inset slot (slot + j)) n 0 c.orientation inside
+          ∙ ap (λ (z : ℕ). shape_in p standing room_of inset_bounds parts apart inset slot (slot + z)) (let e : 0 + c.orientation ≡ c.orientation = omega arith in e))
 
       new_is : new_strips p k c ≡ moved_strips part c.x c.y
       unfolding new_strips
@@ -256,24 +256,24 @@ module _ (p : Planner) (k : ℕ) (s : State) (w : Rooms) (intervals : List Float
       few = ltb (standing_capacity w.placed w.placed_firsts) (capacity strips)
 
       abbrev tight : Bool
-      tight = ltb (length w.placed-entries) (length (entries_of ix strips (capacity strips)))
+      tight = ltb (length w.placed_entries) (length (entries_of ix strips (capacity strips)))
 
       verdict_is : store_verdict p w (standing ++ new_strips p k c) ≡ refuse_if few Why.StripRoom (refuse_if tight Why.EntryRoom Verdicts.Accepted)
       unfolding store_verdict entries_for
-      verdict_is = ap (λ (z : List Float). refuse_if (ltb (standing_capacity w.placed w.placed_firsts) (capacity z)) Why.StripRoom (refuse_if (ltb (length w.placed-entries) (length (entries_of ix z (capacity z)))) Why.EntryRoom Verdicts.Accepted)) strips_are
+      verdict_is = ap (λ (z : List Float). refuse_if (ltb (standing_capacity w.placed w.placed_firsts) (capacity z)) Why.StripRoom (refuse_if (ltb (length w.placed_entries) (length (entries_of ix z (capacity z)))) Why.EntryRoom Verdicts.Accepted)) strips_are
 
       abbrev storing : Left
-      storing = store_of ix part c.x c.y s.placed_strips w.placed w.placed-entries starts w.placed_firsts
+      storing = store_of ix part c.x c.y s.placed_strips w.placed w.placed_entries starts w.placed_firsts
 
-      store_few : few ≡ true → storing ≡ left Answers.NoStrips w.placed w.placed-entries starts
+      store_few : few ≡ true → storing ≡ left Answers.NoStrips w.placed w.placed_entries starts
       unfolding store_of
       store_few e = rw (e, store_of)
 
-      store_tight : few ≡ false → tight ≡ true → storing ≡ left Answers.NoEntries w.placed w.placed-entries starts
+      store_tight : few ≡ false → tight ≡ true → storing ≡ left Answers.NoEntries w.placed w.placed_entries starts
       unfolding store_of
       store_tight e f = rw (e, f, store_of)
 
-      store_done : few ≡ false → tight ≡ false → storing ≡ left Answers.Done (laid strips w.placed) (laid (entries_of ix strips (capacity strips)) w.placed-entries) (starts_of ix strips (capacity strips))
+      store_done : few ≡ false → tight ≡ false → storing ≡ left Answers.Done (laid strips w.placed) (laid (entries_of ix strips (capacity strips)) w.placed_entries) (starts_of ix strips (capacity strips))
       unfolding store_of
       store_done e f = rw (e, f, store_of)
 
@@ -313,7 +313,7 @@ module _ (p : Planner) (k : ℕ) (s : State) (w : Rooms) (intervals : List Float
       unfolding put_left state_with stored entries_for firsts_for
       done-step e f g =
           ap₂ (λ (l : List ℕ) (z : Left). step_from s w intervals l (leaving z)) g (store_done e f)
-          ∙ (ap (λ (z : ℕ). taken_with s w intervals (laid (firsts_of ix strips (capacity strips)) w.placed_firsts) (record { left = put (step (At (choice_in c)) (record { placed_strips = z; right = larger s.layout.right c.right; unplaced_area = s.layout.unplaced_area })) (laid strips w.placed) (laid (entries_of ix strips (capacity strips)) w.placed-entries) (starts_of ix strips (capacity strips)); counts = counts'; next = next' })) count_is
+          ∙ (ap (λ (z : ℕ). taken_with s w intervals (laid (firsts_of ix strips (capacity strips)) w.placed_firsts) (record { left = put (step (At (choice_in c)) (record { placed_strips = z; right = larger s.layout.right c.right; unplaced_area = s.layout.unplaced_area })) (laid strips w.placed) (laid (entries_of ix strips (capacity strips)) w.placed_entries) (starts_of ix strips (capacity strips)); counts = counts'; next = next' })) count_is
           ∙ (ap (λ (z : ℕ). record {
             verdict = Verdicts.Accepted;
             state = state_with s k (searched_all p ss ts (search_all p standing ss ts)) (capacity strips) (entered s.layout s.taken z c.x c.y c.gap s.layout.unplaced_area (larger s.layout.right c.right));
@@ -357,7 +357,7 @@ module _ (p : Planner) (k : ℕ) (s : State) (w : Rooms) (intervals : List Float
 
       inside_is : (a : Definition.Choice) (as' : List Definition.Choice) → cs ≡ a ∷ as' → (best a as').orientation < n
       inside_is a as' e =
-          chosen_among (world_of p standing room_of inset-bounds parts apart inset slot) slot n (Winners.At (choice_in (best a as'))) s.look_counts s.next_column counts' next'
+          chosen_among (world_of p standing room_of inset_bounds parts apart inset slot) slot n (Winners.At (choice_in (best a as'))) s.look_counts s.next_column counts' next'
           (sym (fine_choice h ∙ ap (λ (z : List Definition.Choice). chosen (best_of z) counts' next') e))
 
       same-nowhere : cs ≡ [] → step_from s w intervals firsts code_of ≡ place_copy p standing ts k s w intervals

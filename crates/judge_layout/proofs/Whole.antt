@@ -54,8 +54,8 @@ module _ {j : Job} {bytes : List ℕ} {at : ℕ} {h : Header} {rows : List ℕ} 
       (sym d)
       (record {
         areas = areas;
-        sheet-entries = entries;
-        sheet-starts = q.sheet_starts;
+        sheet_entries = entries;
+        sheet_starts = q.sheet_starts;
         prepared = ready-given R Z q shapes sheet entries firsts E e;
         number = R.number;
       })
@@ -65,10 +65,10 @@ module _ {j : Job} {bytes : List ℕ} {at : ℕ} {h : Header} {rows : List ℕ} 
 
   pub room_is : standing_capacity w.placed w.placed_firsts ≡ standing_capacity placed₀ placed-firsts₀
   unfolding standing_capacity capacity
-  room_is = rw (ap length Z.placed-zero ∙ length-zeros pos_zero w.placed, ap length Z.placed_firsts_zero ∙ length-zeros 0 w.placed_firsts)
+  room_is = rw (ap length Z.placed_zero ∙ length-zeros pos_zero w.placed, ap length Z.placed_firsts_zero ∙ length-zeros 0 w.placed_firsts)
 
-  pub entries_are : length w.placed-entries ≡ length placed-entries₀
-  entries_are = sym (ap length Z.placed-entries-zero ∙ length-zeros 0 w.placed-entries)
+  pub entries_are : length w.placed_entries ≡ length placed-entries₀
+  entries_are = sym (ap length Z.placed_entries_zero ∙ length-zeros 0 w.placed_entries)
 
   pub lines_are : q.verdict ≡ Accepted → (ls : List PutLine) (r : Judgement) → r ≡ layout_from j (planner_of j) w [] [] ls → r ≡ layout_job j ls w
   lines_are e ls r d = d ∙ lines_judged j ls w (same-verdict R Z q shapes sheet entries firsts E ∙ e)
@@ -79,30 +79,30 @@ module _ {j : Job} {bytes : List ℕ} {at : ℕ} {h : Header} {rows : List ℕ} 
 -- ---- reply and rooms
 
 -- the rooms after zeros are written
-pub cleared : (w : Rooms) (shapes sheet placed : List Float) (sheet-entries placed-entries sheet_firsts placed_firsts : List ℕ)
+pub cleared : (w : Rooms) (shapes sheet placed : List Float) (sheet_entries placed_entries sheet_firsts placed_firsts : List ℕ)
     → (shapes ≡ zeros pos_zero w.shapes) × (sheet ≡ zeros pos_zero w.sheet) × (placed ≡ zeros pos_zero w.placed)
-    × (sheet-entries ≡ zeros 0 w.sheet-entries) × (placed-entries ≡ zeros 0 w.placed-entries) × (sheet_firsts ≡ zeros 0 w.sheet_firsts)
+    × (sheet_entries ≡ zeros 0 w.sheet_entries) × (placed_entries ≡ zeros 0 w.placed_entries) × (sheet_firsts ≡ zeros 0 w.sheet_firsts)
     × (placed_firsts ≡ zeros 0 w.placed_firsts)
-    → ZeroRooms w shapes sheet placed sheet-entries placed-entries sheet_firsts placed_firsts
+    → ZeroRooms w shapes sheet placed sheet_entries placed_entries sheet_firsts placed_firsts
 unfolding zeros
-cleared w shapes sheet placed sheet-entries placed-entries sheet_firsts placed_firsts e =
+cleared w shapes sheet placed sheet_entries placed_entries sheet_firsts placed_firsts e =
     record {
-      shapes-zero = e.0;
-      sheet-zero = e.1;
-      placed-zero = e.2;
-      sheet-entries-zero = e.3;
-      placed-entries-zero = e.4;
-      intervals-zero = refl;
-      positions-zero = refl;
+      shapes_zero = e.0;
+      sheet_zero = e.1;
+      placed_zero = e.2;
+      sheet_entries_zero = e.3;
+      placed_entries_zero = e.4;
+      intervals_zero = refl;
+      positions_zero = refl;
       sheet_firsts_zero = e.5;
       placed_firsts_zero = e.6;
     }
 
 pub whole_is : (bytes given : List ℕ) (w : Rooms) (r : Judgement) → r ≡ layout_given (read_job bytes) (lines_of given) w → (shapes sheet placed : List Float)
-    (sheet-entries placed-entries sheet_firsts placed_firsts : List ℕ) → shapes ≡ zeros pos_zero w.shapes → sheet ≡ zeros pos_zero w.sheet
-    → placed ≡ zeros pos_zero w.placed → sheet-entries ≡ zeros 0 w.sheet-entries → placed-entries ≡ zeros 0 w.placed-entries
+    (sheet_entries placed_entries sheet_firsts placed_firsts : List ℕ) → shapes ≡ zeros pos_zero w.shapes → sheet ≡ zeros pos_zero w.sheet
+    → placed ≡ zeros pos_zero w.placed → sheet_entries ≡ zeros 0 w.sheet_entries → placed_entries ≡ zeros 0 w.placed_entries
     → sheet_firsts ≡ zeros 0 w.sheet_firsts → placed_firsts ≡ zeros 0 w.placed_firsts
-    → judged r (rooms_of shapes sheet placed sheet-entries placed-entries sheet_firsts placed_firsts) ≡ layout_of bytes given w
+    → judged r (rooms_of shapes sheet placed sheet_entries placed_entries sheet_firsts placed_firsts) ≡ layout_of bytes given w
 unfolding layout_of
-whole_is bytes given w r e shapes sheet placed sheet-entries placed-entries sheet_firsts placed_firsts a b c d f g h =
-    ap₂ judged e (rooms_are (rooms_alone w) shapes sheet placed sheet-entries placed-entries sheet_firsts placed_firsts a b c d f g h)
+whole_is bytes given w r e shapes sheet placed sheet_entries placed_entries sheet_firsts placed_firsts a b c d f g h =
+    ap₂ judged e (rooms_are (rooms_alone w) shapes sheet placed sheet_entries placed_entries sheet_firsts placed_firsts a b c d f g h)

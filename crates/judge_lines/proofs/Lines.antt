@@ -34,7 +34,7 @@ use Rattle.judge_lines.specs.declared.Standing.{Standing}
 use Rattle.judge_lines.specs.declared.Line.{Line}
 use Rattle.judge_lines.specs.declared.Line.TheVariants.{Stands, Bad}
 use Rattle.judge_lines.specs.inner.Judging.{fits_by, stored, stored_of, TablesOf, Kept, LineIs}
-use Rattle.judge_lines.proofs.Slots.{kinds-few, kind_in, apart_is}
+use Rattle.judge_lines.proofs.Slots.{kinds_few, kind_in, apart_is}
 use Rattle.judge_lines.proofs.Verdicts.{fits_lacking}
 use Rattle.judge_lines.proofs.Storing.{StoredAs, stored_is}
 
@@ -81,7 +81,7 @@ module _ {j : Job} {g : Grid} {kinds : ℕ} {rows : List ℕ} {ib : List Float} 
     | inl y ↦
         fits_lacking j (get_or counts kind 0) (take (6 * s.strips) placed) kind orientation at y
         ∙ sym (fits_lacking j (count_in kind ks) st kind orientation at y)
-    | inr n ↦ ap₂ Fits (kept.counted kind (let a = kind_in t kind orientation n in let b = kinds-few t in omega (arith, a, b))) kept.stands
+    | inr n ↦ ap₂ Fits (kept.counted kind (let a = kind_in t kind orientation n in let b = kinds_few t in omega (arith, a, b))) kept.stands
   ]
 
   -- the code's tests are those of the line
@@ -141,7 +141,7 @@ pub record Going (j : Job) (w : Rooms) (given : List ℕ) (counts : List ℕ) (p
   pub same : layout_from j (planner_of j) w [] [] (lines_of given) ≡ layout_from j (planner_of j) w ks st (lines_from given i)
 
 module _ (j : Job) (w : Rooms) (given : List ℕ) where
-  pub going-first : (placed : List Float) → Going j w given (replicate 64 0) placed (record { strips = 0; entries = length w.placed-entries }) 0
+  pub going-first : (placed : List Float) → Going j w given (replicate 64 0) placed (record { strips = 0; entries = length w.placed_entries }) 0
   unfolding lines_of
   going-first placed =
       record {
@@ -158,7 +158,7 @@ module _ (j : Job) (w : Rooms) (given : List ℕ) where
       few-entries : length (entries_for (planner_of j).bounds []) ≤ 512 * 0
       few-entries = unfold entries_for in (unfold capacity in (entries-few (sheet_index (planner_of j).bounds) [] 0))
 
-      none : length w.placed-entries ≡ length w.placed-entries + length (entries_for (planner_of j).bounds [])
+      none : length w.placed_entries ≡ length w.placed_entries + length (entries_for (planner_of j).bounds [])
       none = let e = few-entries in omega (arith, e)
 
   module _ (counts : List ℕ) (placed : List Float) (s : Standing) (i : ℕ) (g : Going j w given counts placed s i) where

@@ -31,7 +31,7 @@ use Rattle.choose.specs.declared.Grid.{Grid}
 use Rattle.choose.specs.inner.Choosing.{bounds_at, part_at, inset_part, apart_part}
 use Rattle.leaf.proofs.Handed.{has_kind, has_turn}
 use Rattle.filling_laws.proofs.ReadyNumbers.{resolving}
-use Rattle.filling_laws.proofs.fill_laws.Ready.{bounds-long, parts-long}
+use Rattle.filling_laws.proofs.fill_laws.Ready.{bounds_long, parts_long}
 use Rattle.layouts.specs.Layouts.{quantity_of}
 use Rattle.judge_lines.specs.inner.Judging.{TablesOf}
 
@@ -63,24 +63,24 @@ module _ {j : Job} {g : Grid} {kinds : ℕ} {rows : List ℕ} {ib : List Float} 
   Room = (first_rooms P t.prepared.lent).shapes
 
   -- ---- the tables' lengths
-  pub kinds-few : kinds ≤ 64
-  kinds-few = subst (λ (n : ℕ). n ≤ 64) t.number z.kinds
+  pub kinds_few : kinds ≤ 64
+  kinds_few = subst (λ (n : ℕ). n ≤ 64) t.number z.kinds
 
   pub rows_long : 256 ≤ length rows
   rows_long = t.prepared.tabled.rows_long
 
   pub bounds_many : length ib ≡ 4096
-  bounds_many = ap length t.prepared.inset-bounds ∙ bounds-long P
+  bounds_many = ap length t.prepared.inset_bounds ∙ bounds_long P
 
   pub parts_many : length parts ≡ 4096
-  parts_many = ap length t.prepared.parts ∙ parts-long P
+  parts_many = ap length t.prepared.parts ∙ parts_long P
 
   pub sheet_is : sheet ≡ P.sheet
   sheet_is = t.prepared.sheet ∙ sheet-read j t.prepared.lent
 
-  pub copies-few : (k : ℕ) → quantity_of j k ≤ 4095
+  pub copies_few : (k : ℕ) → quantity_of j k ≤ 4095
   unfolding quantity_of
-  copies-few k = most-copies j.kinds (job_good t.prepared.bytes j t.prepared.read).good.kinds k
+  copies_few k = most-copies j.kinds (job_good t.prepared.bytes j t.prepared.read).good.kinds k
 
   -- ---- orientation o of kind k
   module _ (k o : ℕ) (has : lacks j k o ≡ false) where
@@ -91,7 +91,7 @@ module _ {j : Job} {g : Grid} {kinds : ℕ} {rows : List ℕ} {ib : List Float} 
     turn_in = let a = has_turn j k o has in let b = sixteen_get z.turns k in omega arith
 
     pub slot_in : 16 * k + o < 1024
-    slot_in = let a = kind_in in let b = kinds-few in let c = turn_in in omega arith
+    slot_in = let a = kind_in in let b = kinds_few in let c = turn_in in omega arith
 
     slot_is : slot_shape P (16 * k + o) ≡ shape_of P k o
     unfolding slot_shape
@@ -102,7 +102,7 @@ module _ {j : Job} {g : Grid} {kinds : ℕ} {rows : List ℕ} {ib : List Float} 
 
     pub bounds_is : bounds_at ib (16 * k + o) ≡ (shape_of P k o).bounds
     unfolding shape_at bounds_at States.bounds_at
-    bounds_is = ap (λ (l : List Float). bounds_at l (16 * k + o)) t.prepared.inset-bounds ∙ ap (λ (s : Shape). s.bounds) read_is
+    bounds_is = ap (λ (l : List Float). bounds_at l (16 * k + o)) t.prepared.inset_bounds ∙ ap (λ (s : Shape). s.bounds) read_is
 
     pub apart_is : apart_part (part_at parts (16 * k + o)) (take (6 * g.apart_strips) shapes) ≡ (shape_of P k o).apart
     unfolding shape_at part_at States.part_at

@@ -111,14 +111,14 @@ module _ (ix : Index) (apart aparts : List Float) (e : aparts ≡ apart) (q : Po
 abbrev pub StoredAs : Job → Rooms → List Float → Line → List Float → Type 0
 StoredAs j w now (Stands t) placed' =
     (store_verdict (planner_of j) w now ≡ Accepted) × (take (6 * t.strips) placed' ≡ now)
-    × (length w.placed-entries ≡ t.entries + length (entries_for (planner_of j).bounds now))
+    × (length w.placed_entries ≡ t.entries + length (entries_for (planner_of j).bounds now))
 StoredAs j w now (Bad r) placed' = store_verdict (planner_of j) w now ≡ Refused r
 
 -- ---- the definition's verdict
 
 module _ (j : Job) (w : Rooms) (apart : List Float) (q : Point) (s : Standing) (placed st : List Float) (room : ℕ)
     (stands : take (6 * s.strips) placed ≡ st) (room_is : standing_capacity w.placed w.placed_firsts ≡ room)
-    (entries : length w.placed-entries ≡ s.entries + length (entries_for (planner_of j).bounds st))
+    (entries : length w.placed_entries ≡ s.entries + length (entries_for (planner_of j).bounds st))
     (long : 6 * room ≤ length placed) (upto : s.strips ≤ room) where
   abbrev P : Planner
   P = planner_of j
@@ -187,16 +187,16 @@ module _ (j : Job) (w : Rooms) (apart : List Float) (q : Point) (s : Standing) (
     verdict_full h =
         refuse_no _ Why.StripRoom _ (le-ltb (standing_capacity w.placed w.placed_firsts) (capacity Now) (roomy room_is))
         ∙ refuse_yes _ Why.EntryRoom Accepted
-        (lt-ltb (length w.placed-entries) (length (entries_for (planner_of j).bounds Now)) (let a = now_entries in omega (arith, a, h, entries)))
+        (lt-ltb (length w.placed_entries) (length (entries_for (planner_of j).bounds Now)) (let a = now_entries in omega (arith, a, h, entries)))
 
     verdict-done : w₁ ≤ s.entries → store_verdict P w Now ≡ Accepted
     unfolding store_verdict
     verdict-done h =
         refuse_no _ Why.StripRoom _ (le-ltb (standing_capacity w.placed w.placed_firsts) (capacity Now) (roomy room_is))
         ∙ refuse_no _ Why.EntryRoom Accepted
-        (le-ltb (length w.placed-entries) (length (entries_for (planner_of j).bounds Now)) (let a = now_entries in omega (arith, a, h, entries)))
+        (le-ltb (length w.placed_entries) (length (entries_for (planner_of j).bounds Now)) (let a = now_entries in omega (arith, a, h, entries)))
 
-    entries-left : w₁ ≤ s.entries → length w.placed-entries ≡ s.entries - w₁ + length (entries_for (planner_of j).bounds Now)
+    entries-left : w₁ ≤ s.entries → length w.placed_entries ≡ s.entries - w₁ + length (entries_for (planner_of j).bounds Now)
     entries-left h = let a = now_entries in omega (arith, a, h, entries)
 
   pub stored_is : (ix : Index) → ix ≡ Ix → (r : Line) (placed' : List Float) → stored r placed' ≡ stored_of ix apart q room s placed → StoredAs j w Now r placed'

@@ -202,9 +202,9 @@ module _ (a b c x y g : List ℕ) where
 
 -- counts of at most 19 digits, and doubles
 pub record Readable (p : Position) : Type 0 where
-  pub kind-few : p.kind < most 10 19
-  pub copy-few : p.copy < most 10 19
-  pub orientation-few : p.orientation < most 10 19
+  pub kind_few : p.kind < most 10 19
+  pub copy_few : p.copy < most 10 19
+  pub orientation_few : p.orientation < most 10 19
   pub x_fits : T (fits binary64 p.x)
   pub y_fits : T (fits binary64 p.y)
   pub gap-fits : T (fits binary64 p.gap)
@@ -286,11 +286,11 @@ module _ (p : Position) (pre : List ℕ) where
       ap (λ (q : ℕ). line_from s q) (sym (length-append pre (112 ∷ 117 ∷ 116 ∷ 32 ∷ [])))
       ∙ (sym (spelled_read (decimal p.kind) (decimal p.copy) (decimal p.orientation) (hex p.x) (hex p.y) (hex p.gap) s start rest
       (starts rest)
-      (tens p.kind r.kind-few) (tens p.copy r.copy-few) (tens p.orientation r.orientation-few) (hexes p.x) (hexes p.y) (hexes p.gap))
+      (tens p.kind r.kind_few) (tens p.copy r.copy_few) (tens p.orientation r.orientation_few) (hexes p.x) (hexes p.y) (hexes p.gap))
       ∙ same_line (value_of 10 0 (decimal p.kind)) (value_of 10 0 (decimal p.orientation)) (value_of 16 0 (hex p.x)) (value_of 16 0 (hex p.y))
       (length whole)
       p.kind p.orientation (to_bits binary64 p.x) (to_bits binary64 p.y) (length (pre ++ put_line p))
-      (decimal_is p.kind r.kind-few) (decimal_is p.orientation r.orientation-few) (hex_is p.x r.x_fits) (hex_is p.y r.y_fits)
+      (decimal_is p.kind r.kind_few) (decimal_is p.orientation r.orientation_few) (hex_is p.x r.x_fits) (hex_is p.y r.y_fits)
       (ap length whole_is))
 
   begins-line : (rest : List ℕ) → begins (pre ++ (put_line p ++ rest)) (length pre) ≡ true

@@ -22,7 +22,7 @@ use Rattle.set_writer.specs.inner.Walks.{Walks, went, Near}
 use Rattle.set_writer.proofs.Walking.{Went, so, went_on, stopped_at, walk-bad, walk_two, walk_same, near-then, near_at, near_more}
 use Rattle.kind_writer.specs.declared.KindsPut.{KindsPut}
 use Rattle.kind_writer.specs.declared.KindsPut.TheVariants.{Kinds, NoKinds}
-use Rattle.kind_writer.specs.inner.WalksKinds.{WalksKinds, went-kinds, stopped-kinds, NearKinds}
+use Rattle.kind_writer.specs.inner.WalksKinds.{WalksKinds, went_kinds, stopped_kinds, NearKinds}
 use Rattle.job_bits.proofs.Takers.{after_ok, bad-first, ok_then, ok_value}
 use Rattle.job_bits.proofs.Heads.{head-back, head-taken, orientations-length}
 
@@ -89,9 +89,9 @@ module _ (cs : List ℕ) (xs : List Float) (w : Walk) (out o o' : List ℕ) (n m
   )
 
 -- ---- a kind
-pub kind-few : (g : KindHead) (cs : List ℕ) (xs : List Float) {w v : Walk} {out o : List ℕ} {r : Walked} → Walks
+pub kind_few : (g : KindHead) (cs : List ℕ) (xs : List Float) {w v : Walk} {out o : List ℕ} {r : Walked} → Walks
     (given_head g cs xs w.counts w.coordinates) head_bits w out r o → r ≡ On v → g.orientations ≤ 16
-kind-few g cs xs {w} {v} {out} {o} F e = go (went_on v F e)
+kind_few g cs xs {w} {v} {out} {o} F e = go (went_on v F e)
   where
     go : Went (given_head g cs xs w.counts w.coordinates) head_bits w out v o → g.orientations ≤ 16
     go (so a f p) = let T = head-taken g a cs xs _ _ _ _ f in subst (λ (n : ℕ). n ≤ 16) T.orientations T.few
@@ -105,7 +105,7 @@ module _ (cs : List ℕ) (xs : List Float) (g : KindHead) (w : Walk) (out o o' :
   kind_on v r₁ r F f G = (
     go (went_on v (F.0 cs xs) f),
     near_more w r _ _ _ 2080 2097152 134238546 (near-then w v r _ _ _ _ _ _ (near_at w (On v) 0 0 114 F.1 f) G.1)
-        (omega (arith, kind-few g cs xs (F.0 cs xs) f)) (omega (arith, kind-few g cs xs (F.0 cs xs) f)) (omega (arith, kind-few g cs xs (F.0 cs xs) f)),
+        (omega (arith, kind_few g cs xs (F.0 cs xs) f)) (omega (arith, kind_few g cs xs (F.0 cs xs) f)) (omega (arith, kind_few g cs xs (F.0 cs xs) f)),
   )
     where
       go : Went (given_head g cs xs w.counts w.coordinates) head_bits w out v o → Walks (given_kind g cs xs w.counts w.coordinates) kind_bits w out r o'
@@ -142,7 +142,7 @@ pub kinds-none : (rows : List ℕ) (areas : List Float) (cs : List ℕ) (xs : Li
     (2097152 * n) (134238546 * n) (4095 * n)
 unfolding given_kinds flat_map copies_of
 kinds-none rows areas cs xs w out n k S e = (
-  went-kinds [] (ap (λ (j : ℕ). given_kinds rows areas j k cs xs w.counts w.coordinates) e)
+  went_kinds [] (ap (λ (j : ℕ). given_kinds rows areas j k cs xs w.counts w.coordinates) e)
       (put-none out w.writer S) refl,
   (omega arith, omega arith, omega arith, omega arith),
 )
@@ -159,21 +159,21 @@ same_second e = cc
 
 pub kinds-went : {t : Taken (List Kind)} {w : Walk} {out o : List ℕ} {r : KindsPut} (v : Walk) (n : ℕ) → WalksKinds t (flat_map kind_bits) w out r o → r ≡ Kinds v
     n → WentKinds t w out v n o
-kinds-went {t} {w} {out} {o} v n (went-kinds {v = u} {n = m} ks e p q) h = subst (λ (z : Walk). WentKinds t w out z n o) (same_first h)
+kinds-went {t} {w} {out} {o} v n (went_kinds {v = u} {n = m} ks e p q) h = subst (λ (z : Walk). WentKinds t w out z n o) (same_first h)
     (so_kinds ks e p (sym (same_second h) ∙ q))
-kinds-went v n (stopped-kinds e l) h = absurd (zero-not-one (cc))
+kinds-went v n (stopped_kinds e l) h = absurd (zero-not-one (cc))
 
 pub kinds-stopped : {t : Taken (List Kind)} {w : Walk} {out o : List ℕ} {r : KindsPut} (k : Refusal) → WalksKinds t (flat_map kind_bits) w out r o → r ≡ NoKinds
     k → (t ≡ bad k) × (length o ≡ length out)
-kinds-stopped k (went-kinds ks e p q) h = absurd (zero-not-one (cc))
-kinds-stopped k (stopped-kinds {k = j} e l) h = (e ∙ ap bad (z h), l)
+kinds-stopped k (went_kinds ks e p q) h = absurd (zero-not-one (cc))
+kinds-stopped k (stopped_kinds {k = j} e l) h = (e ∙ ap bad (z h), l)
   where
     z : {i j : Refusal} → NoKinds i ≡ NoKinds j → i ≡ j
     z e = cc
 
 pub kinds-long : {t : Taken (List Kind)} {w : Walk} {out o : List ℕ} {r : KindsPut} → WalksKinds t (flat_map kind_bits) w out r o → length o ≡ length out
-kinds-long (went-kinds ks e p q) = p.long
-kinds-long (stopped-kinds e l) = l
+kinds-long (went_kinds ks e p q) = p.long
+kinds-long (stopped_kinds e l) = l
 
 pub near-kinds_at : (w : Walk) {r : KindsPut} (s : KindsPut) (c x n q : ℕ) → NearKinds w r c x n q → r ≡ s → NearKinds w s c x n q
 near-kinds_at w s c x n q N e = subst (λ (y : KindsPut). NearKinds w y c x n q) e N
@@ -195,7 +195,7 @@ module _ (rows : List ℕ) (areas : List Float) (cs : List ℕ) (xs : List Float
           let Q = kind-quantity h cs xs _ _ a _ _ y in
           let N = near_at w (On v) 2080 2097152 134238546 F.1 g in
           let M = near-kinds_at v (Kinds u q) (2080 * m) (2097152 * m) (134238546 * m) (4095 * m) G.1 j in (
-            went-kinds (a ∷ ks)
+            went_kinds (a ∷ ks)
                 (kinds_more rows areas cs xs n m k (e ∙ add-one m) w.counts w.coordinates
                 ∙ ok_then (given_kind (head_at rows areas k) cs xs w.counts w.coordinates)
                 (λ a c x. after (given_kinds rows areas m (suc k) cs xs c x) (λ ks c x. ok (a ∷ ks) c x)) a _ _
@@ -218,7 +218,7 @@ module _ (rows : List ℕ) (areas : List Float) (cs : List ℕ) (xs : List Float
           (given_kinds rows areas m (k + 1) cs xs v.counts v.coordinates ≡ bad j) × (length o' ≡ length o) → WalksKinds
           (given_kinds rows areas n k cs xs w.counts w.coordinates) (flat_map kind_bits) w out (NoKinds j) o' × Unit {0}
       go (so a y p) s = (
-        stopped-kinds
+        stopped_kinds
             (kinds_more rows areas cs xs n m k (e ∙ add-one m) w.counts w.coordinates
             ∙ ok_then (given_kind (head_at rows areas k) cs xs w.counts w.coordinates)
             (λ a c x. after (given_kinds rows areas m (suc k) cs xs c x) (λ ks c x. ok (a ∷ ks) c x)) a _ _
@@ -234,7 +234,7 @@ module _ (rows : List ℕ) (areas : List Float) (cs : List ℕ) (xs : List Float
       (NoKinds j) o × Unit {0}
   kinds-bad r₁ j e f F g =
       let s = stopped_at j F.0 g in (
-        stopped-kinds
+        stopped_kinds
             (kinds_more rows areas cs xs n m k (e ∙ add-one m) w.counts w.coordinates
             ∙ bad-first (given_kind (head_at rows areas k) cs xs w.counts w.coordinates)
             (λ a c x. after (given_kinds rows areas m (suc k) cs xs c x) (λ ks c x. ok (a ∷ ks) c x)) j

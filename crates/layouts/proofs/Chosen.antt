@@ -83,10 +83,10 @@ module _ (p : Planner) (st : List Float) (k : ℕ) where
   -- a column, and a height that a look against these strips found free there
   pub record FoundThere (c : Choice) : Type 0 where
     pub opened : reversed_for p (shape_of p k c.orientation) ≡ false
-    pub column-number : ℕ
-    pub within : column-number ≤ last_of p (shape_of p k c.orientation)
-    pub x_is : c.x ≡ column_at p.resolution (ranges_of p (shape_of p k c.orientation)) column-number
-    pub freed : look_at p st (shape_of p k c.orientation) column-number ≡ Free c.y c.gap
+    pub column_number : ℕ
+    pub within : column_number ≤ last_of p (shape_of p k c.orientation)
+    pub x_is : c.x ≡ column_at p.resolution (ranges_of p (shape_of p k c.orientation)) column_number
+    pub freed : look_at p st (shape_of p k c.orientation) column_number ≡ Free c.y c.gap
 
   -- what orientation o found at a column
   abbrev Chose : ℕ → Shape → ℕ → Float → Float → Float → Float → Choice
@@ -107,7 +107,7 @@ module _ (p : Planner) (st : List Float) (k : ℕ) where
           let w : d ≤ last_of p s = omega arith in
           record {
             opened = ap (reversed_for p) (sym e) ∙ q;
-            column-number = d;
+            column_number = d;
             within = subst (λ (t : Shape). d ≤ last_of p t) e w;
             x_is = ap (λ (t : Shape). column_at p.resolution (ranges_of p t) d) e;
             freed = ap (λ (t : Shape). look_at p st t d) (sym e) ∙ v.frees;
@@ -119,14 +119,14 @@ module _ (p : Planner) (st : List Float) (k : ℕ) where
   found_all o [] ts h = tt
   found_all o (s ∷ ss) [] h = tt
   found_all o (s ∷ ss) (t ∷ ts) h =
-      go (search p st s t.next-column) refl
+      go (search p st s t.next_column) refl
       (found_all (suc o) ss ts (λ i l. let y : o + suc i ≡ suc o + i = omega arith in h (suc i) (omega arith) ∙ ap (shape_of p k) y))
     where
-      go : (f : Found) → search p st s t.next-column ≡ f → All FoundThere (choices p (suc o) ss (search_all p st ss ts))
+      go : (f : Found) → search p st s t.next_column ≡ f → All FoundThere (choices p (suc o) ss (search_all p st ss ts))
           → All FoundThere (choice_of p o s f ++ choices p (suc o) ss (search_all p st ss ts))
       go nowhere e r = unfold choice_of in r
       go (at d y g) e r = unfold choice_of in
-          (let z : o + 0 ≡ o = omega arith in (found-one o s (h 0 (omega arith) ∙ ap (shape_of p k) z) t.next-column d y g e _ _, r))
+          (let z : o + 0 ≡ o = omega arith in (found-one o s (h 0 (omega arith) ∙ ap (shape_of p k) z) t.next_column d y g e _ _, r))
 
   -- of all orientations of the kind
   pub row_found : (ts : List Track) → All FoundThere (choices p 0 (get_or p.shapes k []) (search_all p st (get_or p.shapes k []) ts))
@@ -203,7 +203,7 @@ module _ (bytes : List ℕ) (j : Job) (e : read_job bytes ≡ accepted j) where
     R = ranges_of (planner_of j) S
 
     yielded : Yielded P S c.x c.y c.gap
-    yielded = record { opened = H.opened; column-number = H.column-number; within = H.within; x_is = H.x_is; standing = st; freed = H.freed }
+    yielded = record { opened = H.opened; column_number = H.column_number; within = H.within; x_is = H.x_is; standing = st; freed = H.freed }
 
     x_number : Number c.x
     x_number = (place j g k c.orientation c.x c.y c.gap yielded).0.num
@@ -219,7 +219,7 @@ module _ (bytes : List ℕ) (j : Job) (e : read_job bytes ≡ accepted j) where
         let same : eq c.x c.x ≡ true = is_true (eq c.x c.x) (key→eq binary64 c.x c.x X.fit X.fit (finite_real c.x X.is_finite)
         (finite_real c.x X.is_finite) refl) in
         ap (among_columns column (last_of P S)) H.x_is
-        ∙ column_among column (last_of P S) H.column-number H.within (subst (λ (v : Float). eq v v ≡ true) H.x_is same)
+        ∙ column_among column (last_of P S) H.column_number H.within (subst (λ (v : Float). eq v v ≡ true) H.x_is same)
 
     abbrev Freed : Type 0
     Freed = (le R.y_low c.y ≡ true) × (le c.y R.y_high ≡ true)
@@ -232,8 +232,8 @@ module _ (bytes : List ℕ) (j : Job) (e : read_job bytes ≡ accepted j) where
         let Hs = heights_finite P.bounds S.bounds (framed j g) (shape j g k c.orientation).frame in
         let f = shape_in_lem k c.orientation in
         let B : Bounded 3000000 c.x = record { fine = finite x_number; bound = X.bound } in
-        let apart = strips_in S.apart (shape j g k c.orientation).apart-numbers (both_first (strips_fit S.apart) _ f) in
-        let inset = strips_in S.inset (shape j g k c.orientation).inset-numbers
+        let apart = strips_in S.apart (shape j g k c.orientation).apart_numbers (both_first (strips_fit S.apart) _ f) in
+        let inset = strips_in S.inset (shape j g k c.orientation).inset_numbers
         (both_first (strips_fit S.inset) _ (both_second (strips_fit S.apart) _ f)) in
         let look : height_of R.y_low R.y_high (counted_in c.x R.y_low R.y_high S.inset S.apart P.sheet st) ≡ Free c.y c.gap =
         ap (λ (v : Float). height_of R.y_low R.y_high (counted_in v R.y_low R.y_high S.inset S.apart P.sheet st)) H.x_is ∙ H.freed in

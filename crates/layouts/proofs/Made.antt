@@ -88,7 +88,7 @@ same-long (a ∷ es) (b ∷ room) (suc n) h = let r = same-long es room n (both_
 record Alike (w v : Rooms) : Type 0 where
   placed : length w.placed ≡ length v.placed
   firsts : length w.placed_firsts ≡ length v.placed_firsts
-  entries : length w.placed-entries ≡ length v.placed-entries
+  entries : length w.placed_entries ≡ length v.placed_entries
 
 alike_capacity : (w v : Rooms) → Alike w v → standing_capacity w.placed w.placed_firsts ≡ standing_capacity v.placed v.placed_firsts
 unfolding standing_capacity capacity
@@ -97,7 +97,7 @@ alike_capacity w v h = ap₂ (λ (a b : ℕ). min (min (a / 6) b) strip_numbers)
 zeros_alike : (w : Rooms) → Alike (zero_rooms w) w
 unfolding zero_rooms
 zeros_alike w =
-    record { placed = length-zeros pos_zero w.placed; firsts = length-zeros 0 w.placed_firsts; entries = length-zeros 0 w.placed-entries }
+    record { placed = length-zeros pos_zero w.placed; firsts = length-zeros 0 w.placed_firsts; entries = length-zeros 0 w.placed_entries }
 
 -- what fits is laid, and the rooms stay as long
 laid-long : (b : Rect) (st room : List Float) (firsts : List ℕ) → Sixfold st → capacity st ≤ standing_capacity room firsts
@@ -151,7 +151,7 @@ module _ (bytes : List ℕ) (j : Job) (e : read_job bytes ≡ accepted j) (l : L
         record {
           placed = g.0 ∙ h.alike.placed;
           firsts = g.1 ∙ h.alike.firsts;
-          entries = length-laid (entries_for P.bounds now) w.placed-entries f.1 ∙ h.alike.entries;
+          entries = length-laid (entries_for P.bounds now) w.placed_entries f.1 ∙ h.alike.entries;
         }
 
     took_layable : (r : Step) → Took j s w r → Layable r.state r.rooms (plain_take P q q.to_come_lem)
@@ -176,9 +176,9 @@ module _ (bytes : List ℕ) (j : Job) (e : read_job bytes ≡ accepted j) (l : L
         let d = length-take (6 * n) w.placed in
         omega arith
 
-    entries_short : length (entries_for P.bounds St) ≤ length w.placed-entries
+    entries_short : length (entries_for P.bounds St) ≤ length w.placed_entries
     unfolding numbers_lie
-    entries_short = same-long (entries_for P.bounds St) w.placed-entries (length (entries_for P.bounds St)) h.held.held.own.placed-entries
+    entries_short = same-long (entries_for P.bounds St) w.placed_entries (length (entries_for P.bounds St)) h.held.held.own.placed_entries
 
     module _ (n : ℕ) (r : Reply) (t : Went j s w n r) where
       abbrev Test : Standing → Bool
@@ -206,7 +206,7 @@ module _ (bytes : List ℕ) (j : Job) (e : read_job bytes ≡ accepted j) (l : L
           record {
             placed = g.0 ∙ f.placed ∙ h.alike.placed;
             firsts = g.1 ∙ f.firsts ∙ h.alike.firsts;
-            entries = length-laid (entries_for P.bounds left) (zeros 0 w.placed-entries) (omega arith) ∙ f.entries ∙ h.alike.entries;
+            entries = length-laid (entries_for P.bounds left) (zeros 0 w.placed_entries) (omega arith) ∙ f.entries ∙ h.alike.entries;
           }
 
       back_layable : Layable r.state r.rooms (plain_back P n q)
@@ -226,7 +226,7 @@ module _ (bytes : List ℕ) (j : Job) (e : read_job bytes ≡ accepted j) (l : L
         let i = stored_if P l.rooms St (omega arith) (omega arith) in
         let n : 0 + length ls ≡ length (standing_of s) = (let m = length-map (standing_of s) (line_of f) in omega arith) in
         legal_accepted j P l.rooms ls [] [] (own_named j f (standing_of s) o.stands)
-        (few_stand j f s (rw o.order-kept h.held.rearranges) o.few) (own_places P f [] (standing_of s) h.legal) sixfold_nil
+        (few_stand j f s (rw o.order_kept h.held.rearranges) o.few) (own_places P f [] (standing_of s) h.legal) sixfold_nil
         (subst (λ (st : List Float). store_verdict P l.rooms st ≡ Accepted) (sym (own_strips P f [] (standing_of s) h.legal)) i)
         ∙ ap accepted_at n
 
@@ -250,7 +250,7 @@ module _ (bytes : List ℕ) (j : Job) (e : read_job bytes ≡ accepted j) (l : L
         alike = record {
           placed = length-zeros pos_zero l.rooms.placed;
           firsts = length-zeros 0 l.rooms.placed_firsts;
-          entries = length-zeros 0 l.rooms.placed-entries;
+          entries = length-zeros 0 l.rooms.placed_entries;
         };
       }
 

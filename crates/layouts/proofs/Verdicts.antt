@@ -54,20 +54,20 @@ entries-together b st new s t = entries_append (sheet_index b) st new s t
 
 module _ (p : Planner) (w : Rooms) where
   pub stored_if : (st : List Float) → capacity st ≤ standing_capacity w.placed w.placed_firsts
-      → length (entries_for p.bounds st) ≤ length w.placed-entries → store_verdict p w st ≡ Accepted
+      → length (entries_for p.bounds st) ≤ length w.placed_entries → store_verdict p w st ≡ Accepted
   unfolding store_verdict refuse_if
   stored_if st a b =
-      rw (le-ltb (standing_capacity w.placed w.placed_firsts) (capacity st) a, le-ltb (length w.placed-entries) (length (entries_for p.bounds st)) b)
+      rw (le-ltb (standing_capacity w.placed w.placed_firsts) (capacity st) a, le-ltb (length w.placed_entries) (length (entries_for p.bounds st)) b)
 
   pub if_stored : (st : List Float) → store_verdict p w st ≡ Accepted
-      → (capacity st ≤ standing_capacity w.placed w.placed_firsts) × (length (entries_for p.bounds st) ≤ length w.placed-entries)
+      → (capacity st ≤ standing_capacity w.placed w.placed_firsts) × (length (entries_for p.bounds st) ≤ length w.placed_entries)
   unfolding store_verdict
   if_stored st v =
       let room = standing_capacity w.placed w.placed_firsts in
       let entries = length (entries_for p.bounds st) in
-      let a = later_accepted (ltb room (capacity st)) Why.StripRoom (refuse_if (ltb (length w.placed-entries) entries) Why.EntryRoom Accepted) v in
-      let b = later_accepted (ltb (length w.placed-entries) entries) Why.EntryRoom Accepted a.1 in
-      (ltb-false room (capacity st) a.0, ltb-false (length w.placed-entries) entries b.0)
+      let a = later_accepted (ltb room (capacity st)) Why.StripRoom (refuse_if (ltb (length w.placed_entries) entries) Why.EntryRoom Accepted) v in
+      let b = later_accepted (ltb (length w.placed_entries) entries) Why.EntryRoom Accepted a.1 in
+      (ltb-false room (capacity st) a.0, ltb-false (length w.placed_entries) entries b.0)
 
   -- a part of what fits fits
   pub stored_less : (st new : List Float) → Sixfold st → Sixfold new → store_verdict p w (st ++ new) ≡ Accepted → store_verdict p w st ≡ Accepted

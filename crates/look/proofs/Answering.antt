@@ -95,7 +95,7 @@ module _ (ix : Index) (x yl yh : Float) (inset apart sheet placed : List Float) 
   -- the index lists exactly the counted intervals of all pairs, each once
   pub look_perm : Permᴰ lists (counted_in x yl yh inset apart sheet placed)
   unfolding counted_in
-  look_perm = perm_append (part sheet inset se ss A.sheet-laid A.sheets A.insets) (part placed apart pe ps A.placed-laid A.places A.aparts)
+  look_perm = perm_append (part sheet inset se ss A.sheet_laid A.sheets A.insets) (part placed apart pe ps A.placed_laid A.places A.aparts)
 
   pub look_finite : FiniteEnds (counted_in x yl yh inset apart sheet placed)
   look_finite = counted_finite x yl yh inset apart sheet placed A.low A.high A.column A.insets A.aparts A.sheets A.places
@@ -104,10 +104,10 @@ module _ (ix : Index) (x yl yh : Float) (inset apart sheet placed : List Float) 
   usable standing e s L S = laid_usable ix A.index standing (capacity standing) e s L (λ i h. wide (S i h).x0) (λ i h. wide (S i h).x1)
 
   pub sheet_usable : Usable sheet se ss
-  sheet_usable = usable sheet se ss A.sheet-laid A.sheets
+  sheet_usable = usable sheet se ss A.sheet_laid A.sheets
 
   pub placed_usable : Usable placed pe ps
-  placed_usable = usable placed pe ps A.placed-laid A.places
+  placed_usable = usable placed pe ps A.placed_laid A.places
 
 -- the two calls as one
 pub both_pushed : (r r' r'' : List Float) (m n : ℕ) (k l : List Interval) → collected r' m ≡ push_all (collected r 0) k → collected r'' n ≡ push_all (collected r' m) l → collected r'' n ≡ push_all (collected r 0) (k ++ l)

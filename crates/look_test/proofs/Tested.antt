@@ -79,14 +79,14 @@ all_zero l h b = go (below_or_not b (length l))
     go (inr a) = get_or-eq_default l 0 a
 
 -- ---- the look
-module _ (x0 x1 x y_low y_high : Float) (inset apart sheet placed : List Float) (sheet-entries sheet-starts placed-entries placed-starts : List ℕ) where
+module _ (x0 x1 x y_low y_high : Float) (inset apart sheet placed : List Float) (sheet_entries sheet_starts placed_entries placed_starts : List ℕ) where
   pub lookable : (ix : Index) → ix ≡ index_of x0 x1 → FairColumn x0 x1 x y_low y_high → FairStrips sheet placed inset apart
-      → Laid ix sheet (capacity sheet) sheet-entries sheet-starts → Laid ix placed (capacity placed) placed-entries placed-starts
-      → Lookable ix x y_low y_high inset apart sheet placed sheet-entries sheet-starts placed-entries placed-starts
+      → Laid ix sheet (capacity sheet) sheet_entries sheet_starts → Laid ix placed (capacity placed) placed_entries placed_starts
+      → Lookable ix x y_low y_high inset apart sheet placed sheet_entries sheet_starts placed_entries placed_starts
   lookable ix e c s a b = record {
     index = rw e (new_fair x0 x1 (widen 1000000 4000000 (lit≤ tt) c.left) (widen 1000000 4000000 (lit≤ tt) c.right));
-    sheet-laid = a;
-    placed-laid = b;
+    sheet_laid = a;
+    placed_laid = b;
     column = widen 1000000 3000000 (lit≤ tt) c.column;
     low = c.low.fine;
     high = c.high.fine;

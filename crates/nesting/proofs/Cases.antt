@@ -2,9 +2,9 @@
 -- Assumes nothing.
 use mathlib.Core.Path.{◌≡◌, refl, ap₂}
 use mathlib.Core.List.{List, [], ◌∷◌, map}
-use Rattle.nesting.specs.Cases.{Case, starred, starred1, starred2, starred3, starred4, starred4-fill, starred4-plan, starred4_text, starred5}
-use Rattle.nesting.specs.Cases.{starred5_calls, starred6, starred7, starred8, starred9, starred10, starred11, starred-gap, starred-frame}
-use Rattle.nesting.specs.Cases.{starred-back, starred_freed}
+use Rattle.nesting.specs.Cases.{Case, starred, starred1, starred2, starred3, starred4, starred4_fill, starred4_plan, starred4_text, starred5}
+use Rattle.nesting.specs.Cases.{starred5_calls, starred6, starred7, starred8, starred9, starred10, starred11, starred_gap, starred_frame}
+use Rattle.nesting.specs.Cases.{starred_back, starred_freed}
 
 abbrev Holds : Case → Type 0
 Holds c = c.got ≡ c.want
@@ -26,11 +26,11 @@ case-4_calls : Holds starred4
 unfolding Rattle.nesting.proofs.Computing.cases_compute
 case-4_calls = refl
 
-case-4_fill : Holds starred4-fill
+case-4_fill : Holds starred4_fill
 unfolding Rattle.nesting.proofs.Computing.cases_compute
 case-4_fill = refl
 
-case-4_plan : Holds starred4-plan
+case-4_plan : Holds starred4_plan
 unfolding Rattle.nesting.proofs.Computing.cases_compute
 case-4_plan = refl
 
@@ -70,15 +70,15 @@ case-11 : Holds starred11
 unfolding Rattle.nesting.proofs.Computing.cases_compute
 case-11 = refl
 
-case_gap : Holds starred-gap
+case_gap : Holds starred_gap
 unfolding Rattle.nesting.proofs.Computing.cases_compute
 case_gap = refl
 
-case_frame : Holds starred-frame
+case_frame : Holds starred_frame
 unfolding Rattle.nesting.proofs.Computing.cases_compute
 case_frame = refl
 
-case_back : Holds starred-back
+case_back : Holds starred_back
 unfolding Rattle.nesting.proofs.Computing.cases_compute
 case_back = refl
 

@@ -23,9 +23,9 @@ use Rattle.nesting.specs.Sheets.{rectangle, triangle, clockwise, both, job_in, j
 use Rattle.nesting.specs.Cases.{plan_bits}
 use Rattle.nesting.specs.Cases.{job_bits, draws_of, state_bits, after_bits, column_bits, planned_bits, called_bits, five_copies, nothing, four_plates}
 use Rattle.nesting.specs.Cases.{plate_strips, four_strips, four_entries, four_firsts, rooms_left, four_standing, case4_plan, exact, case4_rooms, starred1}
-use Rattle.nesting.specs.Cases.{starred2, starred3, starred4, starred4-fill, starred4-plan, starred4_text, starred5, starred5_calls, starred6, starred7}
-use Rattle.nesting.specs.Cases.{starred8, starred9, starred10, starred11, gapped, gap_number, gap_numbers, gaps_judged, starred-gap, starred}
-use Rattle.nesting.specs.Cases.{second_plates, starred-frame, next_copies, rooms_again, starred-back, starred_freed}
+use Rattle.nesting.specs.Cases.{starred2, starred3, starred4, starred4_fill, starred4_plan, starred4_text, starred5, starred5_calls, starred6, starred7}
+use Rattle.nesting.specs.Cases.{starred8, starred9, starred10, starred11, gapped, gap_number, gap_numbers, gaps_judged, starred_gap, starred}
+use Rattle.nesting.specs.Cases.{second_plates, starred_frame, next_copies, rooms_again, starred_back, starred_freed}
 
 unfoldable pub copy-order_computes : Unit {0}
 unfolding same_priority numbered larger_first higher_first ahead copy_order
@@ -73,13 +73,13 @@ unfolding lent_bits plan_bits job_bits draws_of state_bits after_bits column_bit
 cases_compute-5 = tt
 
 unfoldable pub cases_compute-6 : Unit {0}
-unfolding four_strips four_entries four_firsts rooms_left four_standing case4_plan exact case4_rooms case4_text starred1 starred2 starred3 starred4 starred4-fill
+unfolding four_strips four_entries four_firsts rooms_left four_standing case4_plan exact case4_rooms case4_text starred1 starred2 starred3 starred4 starred4_fill
 cases_compute-6 = tt
 
 unfoldable pub cases_compute-7 : Unit {0}
-unfolding starred4-plan starred4_text starred5 starred5_calls starred6 starred7 starred8 starred9 starred10 starred11
-    gapped gap_number gap_numbers gaps_judged starred-gap second_plates starred-frame
-    next_copies rooms_again starred-back starred_freed starred
+unfolding starred4_plan starred4_text starred5 starred5_calls starred6 starred7 starred8 starred9 starred10 starred11
+    gapped gap_number gap_numbers gaps_judged starred_gap second_plates starred_frame
+    next_copies rooms_again starred_back starred_freed starred
 cases_compute-7 = tt
 
 unfoldable pub cases_compute : Unit {0}

@@ -251,12 +251,12 @@ starred4 =
     }
 
 -- a filling, the whole plan, and its text
-unfoldable pub starred4-fill : Case
-starred4-fill = record { got = planned_bits (fill_of case4 five_copies exact); want = case4_plan ++ case4_rooms }
+unfoldable pub starred4_fill : Case
+starred4_fill = record { got = planned_bits (fill_of case4 five_copies exact); want = case4_plan ++ case4_rooms }
 
 -- the whole plan
-unfoldable pub starred4-plan : Case
-starred4-plan = record { got = planned_bits (nest_of case4 exact); want = case4_plan ++ case4_rooms }
+unfoldable pub starred4_plan : Case
+starred4_plan = record { got = planned_bits (nest_of case4 exact); want = case4_plan ++ case4_rooms }
 
 -- "as printed above"
 unfoldable pub starred4_text : Case
@@ -326,8 +326,8 @@ starred11 =
     }
 
 -- document 02, W7: "a state's gap not in 0..1,000,000 is 31"; that of a copy to come is not judged
-unfoldable pub starred-gap : Case
-starred-gap =
+unfoldable pub starred_gap : Case
+starred_gap =
     record {
       got = gaps_judged (start_of case4 five_copies (lent_sized (rooms_sized 19 31 823) 5 31));
       want = (0 ∷ 0 ∷ 31 ∷ 31 ∷ 31 ∷ []) ∷ (0 ∷ []) ∷ [];
@@ -338,8 +338,8 @@ unfoldable pub second_plates : List ℕ
 second_plates = bits (map from_int (0 ∷ 0 ∷ 0 ∷ 6 ∷ 0 ∷ 6 ∷ 0 ∷ 1 ∷ 0 ∷ 2 ∷ 0 ∷ 2 ∷ 0 ∷ 2 ∷ 0 ∷ 6 ∷ 3 ∷ 6 ∷ 0 ∷ 3 ∷ 0 ∷ 2 ∷ 3 ∷ 2 ∷ []))
 
 -- document 02, W1: "The second table has its stop at lower right and advances upward." Case 4 there: 8 looks = 2 + 4 + 1 + 1, right 6, no offcut
-unfoldable pub starred-frame : Case
-starred-frame =
+unfoldable pub starred_frame : Case
+starred_frame =
     record {
       got = job_bits (job_in 2 (record { corner = 1; axis = 0 }) 1 5 12 0 (rectangle 4 3 ∷ []));
       want = (0 ∷ 4 ∷ 1 ∷ 0 ∷ []) ∷ (4 ∷ 0 ∷ 1 ∷ 0 ∷ []) ∷ (8 ∷ 0 ∷ []) ∷ (d6 ∷ 0x4028000000000000 ∷ 0 ∷ []) ∷ (second_plates ++ nothing 1) ∷ [];
@@ -347,8 +347,8 @@ starred-frame =
 
 -- document 02, W4: case 4, the second copy taken back: later ones close up. The copy at place 3 then has no place: 24. The next copy stands where the second
 -- stood: one look, for every remembered column has returned to 0
-unfoldable pub starred-back : Case
-starred-back =
+unfoldable pub starred_back : Case
+starred_back =
     record {
       got =
           called_bits (next_copies 5 ++ (withdraw 1 ∷ withdraw 3 ∷ next_copies 1)) (start_of case4 five_copies (lent_sized (rooms_sized 19 31 823) 5 31));
@@ -373,5 +373,5 @@ starred_freed =
 -- the starred cases
 unfoldable pub starred : List Case
 starred =
-    starred1 ∷ starred2 ∷ starred3 ∷ starred4 ∷ starred4-fill ∷ starred4-plan ∷ starred4_text ∷ starred5 ∷ starred5_calls ∷ starred6 ∷ starred7
-    ∷ starred8 ∷ starred9 ∷ starred10 ∷ starred11 ∷ starred-gap ∷ starred-frame ∷ starred-back ∷ starred_freed ∷ []
+    starred1 ∷ starred2 ∷ starred3 ∷ starred4 ∷ starred4_fill ∷ starred4_plan ∷ starred4_text ∷ starred5 ∷ starred5_calls ∷ starred6 ∷ starred7
+    ∷ starred8 ∷ starred9 ∷ starred10 ∷ starred11 ∷ starred_gap ∷ starred_frame ∷ starred_back ∷ starred_freed ∷ []

@@ -57,8 +57,8 @@ rooms_sized shapes placed entries =
       shapes = room shapes;
       sheet = room 7;
       placed = room placed;
-      sheet-entries = 9 ∷ [];
-      placed-entries = replicate entries 9;
+      sheet_entries = 9 ∷ [];
+      placed_entries = replicate entries 9;
       sheet_firsts = 9 ∷ [];
       placed_firsts = replicate (placed / 6) 9;
     }
@@ -74,7 +74,7 @@ ample = lent_sized (rooms_sized 25 31 1100) 9 31
 -- what lies in the rooms of strips, entries and bucket numbers
 unfoldable pub rooms_bits : Rooms → List (List ℕ)
 rooms_bits w =
-    bits w.shapes ∷ bits w.sheet ∷ bits w.placed ∷ w.sheet-entries ∷ w.placed-entries ∷ w.sheet_firsts ∷ w.placed_firsts ∷ []
+    bits w.shapes ∷ bits w.sheet ∷ bits w.placed ∷ w.sheet_entries ∷ w.placed_entries ∷ w.sheet_firsts ∷ w.placed_firsts ∷ []
 
 -- what lies in all nine rooms
 unfoldable pub lent_bits : Lent → List (List ℕ)

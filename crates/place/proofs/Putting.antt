@@ -108,7 +108,7 @@ winner_among n o k b Founds.Overflow h = tt
 
 orientation_among : (n : ℕ) (w : Surroundings) (i o : ℕ) (counts next : List ℕ) → o < n → Among n (orientation_of w i o counts next).winner
 unfolding orientation_of won
-orientation_among n w i o counts next h = winner_among n o (columns_at w i) (bounds_at w.inset-bounds i) (search_of (looks_at w i) (columns_at w i) i counts next).found h
+orientation_among n w i o counts next h = winner_among n o (columns_at w i) (bounds_at w.inset_bounds i) (search_of (looks_at w i) (columns_at w i) i counts next).found h
 
 choose_among : (n : ℕ) (w : Surroundings) (i m o : ℕ) (b : Chosen) → o + m ≤ n → Among n b.winner → Among n (choose_from w i m o b).winner
 unfolding choose_from bettered

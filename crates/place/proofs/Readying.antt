@@ -45,8 +45,8 @@ module _ (ix : Index) (placed : List Float) (n : ℕ) (e s : List ℕ) (S : Stan
         few = F.few;
         lookable = λ c h. record {
           index = F.index;
-          sheet-laid = F.sheet-laid;
-          placed-laid = subst⁻¹ (λ (z : List Float). Laid ix z (capacity z) e s) p prefix_laid;
+          sheet_laid = F.sheet_laid;
+          placed_laid = subst⁻¹ (λ (z : List Float). Laid ix z (capacity z) e s) p prefix_laid;
           column = F.column c h;
           low = F.low;
           high = F.high;

@@ -41,8 +41,8 @@ program_rooms =
         shapes = strip_room;
         sheet = strip_room;
         placed = strip_room;
-        sheet-entries = entry_room;
-        placed-entries = entry_room;
+        sheet_entries = entry_room;
+        placed_entries = entry_room;
         sheet_firsts = first_room;
         placed_firsts = first_room;
       };

@@ -46,21 +46,21 @@ module _ (p : Planner) (w : Rooms) where
   refused-strips h = rw (lt-ltb (standing_capacity w.sheet w.sheet_firsts) (capacity p.sheet) h)
 
   module _ (s : capacity p.sheet ≤ standing_capacity w.sheet w.sheet_firsts) where
-    pub refused-entries : length w.sheet-entries < length (entries_for p.bounds p.sheet) → prepare_verdict p w ≡ Refused Why.EntryRoom
+    pub refused-entries : length w.sheet_entries < length (entries_for p.bounds p.sheet) → prepare_verdict p w ≡ Refused Why.EntryRoom
     unfolding prepare_verdict refuse_if
     refused-entries h = rw (
       le-ltb (standing_capacity w.sheet w.sheet_firsts) (capacity p.sheet) s,
-      lt-ltb (length w.sheet-entries)
+      lt-ltb (length w.sheet_entries)
           (length (entries_for p.bounds p.sheet)) h,
     )
 
-    module _ (e : length (entries_for p.bounds p.sheet) ≤ length w.sheet-entries) where
+    module _ (e : length (entries_for p.bounds p.sheet) ≤ length w.sheet_entries) where
       pub refused-shapes : capacity w.shapes < capacity (apart_strips_of p ++ inset_strips p) → prepare_verdict p w ≡ Refused Why.StripRoom
       unfolding prepare_verdict refuse_if
       refused-shapes h =
           rw (
             le-ltb (standing_capacity w.sheet w.sheet_firsts) (capacity p.sheet) s,
-            le-ltb (length w.sheet-entries)
+            le-ltb (length w.sheet_entries)
                 (length (entries_for p.bounds p.sheet)) e,
             lt-ltb (capacity w.shapes) (capacity (apart_strips_of p ++ inset_strips p)) h,
           )
@@ -70,7 +70,7 @@ module _ (p : Planner) (w : Rooms) where
       prepared_all h =
           rw (
             le-ltb (standing_capacity w.sheet w.sheet_firsts) (capacity p.sheet) s,
-            le-ltb (length w.sheet-entries)
+            le-ltb (length w.sheet_entries)
                 (length (entries_for p.bounds p.sheet)) e,
             le-ltb (capacity w.shapes) (capacity (apart_strips_of p ++ inset_strips p)) h,
           )

@@ -20,12 +20,12 @@ use Rattle.filling.proofs.Sizes.{sized}
 use Rattle.filling.proofs.Begin.{apart-room, apart-lies, lacking, rearranged-length}
 use Rattle.filling_laws.specs.fill_laws.inner.Prepared.{Given, Prepared}
 use Rattle.filling_laws.proofs.fill_laws.Between.{kind-below}
-use Rattle.filling_laws.proofs.fill_laws.Ready.{parts-long}
+use Rattle.filling_laws.proofs.fill_laws.Ready.{parts_long}
 use Rattle.report.specs.offcut.inner.Reaching.{apart_at, Parted}
 
 -- the strips that a slot's part says, out of a room
 abbrev lies : ℕ → List ℕ → List Float → List Float
-lies i parts room = let q = part_at parts i in part_of room q.apart-start q.apart-count
+lies i parts room = let q = part_at parts i in part_of room q.apart_start q.apart_count
 
 -- the job's apart strips lie in the shapes room where the parts say
 pub parted : (j : Job) (g : Given) → Prepared j g → (shapes : List Float) (n : ℕ) → g.apart ≡ take n shapes → Parted (planner_of j) g.parts shapes
@@ -79,7 +79,7 @@ report_ready j g h order few kinds n v r o x y gap looks room lo lx ly lg ll lr 
 )
   where
     all_parts : 4096 ≤ length g.parts
-    all_parts = let a = ap length h.parts in let b = parts-long (planner_of j) in omega (arith, a, b)
+    all_parts = let a = ap length h.parts in let b = parts_long (planner_of j) in omega (arith, a, b)
 
     long : {a b : ℕ} → a ≤ 4096 → b ≡ 4096 → a ≤ b
     long h e = omega arith

@@ -94,13 +94,13 @@ module _ (f g : ℕ → List Trapezoid) (b : ℕ → Rect) (s : ℕ → Shape) (
   in_slots q h = let l = length-by_slot s in omega arith
 
   abbrev wanted : ℕ → Part
-  wanted q = record { apart-start = length (strips_to f q); apart-count = length (f q); inset-start = length (strips_to g q); inset-count = length (g q) }
+  wanted q = record { apart_start = length (strips_to f q); apart_count = length (f q); inset_start = length (strips_to g q); inset_count = length (g q) }
 
   first_wanted : (c : ℕ) → record {
-    apart-start = length (strips_to f c);
-    apart-count = capacity (s c).apart;
-    inset-start = length (strips_to g c);
-    inset-count = capacity (s c).inset;
+    apart_start = length (strips_to f c);
+    apart_count = capacity (s c).apart;
+    inset_start = length (strips_to g c);
+    inset_count = capacity (s c).inset;
   } ≡ wanted c
   first_wanted c = rw (ap capacity (fs c) ∙ capacity-flat (f c), ap capacity (gs c) ∙ capacity-flat (g c))
 
@@ -146,10 +146,10 @@ module _ (f g : ℕ → List Trapezoid) (b : ℕ → Rect) (s : ℕ → Shape) (
         let m = length-by_slot s in
         let k = flat-parts-length (by_slot s) 0 0 in
         four_ext 0 1024 parts (flat_parts (parts_from 0 0 (by_slot s))) l (omega arith)
-        (λ q h. first q h ∙ sym (ap (λ (p : Part). p.apart-start) (part_is q h)))
-        (λ q h. second q h ∙ sym (ap (λ (p : Part). p.apart-count) (part_is q h)))
-        (λ q h. third q h ∙ sym (ap (λ (p : Part). p.inset-start) (part_is q h)))
-        (λ q h. fourth q h ∙ sym (ap (λ (p : Part). p.inset-count) (part_is q h)))
+        (λ q h. first q h ∙ sym (ap (λ (p : Part). p.apart_start) (part_is q h)))
+        (λ q h. second q h ∙ sym (ap (λ (p : Part). p.apart_count) (part_is q h)))
+        (λ q h. third q h ∙ sym (ap (λ (p : Part). p.inset_start) (part_is q h)))
+        (λ q h. fourth q h ∙ sym (ap (λ (p : Part). p.inset_count) (part_is q h)))
 
   bounds_is : (q : ℕ) → q < 1024 → bounds_at (flat_bounds (map (λ t. t.bounds) (by_slot s))) q ≡ b q
   bounds_is q h = bounds_slot (by_slot s) q (in_slots q h) ∙ ap (λ t. t.bounds) (slot q h) ∙ bs q

@@ -100,18 +100,18 @@ module _ (bytes rows places : List ℕ) (h : Header) (at c : ℕ) (t : (areas : 
 -- ---- the whole
 record Zeroed (s : Start) (l : Lent) : Type 0 where
   placed : zeros pos_zero l.rooms.placed ≡ s.lent.rooms.placed
-  placed-entries : zeros 0 l.rooms.placed-entries ≡ s.lent.rooms.placed-entries
+  placed_entries : zeros 0 l.rooms.placed_entries ≡ s.lent.rooms.placed_entries
   placed_firsts : zeros 0 l.rooms.placed_firsts ≡ s.lent.rooms.placed_firsts
   intervals : zeros pos_zero l.intervals ≡ s.lent.intervals
   positions : zeros pos_zero l.positions ≡ s.lent.positions
 
 refused_zeroed : (k : Refusal) (l : Lent) → Zeroed (no_start k l) l
 unfolding no_start only_positions zero_rooms laid
-refused_zeroed k l = record { placed = refl; placed-entries = refl; placed_firsts = refl; intervals = refl; positions = refl }
+refused_zeroed k l = record { placed = refl; placed_entries = refl; placed_firsts = refl; intervals = refl; positions = refl }
 
 good_zeroed : (p : Planner) (order : List ℕ) (l : Lent) → Zeroed (good_start p order l) l
 unfolding good_start first_rooms
-good_zeroed p order l = record { placed = refl; placed-entries = refl; placed_firsts = refl; intervals = refl; positions = refl }
+good_zeroed p order l = record { placed = refl; placed_entries = refl; placed_firsts = refl; intervals = refl; positions = refl }
 
 job_zeroed : (j : Job) (order : List ℕ) (l : Lent) → Zeroed (start_job j order l) l
 job_zeroed j order l = go (start_verdict j order l) refl
@@ -130,21 +130,21 @@ start-same : (v v' : Verdict) (t t' : State) (a a' b b' c c' : List Float) (d d'
     → ◌≡◌ {A = Start} (record { verdict = v; state = t; lent = lent_of a b c d e m n f g }) (record { verdict = v'; state = t'; lent = lent_of a' b' c' d' e' m' n' f' g' })
 start-same v v' t t' a a' b b' c c' d d' e e' m m' n n' f f' g g' h1 h2 h3 h4 h5 h6 h7 h8 h9 h10 h11 = rw (h1, h2, h3, h4, h5, h6, h7, h8, h9, h10, h11)
 
-both-same : (r : Started) (s : Start) (l : Lent) (shapes sheet placed : List Float) (entries placed-entries firsts placed_firsts : List ℕ)
+both-same : (r : Started) (s : Start) (l : Lent) (shapes sheet placed : List Float) (entries placed_entries firsts placed_firsts : List ℕ)
     (intervals positions : List Float) → Begun r s shapes sheet entries firsts → Zeroed s l
-    → placed ≡ zeros pos_zero l.rooms.placed → placed-entries ≡ zeros 0 l.rooms.placed-entries → placed_firsts ≡ zeros 0 l.rooms.placed_firsts
+    → placed ≡ zeros pos_zero l.rooms.placed → placed_entries ≡ zeros 0 l.rooms.placed_entries → placed_firsts ≡ zeros 0 l.rooms.placed_firsts
     → intervals ≡ zeros pos_zero l.intervals → positions ≡ zeros pos_zero l.positions
-    → answered r (lent_of shapes sheet placed entries placed-entries firsts placed_firsts intervals positions) ≡ s
-both-same r s l shapes sheet placed entries placed-entries firsts placed_firsts intervals positions B Z a b f c d =
+    → answered r (lent_of shapes sheet placed entries placed_entries firsts placed_firsts intervals positions) ≡ s
+both-same r s l shapes sheet placed entries placed_entries firsts placed_firsts intervals positions B Z a b f c d =
     start-same _ _ _ _ _ _ _ _ _ _ _ _ _ _ _ _ _ _ _ _ _ _ B.verdict_is B.state_is B.shapes_are B.sheet_is (a ∙ Z.placed) B.entries_are
-    (b ∙ Z.placed-entries) B.firsts_are (f ∙ Z.placed_firsts) (c ∙ Z.intervals) (d ∙ Z.positions)
+    (b ∙ Z.placed_entries) B.firsts_are (f ∙ Z.placed_firsts) (c ∙ Z.intervals) (d ∙ Z.positions)
 
-pub whole : (bytes order : List ℕ) (l : Lent) (r : Started) (shapes sheet placed : List Float) (entries placed-entries firsts placed_firsts : List ℕ)
+pub whole : (bytes order : List ℕ) (l : Lent) (r : Started) (shapes sheet placed : List Float) (entries placed_entries firsts placed_firsts : List ℕ)
     (intervals positions : List Float) → Begun r (start_of bytes order l) shapes sheet entries firsts
-    → placed ≡ zeros pos_zero l.rooms.placed → placed-entries ≡ zeros 0 l.rooms.placed-entries → placed_firsts ≡ zeros 0 l.rooms.placed_firsts
+    → placed ≡ zeros pos_zero l.rooms.placed → placed_entries ≡ zeros 0 l.rooms.placed_entries → placed_firsts ≡ zeros 0 l.rooms.placed_firsts
     → intervals ≡ zeros pos_zero l.intervals → positions ≡ zeros pos_zero l.positions
-    → answered r (lent_of shapes sheet placed entries placed-entries firsts placed_firsts intervals positions) ≡ start_of bytes order l
+    → answered r (lent_of shapes sheet placed entries placed_entries firsts placed_firsts intervals positions) ≡ start_of bytes order l
 unfolding start_of
-whole bytes order l r shapes sheet placed entries placed-entries firsts placed_firsts intervals positions B a b f c d =
-    both-same r (start_given (read_job bytes) order l) l shapes sheet placed entries placed-entries firsts placed_firsts intervals positions B
+whole bytes order l r shapes sheet placed entries placed_entries firsts placed_firsts intervals positions B a b f c d =
+    both-same r (start_given (read_job bytes) order l) l shapes sheet placed entries placed_entries firsts placed_firsts intervals positions B
     (given_zeroed (read_job bytes) order l) a b f c d

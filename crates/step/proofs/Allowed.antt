@@ -48,8 +48,8 @@ six a l h g = omega arith
 below : (s n o : ℕ) → s + n ≤ 1024 → o < n → s + o < 1024
 below s n o h g = omega arith
 
-module _ {j : Job} {s : State} {w : Rooms} {rows : List ℕ} {areas : List Float} {sheet-starts starts : List ℕ}
-    (G : Going j s w rows areas sheet-starts starts) where
+module _ {j : Job} {s : State} {w : Rooms} {rows : List ℕ} {areas : List Float} {sheet_starts starts : List ℕ}
+    (G : Going j s w rows areas sheet_starts starts) where
   -- ---- the next copy's kind and its number of orientations
   abbrev pub kind : ℕ
   kind = get_or s.order s.taken 0
@@ -66,8 +66,8 @@ module _ {j : Job} {s : State} {w : Rooms} {rows : List ℕ} {areas : List Float
   pub turns_are : get_or (orientation_counts j) kind 0 ≡ turns
   turns_are = G.tabled.orientations kind known
 
-  pub kind-few : kind < 64
-  kind-few = let a = known in let b = G.tabled.few in omega arith
+  pub kind_few : kind < 64
+  kind_few = let a = known in let b = G.tabled.few in omega arith
 
   pub taken-few : s.taken < 4096
   taken-few = let a = G.left in let b = G.few in omega arith
@@ -87,8 +87,8 @@ module _ {j : Job} {s : State} {w : Rooms} {rows : List ℕ} {areas : List Float
     pub slots-few : q.slot + q.orientations ≤ 1024
     slots-few = subst⁻¹ (λ (q : Copy). q.slot + q.orientations ≤ 1024) f slots
 
-    pub turns-few : q.orientations ≤ 1024
-    turns-few = let h = slots-few in omega arith
+    pub turns_few : q.orientations ≤ 1024
+    turns_few = let h = slots-few in omega arith
 
     module _ (D : InDoubles s w) where
       pub allowed_counts : (counts : List ℕ) → counts ≡ s.look_counts → (o : ℕ) → o < q.orientations → get_or counts (q.slot + o) 0 + 4000000002 < 2 ^ 64
@@ -102,13 +102,13 @@ module _ {j : Job} {s : State} {w : Rooms} {rows : List ℕ} {areas : List Float
     abbrev FixedBy : Grid → ℕ → Type 0
     FixedBy g i =
         Fixed g.index (surroundings_in room g s.tables.inset_bounds s.tables.parts w.shapes (take (6 * s.tables.sheet_strips) w.sheet) placed)
-        w.sheet-entries sheet-starts i
+        w.sheet_entries sheet_starts i
 
     fixed : (o : ℕ) → o < turns → FixedBy (grid_of s.tables) (16 * kind + o)
     unfolding apart_room inset_room
     fixed o h =
-        ready_fixed j s w G.passes D kind listed o (subst⁻¹ (λ (m : ℕ). o < m) turns_are h) room placed sheet-starts I P
-        (below (16 * kind) turns o slots h) G.sheet-laid
+        ready_fixed j s w G.passes D kind listed o (subst⁻¹ (λ (m : ℕ). o < m) turns_are h) room placed sheet_starts I P
+        (below (16 * kind) turns o slots h) G.sheet_laid
 
     pub allowed_fixed : (g : Grid) → g ≡ grid_of s.tables → (q : Copy) → q ≡ copy_of s.order rows areas s.taken
         → (o : ℕ) → o < q.orientations → FixedBy g (q.slot + o)
@@ -117,21 +117,21 @@ module _ {j : Job} {s : State} {w : Rooms} {rows : List ℕ} {areas : List Float
         (subst⁻¹ (λ (q : Copy). (o : ℕ) → o < q.orientations → FixedBy (grid_of s.tables) (q.slot + o)) f fixed)
 
   pub allowed_standing : InDoubles s w → (g : Grid) → g ≡ grid_of s.tables → (t : Totals) → t ≡ totals_of s
-      → Standing g.index w.placed t.placed_strips w.placed-entries starts
+      → Standing g.index w.placed t.placed_strips w.placed_entries starts
   allowed_standing D g e t f =
-      subst⁻¹ (λ (g : Grid). Standing g.index w.placed t.placed_strips w.placed-entries starts) e
-      (subst⁻¹ (λ (t : Totals). Standing (sheet_index s.tables.sheet_bounds) w.placed t.placed_strips w.placed-entries starts) f
-      (ready-standing j s w G.passes D starts G.placed-laid))
+      subst⁻¹ (λ (g : Grid). Standing g.index w.placed t.placed_strips w.placed_entries starts) e
+      (subst⁻¹ (λ (t : Totals). Standing (sheet_index s.tables.sheet_bounds) w.placed t.placed_strips w.placed_entries starts) f
+      (ready-standing j s w G.passes D starts G.placed_laid))
 
   -- ---- the bucket numbers
   pub allowed_sheet_firsts : (g : Grid) → g ≡ grid_of s.tables → FirstBuckets g.index (take (6 * s.tables.sheet_strips) w.sheet)
       (capacity (take (6 * s.tables.sheet_strips) w.sheet)) w.sheet_firsts
   allowed_sheet_firsts g e =
       subst⁻¹ (λ (g : Grid). FirstBuckets g.index (take (6 * s.tables.sheet_strips) w.sheet)
-      (capacity (take (6 * s.tables.sheet_strips) w.sheet)) w.sheet_firsts) e G.sheet-kept
+      (capacity (take (6 * s.tables.sheet_strips) w.sheet)) w.sheet_firsts) e G.sheet_kept
 
   pub allowed_firsts : (g : Grid) → g ≡ grid_of s.tables → (t : Totals) → t ≡ totals_of s
       → FirstBuckets g.index w.placed t.placed_strips w.placed_firsts
   allowed_firsts g e t f =
       subst⁻¹ (λ (g : Grid). FirstBuckets g.index w.placed t.placed_strips w.placed_firsts) e
-      (subst⁻¹ (λ (t : Totals). FirstBuckets (sheet_index s.tables.sheet_bounds) w.placed t.placed_strips w.placed_firsts) f G.placed-kept)
+      (subst⁻¹ (λ (t : Totals). FirstBuckets (sheet_index s.tables.sheet_bounds) w.placed t.placed_strips w.placed_firsts) f G.placed_kept)

@@ -46,8 +46,8 @@ pub room-zeros : (l m : List Float) → length m ≡ length l → zeros pos_zero
 unfolding zeros
 room-zeros l m e = ap (λ (n : ℕ). replicate n pos_zero) e
 
-module _ {j : Job} {s : State} {w : Rooms} {rows : List ℕ} {areas : List Float} {sheet-starts starts : List ℕ}
-    (G : Going j s w rows areas sheet-starts starts) (intervals : List Float) (many : length s.look_counts ≡ 1024) where
+module _ {j : Job} {s : State} {w : Rooms} {rows : List ℕ} {areas : List Float} {sheet_starts starts : List ℕ}
+    (G : Going j s w rows areas sheet_starts starts) (intervals : List Float) (many : length s.look_counts ≡ 1024) where
   abbrev k : ℕ
   k = kind G
 
@@ -60,7 +60,7 @@ module _ {j : Job} {s : State} {w : Rooms} {rows : List ℕ} {areas : List Float
   placed_by g q t counts next =
       place_of g.index (surroundings_in (length intervals / 2) g s.tables.inset_bounds s.tables.parts w.shapes
       (take (6 * s.tables.sheet_strips) w.sheet) (take (6 * t.placed_strips) w.placed))
-      q.area q.slot q.orientations t w.placed w.placed-entries starts w.placed_firsts counts next
+      q.area q.slot q.orientations t w.placed w.placed_entries starts w.placed_firsts counts next
 
   abbrev pub code : Placed
   code = placed_by (grid_of s.tables) (copy_of s.order rows areas s.taken) (totals_of s) s.look_counts s.next_column
@@ -96,7 +96,7 @@ module _ {j : Job} {s : State} {w : Rooms} {rows : List ℕ} {areas : List Float
       let l = listed G in
       same_core j s w intervals k starts l (strips-within j s w G.passes).placed
       (subst⁻¹ (λ (m : ℕ). 16 * k + get_or (orientation_counts j) k 0 ≤ m) many (slots-within j G.good k l)) _ (next-first j s w G.passes G.left)
-      firsts G.placed-kept F
+      firsts G.placed_kept F
 
   by_code : by_job ≡ code
   by_code = ap (λ (m : ℕ). by m (get_or (map (λ a. a.area) j.kinds) k pos_zero)) (turns_are G) ∙ ap (λ (a : Float). by n a) (G.tabled.area k (known G))
@@ -111,7 +111,7 @@ module _ {j : Job} {s : State} {w : Rooms} {rows : List ℕ} {areas : List Float
     left = done r placed entries begins (look_counts_from tracks) (next_columns tracks)
 
     abbrev answered : Stepped → List Float → Next.Step
-    answered a zeroed = step_of a (rooms w.shapes w.sheet placed w.sheet-entries entries w.sheet_firsts firsts) zeroed
+    answered a zeroed = step_of a (rooms w.shapes w.sheet placed w.sheet_entries entries w.sheet_firsts firsts) zeroed
 
     -- a copy that is taken
     abbrev written_as : ℕ → Next.Step
@@ -124,28 +124,28 @@ module _ {j : Job} {s : State} {w : Rooms} {rows : List ℕ} {areas : List Float
     written (Refused why) e = absurd (refused≢accepted e)
 
     -- a copy that is refused: the old state and rooms
-    no_step : (why : Refusal) → step_of (record { verdict = Verdicts.Refused why; state = s }) w (zeros pos_zero intervals) ≡ no_step why s w intervals
+    no_step_lem : (why : Refusal) → step_of (record { verdict = Verdicts.Refused why; state = s }) w (zeros pos_zero intervals) ≡ no_step why s w intervals
     unfolding no_step
-    no_step why = refl
+    no_step_lem why = refl
 
     refused : left ≡ code → Written firsts left → (why : Refusal) → r.outcome ≡ Refused why
         → answered (record { verdict = Verdicts.Refused why; state = s }) (zeros pos_zero intervals) ≡ step_from s w intervals firsts left
     refused e F why o =
         let q = copy_of s.order rows areas s.taken in
         let ix = sheet_index s.tables.sheet_bounds in
-        let h = place_kept ix (totals_of s) w.placed w.placed-entries starts w.placed_firsts _ q.area q.slot q.orientations
+        let h = place_kept ix (totals_of s) w.placed w.placed_entries starts w.placed_firsts _ q.area q.slot q.orientations
         s.look_counts s.next_column why (sym (ap (λ (p : Placed). p.left.reply.outcome) e) ∙ o) in
         let a = ap (λ (p : Placed). p.left.placed) e ∙ h.0 in
         let t = ap (λ (p : Placed). p.left.reply.totals) e ∙ h.2 in
         let K = subst (λ (l : List Float). FirstsLaid ix l s.placed_strips w.placed_firsts firsts) a
         (subst (λ (t : Totals). FirstsLaid ix placed t.placed_strips w.placed_firsts firsts) t F) in
         let old : Stepped = record { verdict = Verdicts.Refused why; state = s } in
-        ap (λ (l : List Float). step_of old (rooms w.shapes w.sheet l w.sheet-entries entries w.sheet_firsts firsts) (zeros pos_zero intervals)) a
-        ∙ (ap (λ (l : List ℕ). step_of old (rooms w.shapes w.sheet w.placed w.sheet-entries l w.sheet_firsts firsts) (zeros pos_zero intervals))
+        ap (λ (l : List Float). step_of old (rooms w.shapes w.sheet l w.sheet_entries entries w.sheet_firsts firsts) (zeros pos_zero intervals)) a
+        ∙ (ap (λ (l : List ℕ). step_of old (rooms w.shapes w.sheet w.placed w.sheet_entries l w.sheet_firsts firsts) (zeros pos_zero intervals))
         (ap (λ (p : Placed). p.left.entries) e ∙ h.1)
-        ∙ (ap (λ (l : List ℕ). step_of old (rooms w.shapes w.sheet w.placed w.sheet-entries w.placed-entries w.sheet_firsts l)
-        (zeros pos_zero intervals)) (firsts_stay ix w.placed s.placed_strips w.placed_firsts firsts G.placed-kept K)
-        ∙ (no_step why ∙ sym (ap (λ (a : Outcome). step_by a s w intervals firsts left) o))))
+        ∙ (ap (λ (l : List ℕ). step_of old (rooms w.shapes w.sheet w.placed w.sheet_entries w.placed_entries w.sheet_firsts l)
+        (zeros pos_zero intervals)) (firsts_stay ix w.placed s.placed_strips w.placed_firsts firsts G.placed_kept K)
+        ∙ (no_step_lem why ∙ sym (ap (λ (a : Outcome). step_by a s w intervals firsts left) o))))
 
     by_verdict : left ≡ code → Written firsts left → (v : Verdict) → verdict_of r.outcome ≡ v
         → answered (answer_of s r tracks v) (zeros pos_zero intervals) ≡ step_from s w intervals firsts left

@@ -26,7 +26,7 @@ use Rattle.swaps.specs.inner.Turns.{rounds_for, turns}
 -- rooms as long as those that are lent
 abbrev pub Long : Lent → List Float → List ℕ → List Float → List ℕ → Type 0
 Long l placed entries room firsts =
-    (length l.rooms.placed ≡ length placed) × (length l.rooms.placed-entries ≡ length entries) × (length l.intervals ≡ length room)
+    (length l.rooms.placed ≡ length placed) × (length l.rooms.placed_entries ≡ length entries) × (length l.intervals ≡ length room)
     × (length l.rooms.placed_firsts ≡ length firsts)
 
 -- what is kept, as it lies in the tables

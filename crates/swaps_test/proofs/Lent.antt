@@ -15,17 +15,17 @@ zero_room : {A : Type 0} (n : ℕ) (z : A) → replicate n z ≡ zeros z (replic
 unfolding zeros
 zero_room n z = sym (ap (λ (k : ℕ). replicate k z) (length-replicate n z))
 
-pub rooms-zero : Zeroed rooms (replicate 8190 pos_zero) (replicate 8190 pos_zero) [] (replicate 16384 0) [] [] [] (replicate 1365 0) []
+pub rooms_zero : Zeroed rooms (replicate 8190 pos_zero) (replicate 8190 pos_zero) [] (replicate 16384 0) [] [] [] (replicate 1365 0) []
 unfolding zeros
-rooms-zero =
+rooms_zero =
     record {
-      shapes-zero = zero_room 8190 pos_zero;
-      sheet-zero = zero_room 8190 pos_zero;
-      placed-zero = refl;
-      sheet-entries-zero = zero_room 16384 0;
-      placed-entries-zero = refl;
-      intervals-zero = refl;
-      positions-zero = refl;
+      shapes_zero = zero_room 8190 pos_zero;
+      sheet_zero = zero_room 8190 pos_zero;
+      placed_zero = refl;
+      sheet_entries_zero = zero_room 16384 0;
+      placed_entries_zero = refl;
+      intervals_zero = refl;
+      positions_zero = refl;
       sheet_firsts_zero = zero_room 1365 0;
       placed_firsts_zero = refl;
     }

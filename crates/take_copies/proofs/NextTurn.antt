@@ -70,8 +70,8 @@ module _ (f : Fixed) (a c d : Arrays) (last turn : Turn) (took end : ℕ) (R : R
   abbrev pub Turned : Copy → Type 0
   Turned q =
       (j : Job) (b : Tables) (order rows : List ℕ) (areas whole intervals : List Float)
-      → Tabling b f.grid f.inset-bounds f.parts whole f.sheet
-      → Going j (state_in b order at c.tracks last.totals c.orientation c.x c.y c.gap) (rooms_of f whole c) rows areas f.sheet-starts
+      → Tabling b f.grid f.inset_bounds f.parts whole f.sheet
+      → Going j (state_in b order at c.tracks last.totals c.orientation c.x c.y c.gap) (rooms_of f whole c) rows areas f.sheet_starts
       c.starts → q ≡ copy_of order rows areas at → length intervals ≡ length c.room
       → (step_in turn.verdict (state_in b order (taken_after turn.verdict at) d.tracks turn.totals d.orientation d.x d.y d.gap)
       (rooms_of f whole d) intervals ≡ core_step j (state_in b order at c.tracks last.totals c.orientation c.x c.y c.gap) (rooms_of f whole c)
@@ -135,10 +135,10 @@ module _ (f : Fixed) (a c d : Arrays) (last turn : Turn) (took end : ℕ) (R : R
             few = B.few;
             passes = subst⁻¹ (λ (n : ℕ). consistent j (S' n) W' ≡ true) e (passes c.room refl v t);
             left = left;
-            sheet-laid = G.sheet-laid;
-            placed-laid = subst (λ (g : Grid). Laid g.index d.placed turn.totals.placed_strips d.entries d.starts) B.tabling.grid L;
-            sheet-kept = G.sheet-kept;
-            placed-kept = subst (λ (g : Grid). FirstBuckets g.index d.placed turn.totals.placed_strips d.firsts) B.tabling.grid K;
+            sheet_laid = G.sheet_laid;
+            placed_laid = subst (λ (g : Grid). Laid g.index d.placed turn.totals.placed_strips d.entries d.starts) B.tabling.grid L;
+            sheet_kept = G.sheet_kept;
+            placed_kept = subst (λ (g : Grid). FirstBuckets g.index d.placed turn.totals.placed_strips d.firsts) B.tabling.grid K;
           }
 
       -- ---- the equation

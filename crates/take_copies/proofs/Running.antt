@@ -32,12 +32,12 @@ pub record Fixed : Type 0 where
   pub order : List ℕ
   pub rows : List ℕ
   pub areas : List Float
-  pub inset-bounds : List Float
+  pub inset_bounds : List Float
   pub parts : List ℕ
   pub shapes : List Float
   pub sheet : List Float
-  pub sheet-entries : List ℕ
-  pub sheet-starts : List ℕ
+  pub sheet_entries : List ℕ
+  pub sheet_starts : List ℕ
   pub sheet_firsts : List ℕ
 
 pub record Arrays : Type 0 where
@@ -58,15 +58,15 @@ abbrev pub state_of : Fixed → Tables → ℕ → Totals → Arrays → State
 state_of f b taken t a = state_in b f.order taken a.tracks t a.orientation a.x a.y a.gap
 
 abbrev pub rooms_of : Fixed → List Float → Arrays → Rooms
-rooms_of f whole a = rooms f.shapes whole a.placed f.sheet-entries a.entries f.sheet_firsts a.firsts
+rooms_of f whole a = rooms f.shapes whole a.placed f.sheet_entries a.entries f.sheet_firsts a.firsts
 
 abbrev pub BegunBy : Fixed → Job → Tables → List Float → Type 0
 BegunBy f j b whole =
-    Begun j b f.grid f.rows f.areas f.inset-bounds f.parts whole f.sheet f.order f.taken f.most
+    Begun j b f.grid f.rows f.areas f.inset_bounds f.parts whole f.sheet f.order f.taken f.most
 
 abbrev pub GoingBy : Fixed → Job → Tables → List Float → ℕ → Totals → Arrays → Type 0
 GoingBy f j b whole taken t a =
-    Going j (state_of f b taken t a) (rooms_of f whole a) f.rows f.areas f.sheet-starts a.starts
+    Going j (state_of f b taken t a) (rooms_of f whole a) f.rows f.areas f.sheet_starts a.starts
 
 -- the arrays keep their lengths
 pub record Alike (a c : Arrays) : Type 0 where

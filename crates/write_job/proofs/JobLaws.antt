@@ -42,7 +42,7 @@ use Rattle.write_job.specs.declared.JobPut.TheVariants.{Fields, NoFields}
 use Rattle.write_job.specs.declared.Reply.{Reply}
 use Rattle.write_job.specs.declared.Reply.TheVariants.{Written, Refused, ShortRoom}
 use Rattle.write_job.specs.Written.{placed, written}
-use Rattle.write_job.specs.inner.PutJob.{value_of, Fielded, PutJob, went-job, stopped-job}
+use Rattle.write_job.specs.inner.PutJob.{value_of, Fielded, PutJob, went_job, stopped_job}
 use Rattle.write_job.proofs.HeaderLaws.{Puts, number_value}
 
 -- ---- the fields, one after the other
@@ -91,14 +91,14 @@ module _ (g : Header) (rows : List ℕ) (areas : List Float) (cs : List ℕ) (xs
     pub fields_bad-header : (r : Walked) (k : Refusal) → Header-put r → r ≡ Not k → PutFields out (NoFields k) o₁
     fields_bad-header r k F e =
         let s = stopped_at k (F.0 cs xs) e in
-        stopped-job (fields_are ∙ bad-first (given_header g cs xs 0 0) (λ h c x. after_header h c x) k s.0) s.1
+        stopped_job (fields_are ∙ bad-first (given_header g cs xs 0 0) (λ h c x. after_header h c x) k s.0) s.1
 
     pub fields_bad-sheet : (u : Walk) (r r' : Walked) (k : Refusal) → Header-put r → r ≡ On u → Sheet-put u r' → r' ≡ Not k → PutFields out (NoFields k) o₂
     fields_bad-sheet u r r' k F e G f = go (went_on u (F.0 cs xs) e) (stopped_at k G.0 f)
       where
         go : Header-went u → (given_set cs xs u.counts u.coordinates ≡ bad k) × (length o₂ ≡ length o₁) → PutFields out (NoFields k) o₂
         go (so h i q) s =
-            stopped-job
+            stopped_job
             (fields_are
             ∙ ok_then (given_header g cs xs 0 0) (λ h c x. after_header h c x) h _ _ i
             ∙ bad-first (given_set cs xs u.counts u.coordinates) (λ s c x. after_sheet h s c x) k s.0)
@@ -111,7 +111,7 @@ module _ (g : Header) (rows : List ℕ) (areas : List Float) (cs : List ℕ) (xs
         go : Header-went u → Sheet-went u v → (given_kinds rows areas g.kinds 0 cs xs v.counts v.coordinates ≡ bad k) × (length o₃ ≡ length o₂)
             → PutFields out (NoFields k) o₃
         go (so h j q) (so s l m) z =
-            stopped-job
+            stopped_job
             (fields_are
             ∙ ok_then (given_header g cs xs 0 0) (λ h c x. after_header h c x) h _ _ j
             ∙ ok_then (given_set cs xs u.counts u.coordinates) (λ s c x. after_sheet h s c x) s _ _ l
@@ -135,7 +135,7 @@ module _ (g : Header) (rows : List ℕ) (areas : List Float) (cs : List ℕ) (xs
         go (so h j q) (so s l m) (so_kinds ks a b d) =
             let T = header_was g h cs xs _ _ _ _ j in
             let puts = put_then _ _ _ _ _ _ _ _ q (put_then _ _ _ _ _ _ _ _ m b) in
-            went-job (whole h s ks) z.counts z.coordinates
+            went_job (whole h s ks) z.counts z.coordinates
             (fields_are
             ∙ ok_then (given_header g cs xs 0 0) (λ h c x. after_header h c x) h _ _ j
             ∙ ok_then (given_set cs xs u.counts u.coordinates) (λ s c x. after_sheet h s c x) s _ _ l
@@ -163,8 +163,8 @@ module _ (g : Header) (rows : List ℕ) (areas : List Float) (cs : List ℕ) (xs
 
   pub job-refused : (k : Refusal) {r : JobPut} {o : List ℕ} → Put-job r o → r ≡ NoFields k → (given_job g rows areas cs xs ≡ refused k) × (length o ≡ length out)
   unfolding given_job judged
-  job-refused k (went-job j c x e F) h = absurd (zero-not-one (cc))
-  job-refused k (stopped-job {k = i} e l) h = (ap judged (e ∙ ap bad (z h)), l)
+  job-refused k (went_job j c x e F) h = absurd (zero-not-one (cc))
+  job-refused k (stopped_job {k = i} e l) h = (ap judged (e ∙ ap bad (z h)), l)
     where
       z : {i j : Refusal} → NoFields i ≡ NoFields j → i ≡ j
       z e = cc
@@ -177,7 +177,7 @@ module _ (g : Header) (rows : List ℕ) (areas : List Float) (cs : List ℕ) (xs
 
   pub job-put : (p : BitWriter) (copies : ℕ) {r : JobPut} {o : List ℕ} → Put-job r o → r ≡ Fields p copies → Put_fields p copies o
   unfolding given_job judged
-  job-put p copies {r} {o} (went-job {p = q} {copies = m} j c x e F) h =
+  job-put p copies {r} {o} (went_job {p = q} {copies = m} j c x e F) h =
       subst (λ (a : BitWriter). Put_fields a copies o) (first h) (subst (λ (b : ℕ). Put_fields q b o) (second h)
       (record { job = j; is = ap judged e; fields = F }))
     where
@@ -186,7 +186,7 @@ module _ (g : Header) (rows : List ℕ) (areas : List Float) (cs : List ℕ) (xs
 
       second : {a b : BitWriter} {m n : ℕ} → Fields a m ≡ Fields b n → m ≡ n
       second e = cc
-  job-put p copies (stopped-job e l) h = absurd (zero-not-one (cc))
+  job-put p copies (stopped_job e l) h = absurd (zero-not-one (cc))
 
   module _ (p : BitWriter) (copies : ℕ) (o : List ℕ) (F : Put_fields p copies o) where
     few : copies ≤ 4096 → F.job.copies ≤ 4096

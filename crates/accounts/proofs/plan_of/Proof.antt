@@ -84,7 +84,7 @@ returns c =
     let a = c27.args in let n = c16.count in let p = c27.requires in
     λ j areas s h k t u. (
       plan_is j a.rows.now areas s a.order.now a.orientation.now a.x.now a.y.now a.gap.now a.look_counts.now a.kinds
-          a.taken h k t a.right a.unplaced-area a.offcut a.improvements n.result n.new.1.1.1.0 n.new.1.1.1.1.0
+          a.taken h k t a.right a.unplaced_area a.offcut a.improvements n.result n.new.1.1.1.0 n.new.1.1.1.1.0
           c1.look-table.new.1.1.1.0 u n.ensures.0 n.ensures.1 n.ensures.2 c1.look-table.ensures,
       positions_are j a.rows.now areas s a.order.now a.orientation.now a.x.now a.y.now a.gap.now a.look_counts.now a.kinds
           a.taken h k t c6.lay.new.1.1.1.1.1.1.1.1.0 a.room.now (c6.lay.ensures a.kinds p.0 p.7),

@@ -61,7 +61,7 @@ module _ (h : Header) (s c : ℕ) (bytes rows : List ℕ) (areas : List Float) (
       record {
         few = (sized bytes j e).kinds;
         rows_long = r;
-        areas-long = a;
+        areas_long = a;
         quantity = λ k l. kind_in (λ a. a.quantity) 0 k l ∙ quantity_in k;
         fill = λ k l. kind_in (λ a. a.fill) false k l ∙ fill_in k;
         priority = λ k l. kind_in (λ a. a.priority) (pos 0) k l ∙ priority_in k;

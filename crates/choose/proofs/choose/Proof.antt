@@ -14,12 +14,12 @@ use Rattle.choose.proofs.orientation.Reads as orientation_reads
 use Rattle.choose.proofs.better.Reads as better-reads
 
 abbrev invariant-loop : tie.invariant-loop
-invariant-loop g slot n inset-bounds parts shapes sheet sheet-entries sheet-starts placed placed-entries placed-starts room₀ tracks₀ sheet_firsts placed_firsts best₀
+invariant-loop g slot n inset_bounds parts shapes sheet sheet_entries sheet_starts placed placed_entries placed_starts room₀ tracks₀ sheet_firsts placed_firsts best₀
     o₀ room tracks best o =
-    Picks g inset-bounds parts shapes sheet placed room₀ slot n tracks₀ room tracks best o
+    Picks g inset_bounds parts shapes sheet placed room₀ slot n tracks₀ room tracks best o
 
 abbrev decreases-loop : tie.decreases-loop
-decreases-loop g slot n inset-bounds parts shapes sheet sheet-entries sheet-starts placed placed-entries placed-starts room₀ tracks₀ sheet_firsts placed_firsts best₀ o₀
+decreases-loop g slot n inset_bounds parts shapes sheet sheet_entries sheet_starts placed placed_entries placed_starts room₀ tracks₀ sheet_firsts placed_firsts best₀ o₀
     room tracks best o =
     n - o
 
@@ -46,9 +46,9 @@ orientation-requires c κs =
     let l = c.before.before.before.loop in
     let v = l.invariant in
     let h = c.before.before.loop-test.true in (
-      subst⁻¹ (λ (m : ℕ). Ready a.g.index (surroundings_in (m / 2) a.g a.inset-bounds.now a.parts.now a.shapes.now a.sheet.now
+      subst⁻¹ (λ (m : ℕ). Ready a.g.index (surroundings_in (m / 2) a.g a.inset_bounds.now a.parts.now a.shapes.now a.sheet.now
           a.placed.now)
-          a.sheet-entries.now a.sheet-starts.now a.placed-entries.now a.placed-starts.now (a.slot + l.o)) v.wide (p.0 l.o h),
+          a.sheet_entries.now a.sheet_starts.now a.placed_entries.now a.placed_starts.now (a.slot + l.o)) v.wide (p.0 l.o h),
       (sum_fits a.slot l.o a.n h p.1).2,
       subst (λ (m : ℕ). slot_numbers ≤ m) (sym v.long) p.2,
       v.small l.o (omega arith) h,
@@ -78,7 +78,7 @@ loop-again c =
     let l = c9.loop in
     let s = c.before.before.before.before.before.orientation in
     let k = s.auto.1.1.1.1.1.1.1.1.1.1.1.1 in
-    at_next a.g a.inset-bounds.now a.parts.now a.shapes.now a.sheet.now a.placed.now a.room.now a.slot a.n a.tracks.now
+    at_next a.g a.inset_bounds.now a.parts.now a.shapes.now a.sheet.now a.placed.now a.room.now a.slot a.n a.tracks.now
     l.room _ l.tracks _ l.best s.result c.better.result l.o l.invariant c8.loop-test.true s.ensures c.better.ensures k.0
     k.1.0
 
@@ -93,7 +93,7 @@ returns c =
     let c15 = c.before.before.before.before.before.before.before.before.before.before.before.before.before.before.before in
     let a = c15.args in
     let l = c.before.loop in
-    at_last a.g a.inset-bounds.now a.parts.now a.shapes.now a.sheet.now a.placed.now a.room.now a.slot a.n a.tracks.now
+    at_last a.g a.inset_bounds.now a.parts.now a.shapes.now a.sheet.now a.placed.now a.room.now a.slot a.n a.tracks.now
     l.room l.room l.tracks l.tracks l.best l.best l.best l.o l.invariant c.loop-test.false
 
 pub choose_spec : {M : Type 1} → statement M

@@ -32,9 +32,9 @@ search-part-requires c κs =
     let c18 = c4.before.before.before.before.before.before.before.before.before.before.before.before.before.before in
     let a = c18.args in
     let p = c18.requires in
-    let r = ready-parts a.g.index (surroundings_in (length a.room.now / 2) a.g a.inset-bounds.now a.parts.now a.shapes.now a.sheet.now
+    let r = ready-parts a.g.index (surroundings_in (length a.room.now / 2) a.g a.inset_bounds.now a.parts.now a.shapes.now a.sheet.now
     a.placed.now)
-    a.sheet-entries.now a.sheet-starts.now a.placed-entries.now a.placed-starts.now a.slot c4.bounds_at_lem.result
+    a.sheet_entries.now a.sheet_starts.now a.placed_entries.now a.placed_starts.now a.slot c4.bounds_at_lem.result
     c3.part_at.result c2.new.result
     p.0 c4.bounds_at_lem.ensures c3.part_at.ensures c2.new.ensures in
     (r.0, r.1, p.1, p.2, p.3, p.4, p.5, p.6)
@@ -45,9 +45,9 @@ winner-of-requires c κs =
     let c9 = c7.before.before in
     let c23 = c9.before.before.before.before.before.before.before.before.before.before.before.before.before.before in
     let a = c23.args in
-    ready-few a.g.index (surroundings_in (length a.room.now / 2) a.g a.inset-bounds.now a.parts.now a.shapes.now a.sheet.now
+    ready-few a.g.index (surroundings_in (length a.room.now / 2) a.g a.inset_bounds.now a.parts.now a.shapes.now a.sheet.now
     a.placed.now)
-    a.sheet-entries.now a.sheet-starts.now a.placed-entries.now a.placed-starts.now a.slot c9.bounds_at_lem.result c7.new.result
+    a.sheet_entries.now a.sheet_starts.now a.placed_entries.now a.placed_starts.now a.slot c9.bounds_at_lem.result c7.new.result
     c23.requires.0 c9.bounds_at_lem.ensures c7.new.ensures
 
 same_length : tie.Need-same-length
@@ -64,7 +64,7 @@ returns c =
     let c10 = c9.before in
     let c24 = c10.before.before.before.before.before.before.before.before.before.before.before.before.before.before in
     let a = c24.args in
-    orient_is (surroundings_in (length a.room.now / 2) a.g a.inset-bounds.now a.parts.now a.shapes.now a.sheet.now a.placed.now)
+    orient_is (surroundings_in (length a.room.now / 2) a.g a.inset_bounds.now a.parts.now a.shapes.now a.sheet.now a.placed.now)
     a.slot
     a.o
     (look_counts_from a.tracks.now) (next_columns a.tracks.now) _ _ c10.bounds_at_lem.result c9.part_at.result c8.new.result c5.search-part.result

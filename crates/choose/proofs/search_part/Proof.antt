@@ -79,11 +79,11 @@ search-requires c κs =
           subst⁻¹ (λ (z : List Float). Lookable a.g.index (column_x a.k d) a.k.y_low a.k.y_high z c2.strips-of2.result.now
           a.sheet.now
           a.placed.now
-          a.sheet-entries.now a.sheet-starts.now a.placed-entries.now a.placed-starts.now) ei
+          a.sheet_entries.now a.sheet_starts.now a.placed_entries.now a.placed_starts.now) ei
           (subst⁻¹ (λ (z : List Float). Lookable a.g.index (column_x a.k d) a.k.y_low a.k.y_high (inset_part a.p (drop n s)) z
           a.sheet.now
           a.placed.now
-          a.sheet-entries.now a.sheet-starts.now a.placed-entries.now a.placed-starts.now) c2.strips-of2.ensures (p.0 d h))),
+          a.sheet_entries.now a.sheet_starts.now a.placed_entries.now a.placed_starts.now) c2.strips-of2.ensures (p.0 d h))),
       p.1,
       p.2,
       p.3,

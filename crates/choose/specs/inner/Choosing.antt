@@ -69,7 +69,7 @@ pub record Surroundings : Type 0 where
   pub capacity : ℕ
   pub bounds : Rect
   pub resolution : Float
-  pub inset-bounds : List Float
+  pub inset_bounds : List Float
   pub parts : List ℕ
   pub apart : List Float
   pub inset : List Float
@@ -77,12 +77,12 @@ pub record Surroundings : Type 0 where
   pub placed : List Float
 
 abbrev pub surroundings : ℕ → Rect → Float → List Float → List ℕ → List Float → List Float → List Float → List Float → Surroundings
-surroundings capacity bounds resolution inset-bounds parts apart inset sheet placed =
+surroundings capacity bounds resolution inset_bounds parts apart inset sheet placed =
     record {
       capacity = capacity;
       bounds = bounds;
       resolution = resolution;
-      inset-bounds = inset-bounds;
+      inset_bounds = inset_bounds;
       parts = parts;
       apart = apart;
       inset = inset;
@@ -97,25 +97,25 @@ grid_of t =
 
 -- the same with the apart strips at the beginning of the shapes room and the inset strips after them
 abbrev pub surroundings_in : ℕ → Grid → List Float → List ℕ → List Float → List Float → List Float → Surroundings
-surroundings_in capacity g inset-bounds parts shapes sheet placed =
-    surroundings capacity g.bounds g.resolution inset-bounds parts (take (6 * g.apart_strips) shapes) (drop (6 * g.apart_strips) shapes) sheet
+surroundings_in capacity g inset_bounds parts shapes sheet placed =
+    surroundings capacity g.bounds g.resolution inset_bounds parts (take (6 * g.apart_strips) shapes) (drop (6 * g.apart_strips) shapes) sheet
     placed
 
 abbrev pub columns_at : Surroundings → ℕ → Columns
-columns_at w i = columns_of w.bounds (bounds_at w.inset-bounds i) w.resolution
+columns_at w i = columns_of w.bounds (bounds_at w.inset_bounds i) w.resolution
 
 abbrev pub looks_at : Surroundings → ℕ → ℕ → Answer
 looks_at w i =
     answer_at w.capacity (columns_at w i) (inset_part (part_at w.parts i) w.inset) (apart_part (part_at w.parts i) w.apart) w.sheet w.placed
 
 -- what searching a slot asks of the rooms
-pub record Ready (ix : Index) (w : Surroundings) (sheet-entries sheet-starts entries starts : List ℕ) (i : ℕ) : Type 0 where
-  pub bounded : 4 * i + 4 ≤ length w.inset-bounds
+pub record Ready (ix : Index) (w : Surroundings) (sheet_entries sheet_starts entries starts : List ℕ) (i : ℕ) : Type 0 where
+  pub bounded : 4 * i + 4 ≤ length w.inset_bounds
   pub parted : 4 * i + 4 ≤ length w.parts
   pub few : (columns_at w i).count ≤ 4000000000
   pub lookable : (c : ℕ) → c ≤ last_of (columns_at w i)
       → Lookable ix (column_x (columns_at w i) c) (columns_at w i).y_low (columns_at w i).y_high (inset_part (part_at w.parts i) w.inset)
-      (apart_part (part_at w.parts i) w.apart) w.sheet w.placed sheet-entries sheet-starts entries starts
+      (apart_part (part_at w.parts i) w.apart) w.sheet w.placed sheet_entries sheet_starts entries starts
 
 -- ---- the orientations in turn
 pub record Chosen : Type 0 where
@@ -127,7 +127,7 @@ abbrev pub chosen : Winner → List ℕ → List ℕ → Chosen
 chosen v counts next = record { winner = v; counts = counts; next = next }
 
 unfoldable pub won : Surroundings → ℕ → ℕ → Tracked → Chosen
-won w i o t = chosen (winner_of (columns_at w i) (bounds_at w.inset-bounds i) o t.found) t.counts t.next
+won w i o t = chosen (winner_of (columns_at w i) (bounds_at w.inset_bounds i) o t.found) t.counts t.next
 
 unfoldable pub orientation_of : Surroundings → ℕ → ℕ → List ℕ → List ℕ → Chosen
 orientation_of w i o counts next = won w i o (search_of (looks_at w i) (columns_at w i) i counts next)

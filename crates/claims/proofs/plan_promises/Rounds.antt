@@ -105,7 +105,7 @@ module _ (bytes : List ℕ) (j : Job) (e : read_job bytes ≡ accepted j) (l : L
       go : (Took j s w t → t.state.taken ≡ suc s.taken → fill_from j l.intervals n t.state t.rooms ≡ stopped r → RoomRefusal r) → (v : Verdict) → t.verdict ≡ v → ◌≡◌ {A = Filling} (elim v [ Accepted ↦ fill_from j l.intervals n t.state t.rooms | Refused k ↦ stopped k ]) (stopped r) → Outcome j s w t → RoomRefusal r
       go below Accepted d g (unchanged k v a c) = absurd (refused≢accepted (sym v ∙ d))
       go below Accepted d g (took u) = below u (counts u) g
-      go below (Refused k) d g o = subst RoomRefusal (let z : k ≡ r = cc in z) (core_refusal j s w l.intervals k (subst (λ (m : List ℕ). s.taken < length m) (sym h.own.order-kept) (omega arith)) d)
+      go below (Refused k) d g o = subst RoomRefusal (let z : k ≡ r = cc in z) (core_refusal j s w l.intervals k (subst (λ (m : List ℕ). s.taken < length m) (sym h.own.order_kept) (omega arith)) d)
 
   pub stopped_is : (order : List ℕ) → rearranged j order ≡ true → (r : Refusal) → fill_order j l order ≡ stopped r → RoomRefusal r
   unfolding fill_order

@@ -20,10 +20,10 @@ returns c =
     let c16 = c.before.before.before.before.before.before.before.before.before.before.before.before.before.before.before.before in
     let c21 = c16.before.before.before.before.before in
     let a = c21.args in (
-      λ j areas t k n. sym (sym (consistent_is j (state_of a.taken a.placed-strips a.right a.unplaced-area a.resolution a.bounds
-          a.sheet-strips a.apart-strips a.inset-bounds.now a.parts.now a.order.now a.next-column.now a.look_counts.now
+      λ j areas t k n. sym (sym (consistent_is j (state_of a.taken a.placed_strips a.right a.unplaced_area a.resolution a.bounds
+          a.sheet_strips a.apart_strips a.inset_bounds.now a.parts.now a.order.now a.next_column.now a.look_counts.now
           a.orientation.now a.x.now a.y.now a.gap.now)
-          (rooms_of a.shapes.now a.sheet.now a.placed.now a.sheet-entries.now a.placed-entries.now a.sheet_firsts.now
+          (rooms_of a.shapes.now a.sheet.now a.placed.now a.sheet_entries.now a.placed_entries.now a.sheet_firsts.now
           a.placed_firsts.now) a.rows.now areas a.kinds a.copies t k n)
           ∙ both_no _ _ (failed c.before.state-fits.ensures.0 c.if1.true)),
       never,
@@ -43,10 +43,10 @@ returns-2 c =
     let c16 = c.before.before.before.before.before.before.before.before.before.before.before.before.before.before.before.before in
     let c24 = c16.before.before.before.before.before.before.before.before in
     let a = c24.args in (
-      λ j areas t k n. sym (sym (consistent_is j (state_of a.taken a.placed-strips a.right a.unplaced-area a.resolution a.bounds
-          a.sheet-strips a.apart-strips a.inset-bounds.now a.parts.now a.order.now a.next-column.now a.look_counts.now
+      λ j areas t k n. sym (sym (consistent_is j (state_of a.taken a.placed_strips a.right a.unplaced_area a.resolution a.bounds
+          a.sheet_strips a.apart_strips a.inset_bounds.now a.parts.now a.order.now a.next_column.now a.look_counts.now
           a.orientation.now a.x.now a.y.now a.gap.now)
-          (rooms_of a.shapes.now a.sheet.now a.placed.now a.sheet-entries.now a.placed-entries.now a.sheet_firsts.now
+          (rooms_of a.shapes.now a.sheet.now a.placed.now a.sheet_entries.now a.placed_entries.now a.sheet_firsts.now
           a.placed_firsts.now) a.rows.now areas a.kinds a.copies t k n)
           ∙ (sym (both_yes _ _ (passed c.before.before.before.before.state-fits.ensures.0 c.before.before.before.if1.false)) ∙ both_no _ _
           (failed (c.before.rearranged.ensures j areas t k n) c.if2.true))),
@@ -66,10 +66,10 @@ returns-3 c =
     let c16 = c.before.before.before.before.before.before.before.before.before.before.before.before.before.before.before.before in
     let c26 = c16.before.before.before.before.before.before.before.before.before.before in
     let a = c26.args in (
-      λ j areas t k n. sym (sym (consistent_is j (state_of a.taken a.placed-strips a.right a.unplaced-area a.resolution a.bounds
-          a.sheet-strips a.apart-strips a.inset-bounds.now a.parts.now a.order.now a.next-column.now a.look_counts.now
+      λ j areas t k n. sym (sym (consistent_is j (state_of a.taken a.placed_strips a.right a.unplaced_area a.resolution a.bounds
+          a.sheet_strips a.apart_strips a.inset_bounds.now a.parts.now a.order.now a.next_column.now a.look_counts.now
           a.orientation.now a.x.now a.y.now a.gap.now)
-          (rooms_of a.shapes.now a.sheet.now a.placed.now a.sheet-entries.now a.placed-entries.now a.sheet_firsts.now
+          (rooms_of a.shapes.now a.sheet.now a.placed.now a.sheet_entries.now a.placed_entries.now a.sheet_firsts.now
           a.placed_firsts.now) a.rows.now areas a.kinds a.copies t k n)
           ∙ (sym (both_yes _ _ (passed c.before.before.before.before.before.before.state-fits.ensures.0
           c.before.before.before.before.before.if1.false))
@@ -91,10 +91,10 @@ rooms-agree-requires c κs =
         bounded = s.1;
         resolving = s.2;
         few = few;
-        bounds-long = p.5;
-        parts-long = p.6;
-        next-long = p.7;
-        looks-long = p.8;
+        bounds_long = p.5;
+        parts_long = p.6;
+        next_long = p.7;
+        looks_long = p.8;
       },
       p.0,
       p.1,
@@ -128,10 +128,10 @@ returns-4 c =
       λ j areas t k n. r.0 ∙ (both_yes _ _ (passed c8.gaps-fit.ensures c7.if3.false) ∙
           (both_yes _ _ (passed (c10.rearranged.ensures j areas t k n) c9.if2.false) ∙
           (both_yes _ _ (passed c13.state-fits.ensures.0 c12.if1.false) ∙
-          consistent_is j (state_of a.taken a.placed-strips a.right a.unplaced-area a.resolution a.bounds
-          a.sheet-strips a.apart-strips a.inset-bounds.now a.parts.now a.order.now a.next-column.now a.look_counts.now
+          consistent_is j (state_of a.taken a.placed_strips a.right a.unplaced_area a.resolution a.bounds
+          a.sheet_strips a.apart_strips a.inset_bounds.now a.parts.now a.order.now a.next_column.now a.look_counts.now
           a.orientation.now a.x.now a.y.now a.gap.now)
-          (rooms_of a.shapes.now a.sheet.now a.placed.now a.sheet-entries.now a.placed-entries.now a.sheet_firsts.now
+          (rooms_of a.shapes.now a.sheet.now a.placed.now a.sheet_entries.now a.placed_entries.now a.sheet_firsts.now
           a.placed_firsts.now) a.rows.now areas a.kinds a.copies t k n))),
       r.1,
     )

@@ -46,7 +46,7 @@ slice-aggregate-copies-fit c =
     let c16 = c.before.before.before.before.before.before.before.before.before.before.before.before.before.before.before.before in
     let c27 = c16.before.before.before.before.before.before.before.before.before.before.before in
     let a = c27.args in
-    sym (length-take-le (6 * a.apart-strips) a.shapes.now (rooms-held _ _ _ _ _ _ _ _ _ _ _ _
+    sym (length-take-le (6 * a.apart_strips) a.shapes.now (rooms-held _ _ _ _ _ _ _ _ _ _ _ _
     (passed c.before.before.before.before.before.before.rooms-fit.ensures.0 c.before.if1.false)).0)
 
 slice-aggregate-copies-fit-2 : tie.Need-slice-aggregate-copies-fit-2
@@ -55,14 +55,14 @@ slice-aggregate-copies-fit-2 c =
     let c23 = c7.before.before.before.before.before.before.before.before.before.before.before.before.before.before.before.before in
     let c28 = c23.before.before.before.before.before in
     let a = c28.args in
-    sym (length-take-le (6 * a.placed-strips) a.placed.now (rooms-held _ _ _ _ _ _ _ _ _ _ _ _
+    sym (length-take-le (6 * a.placed_strips) a.placed.now (rooms-held _ _ _ _ _ _ _ _ _ _ _ _
     (passed c7.rooms-fit.ensures.0 c.before.before.if1.false)).1)
 
 copies-fit-requires : tie.Need-copies-fit-requires
 copies-fit-requires c κs =
     let c16 = c.before.before.before.before.before.before.before.before.before.before.before.before.before.before.before.before in
     let c28 = c16.before.before.before.before.before.before.before.before.before.before.before.before in
-    let p = c28.requires in (p.1, p.2, p.3, p.0.parts-long, p.6, p.7, p.8, p.9)
+    let p = c28.requires in (p.1, p.2, p.3, p.0.parts_long, p.6, p.7, p.8, p.9)
 
 same-length-3 : tie.Need-same-length-3
 same-length-3 c = search rules

@@ -79,24 +79,24 @@ track_far taken last next looks l = ap (λ b. b && leb looks (last + 1 + taken))
 
 module _ (w : Slots) (i : ℕ) where
   abbrev Track : Bool
-  Track = track_test w.taken (last_for (columns_of w.bounds (bounds_at w.inset-bounds i) w.resolution)) (get_or w.next i 0) (get_or w.looks i 0)
+  Track = track_test w.taken (last_for (columns_of w.bounds (bounds_at w.inset_bounds i) w.resolution)) (get_or w.next i 0) (get_or w.looks i 0)
 
   abbrev Parted : Bool
   Parted = part_test (capacity w.apart) (capacity w.inset) (part_at w.parts i)
 
   abbrev Shaped : Bool
-  Shaped = shape_test (part_at w.parts i) (bounds_at w.inset-bounds i) w.apart w.inset
+  Shaped = shape_test (part_at w.parts i) (bounds_at w.inset_bounds i) w.apart w.inset
 
   pub slot_part : part_test (capacity w.apart) (capacity w.inset) (part_at w.parts i) ≡ false → slot_test w i ≡ false
   unfolding slot_test
   slot_part e = ap (λ b. b && (Shaped && Track)) e
 
-  pub slot_shape_lem : part_test (capacity w.apart) (capacity w.inset) (part_at w.parts i) ≡ true → shape_test (part_at w.parts i) (bounds_at w.inset-bounds i) w.apart w.inset ≡ false → slot_test w i ≡ false
+  pub slot_shape_lem : part_test (capacity w.apart) (capacity w.inset) (part_at w.parts i) ≡ true → shape_test (part_at w.parts i) (bounds_at w.inset_bounds i) w.apart w.inset ≡ false → slot_test w i ≡ false
   unfolding slot_test
   slot_shape_lem p e = ap₂ (λ a b. a && (b && Track)) p e
 
-  pub slot_track : part_test (capacity w.apart) (capacity w.inset) (part_at w.parts i) ≡ true → shape_test (part_at w.parts i) (bounds_at w.inset-bounds i) w.apart w.inset ≡ true
-      → track_test w.taken (last_for (columns_of w.bounds (bounds_at w.inset-bounds i) w.resolution)) (get_or w.next i 0) (get_or w.looks i 0) ≡ slot_test w i
+  pub slot_track : part_test (capacity w.apart) (capacity w.inset) (part_at w.parts i) ≡ true → shape_test (part_at w.parts i) (bounds_at w.inset_bounds i) w.apart w.inset ≡ true
+      → track_test w.taken (last_for (columns_of w.bounds (bounds_at w.inset_bounds i) w.resolution)) (get_or w.next i 0) (get_or w.looks i 0) ≡ slot_test w i
   unfolding slot_test
   slot_track p e = sym (ap₂ (λ a b. a && (b && Track)) p e)
 
@@ -106,17 +106,17 @@ module _ (w : Slots) (i : ℕ) {a b : ℕ} {q : Part} (ea : a ≡ capacity w.apa
   pub told_part : {r : Bool} → r ≡ part_test a b q → r ≡ part_test (capacity w.apart) (capacity w.inset) (part_at w.parts i)
   told_part e = e ∙ (ap₂ (λ x y. part_test x y q) ea eb ∙ ap (part_test (capacity w.apart) (capacity w.inset)) eq)
 
-module _ (w : Slots) (i : ℕ) {q : Part} {t : Rect} (eq : q ≡ part_at w.parts i) (et : t ≡ bounds_at w.inset-bounds i) where
-  pub told_shape : {r : Bool} → r ≡ shape_test q t w.apart w.inset → r ≡ shape_test (part_at w.parts i) (bounds_at w.inset-bounds i) w.apart w.inset
+module _ (w : Slots) (i : ℕ) {q : Part} {t : Rect} (eq : q ≡ part_at w.parts i) (et : t ≡ bounds_at w.inset_bounds i) where
+  pub told_shape : {r : Bool} → r ≡ shape_test q t w.apart w.inset → r ≡ shape_test (part_at w.parts i) (bounds_at w.inset_bounds i) w.apart w.inset
   told_shape e = e ∙ ap₂ (λ x y. shape_test x y w.apart w.inset) eq et
 
-module _ (w : Slots) (i : ℕ) {t : Rect} {c : Columns} (et : t ≡ bounds_at w.inset-bounds i) (ec : c ≡ columns_of w.bounds t w.resolution) where
-  columns-same : c ≡ columns_of w.bounds (bounds_at w.inset-bounds i) w.resolution
+module _ (w : Slots) (i : ℕ) {t : Rect} {c : Columns} (et : t ≡ bounds_at w.inset_bounds i) (ec : c ≡ columns_of w.bounds t w.resolution) where
+  columns-same : c ≡ columns_of w.bounds (bounds_at w.inset_bounds i) w.resolution
   columns-same = ec ∙ ap (λ x. columns_of w.bounds x w.resolution) et
 
   pub told-few : Given w → BoundedRect t → c.count ≤ 4000000000
   told-few g h = subst (λ (x : Columns). x.count ≤ 4000000000) (sym ec) (few-columns w.bounds t w.resolution g.bounded h g.resolving)
 
   pub told_track : {r : Bool} → r ≡ track_test w.taken (last_for c) (get_or w.next i 0) (get_or w.looks i 0)
-      → r ≡ track_test w.taken (last_for (columns_of w.bounds (bounds_at w.inset-bounds i) w.resolution)) (get_or w.next i 0) (get_or w.looks i 0)
+      → r ≡ track_test w.taken (last_for (columns_of w.bounds (bounds_at w.inset_bounds i) w.resolution)) (get_or w.next i 0) (get_or w.looks i 0)
   told_track e = e ∙ ap (λ x. track_test w.taken (last_for x) (get_or w.next i 0) (get_or w.looks i 0)) columns-same

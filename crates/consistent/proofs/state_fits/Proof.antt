@@ -11,7 +11,7 @@ taken-fits-requires c κs = tt
 
 returns : tie.Need-returns
 returns c = let a = c.before.before.args in (
-  sym (state-taken a.taken a.copies a.resolution a.bounds a.right a.unplaced-area
+  sym (state-taken a.taken a.copies a.resolution a.bounds a.right a.unplaced_area
       (failed c.before.taken-fits.ensures c.if1.true)),
   never,
 )
@@ -21,7 +21,7 @@ resolution-fits-requires c κs = tt
 
 returns-2 : tie.Need-returns-2
 returns-2 c = let a = c.before.before.before.before.args in (
-  sym (state-resolution a.taken a.copies a.resolution a.bounds a.right a.unplaced-area
+  sym (state-resolution a.taken a.copies a.resolution a.bounds a.right a.unplaced_area
       (passed c.before.before.before.taken-fits.ensures c.before.before.if1.false)
       (failed c.before.resolution-fits.ensures.0 c.if2.true)),
   never,
@@ -32,7 +32,7 @@ bounds-fit-requires c κs = tt
 
 returns-3 : tie.Need-returns-3
 returns-3 c = let a = c.before.before.before.before.before.before.args in (
-  sym (state-bounds a.taken a.copies a.resolution a.bounds a.right a.unplaced-area
+  sym (state-bounds a.taken a.copies a.resolution a.bounds a.right a.unplaced_area
       (passed c.before.before.before.before.before.taken-fits.ensures c.before.before.before.before.if1.false)
       (passed c.before.before.before.resolution-fits.ensures.0 c.before.before.if2.false)
       (failed c.before.bounds-fit.ensures.0 c.if3.true)),
@@ -52,7 +52,7 @@ returns-4 c =
     let c6 = c5.before in
     let c7 = c6.before in
     let a = c7.args in (
-      c.layout-fits.ensures ∙ state-layout a.taken a.copies a.resolution a.bounds a.right a.unplaced-area
+      c.layout-fits.ensures ∙ state-layout a.taken a.copies a.resolution a.bounds a.right a.unplaced_area
           (passed c6.taken-fits.ensures c5.if1.false) (passed c4.resolution-fits.ensures.0 c3.if2.false)
           (passed c2.bounds-fit.ensures.0 c1.if3.false),
       λ e. (

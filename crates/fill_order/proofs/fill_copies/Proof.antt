@@ -14,13 +14,13 @@ use Rattle.fill_order.proofs.fill_copies.Tie as tie
 use Rattle.fill_order.proofs.fill_copies.Lts as lts
 
 abbrev invariant-loop : tie.invariant-loop
-invariant-loop g order rows areas inset-bounds parts shapes sheet sheet-entries sheet-starts placed₀ entries₀ starts₀ gains₀ room₀ tracks₀ spots₀ sheet_firsts
+invariant-loop g order rows areas inset_bounds parts shapes sheet sheet_entries sheet_starts placed₀ entries₀ starts₀ gains₀ room₀ tracks₀ spots₀ sheet_firsts
     firsts₀ n₀ v₀ t₀ i₀ placed entries starts gains room tracks spots firsts v t i =
-    Going (given_in g rows areas inset-bounds parts shapes sheet sheet-entries sheet-starts) order placed₀ entries₀ starts₀ gains₀ room₀ tracks₀ spots₀ firsts₀
+    Going (given_in g rows areas inset_bounds parts shapes sheet sheet_entries sheet_starts) order placed₀ entries₀ starts₀ gains₀ room₀ tracks₀ spots₀ firsts₀
     placed entries starts gains room tracks spots firsts v t i
 
 abbrev decreases-loop : tie.decreases-loop
-decreases-loop g order rows areas inset-bounds parts shapes sheet sheet-entries sheet-starts placed₀ entries₀ starts₀ gains₀ room₀ tracks₀ spots₀ sheet_firsts
+decreases-loop g order rows areas inset_bounds parts shapes sheet sheet_entries sheet_starts placed₀ entries₀ starts₀ gains₀ room₀ tracks₀ spots₀ sheet_firsts
     firsts₀ n₀ v₀ t₀ i₀ placed entries starts gains room tracks spots firsts v t i = length order - i
 
 loop-holds : tie.Need-loop-init invariant-loop decreases-loop
@@ -30,8 +30,8 @@ loop-holds c =
     let c18 = c8.before.before.before.before.before.before.before.before.before.before in
     let a = c18.args in
     let p = c18.requires in
-    let g = given_in a.g a.rows.now a.areas.now a.inset-bounds.now a.parts.now a.shapes.now a.sheet.now a.sheet-entries.now
-    a.sheet-starts.now in
+    let g = given_in a.g a.rows.now a.areas.now a.inset_bounds.now a.parts.now a.shapes.now a.sheet.now a.sheet_entries.now
+    a.sheet_starts.now in
     going-first g a.order.now a.placed.now a.entries.now a.starts.now a.gains.now a.room.now a.tracks.now a.spots.now
     a.firsts.now _ refl
     p.5 p.4 p.6 c8.slice-known.given
@@ -42,14 +42,14 @@ copy-at-requires c κs =
     let c20 = c16.before.before.before.before in
     let a = c20.args in
     let p = c20.requires in
-    let g = given_in a.g a.rows.now a.areas.now a.inset-bounds.now a.parts.now a.shapes.now a.sheet.now a.sheet-entries.now
-    a.sheet-starts.now in
+    let g = given_in a.g a.rows.now a.areas.now a.inset_bounds.now a.parts.now a.shapes.now a.sheet.now a.sheet_entries.now
+    a.sheet_starts.now in
     let i = c.before.loop.i in
     let h = c.loop-test.true in (
       h,
       lt_of_lt_of_le (kind-below p.0.0 g p.0.1 a.order.now p.0.2 i h) p.0.1.tabled.few,
       p.0.1.tabled.rows_long,
-      p.0.1.tabled.areas-long,
+      p.0.1.tabled.areas_long,
     )
 
 place-next-requires : tie.Need-place-next-requires invariant-loop decreases-loop
@@ -65,8 +65,8 @@ place-next-requires c κs =
     let p = c29.requires in
     let l = c10.loop in
     let q = c8.copy_at in
-    let g = given_in a.g a.rows.now a.areas.now a.inset-bounds.now a.parts.now a.shapes.now a.sheet.now a.sheet-entries.now
-    a.sheet-starts.now in
+    let g = given_in a.g a.rows.now a.areas.now a.inset_bounds.now a.parts.now a.shapes.now a.sheet.now a.sheet_entries.now
+    a.sheet_starts.now in
     let n = 6 * a.g.apart_strips in
     ready-next g a.order.now a.placed.now a.entries.now a.starts.now a.gains.now a.room.now a.tracks.now a.spots.now
     a.firsts.now
@@ -75,7 +75,7 @@ place-next-requires c κs =
     p.0.1 p.0.2
     (record {
       resolution = subst T (sym c29.well-formed.0.1.1.1.1.0.1) tt;
-      inset-bounds = c25.shared-slice-known4.given;
+      inset_bounds = c25.shared-slice-known4.given;
       apart = take-fit n _ c23.shared-slice-known6.given;
       inset = drop-fit n _ c23.shared-slice-known6.given;
       sheet = c22.shared-slice-known7.given;
@@ -114,8 +114,8 @@ loop-again c =
     let q = c28.copy_at in
     let s = c19.place-next in
     let k = s.auto.1.1.1.1.1.1.1.1.1.1 in
-    let g = given_in a.g a.rows.now a.areas.now a.inset-bounds.now a.parts.now a.shapes.now a.sheet.now a.sheet-entries.now
-    a.sheet-starts.now in
+    let g = given_in a.g a.rows.now a.areas.now a.inset_bounds.now a.parts.now a.shapes.now a.sheet.now a.sheet_entries.now
+    a.sheet_starts.now in
     going_next g a.order.now a.placed.now a.entries.now a.starts.now a.gains.now a.room.now a.tracks.now a.spots.now
     a.firsts.now
     l.placed l.entries l.starts l.gains l.room l.tracks l.spots l.firsts l.verdict l.t l.i l.invariant c29.loop-test.true
@@ -126,19 +126,19 @@ loop-again c =
     c17.slice-known9.given c1.verdict-of.result c.next-after.result c1.verdict-of.ensures c.next-after.ensures
 
 same_length : tie.Need-same-length invariant-loop decreases-loop
-same_length c = c.before.loop.invariant.placed-long
+same_length c = c.before.loop.invariant.placed_long
 
 same-length-2 : tie.Need-same-length-2 invariant-loop decreases-loop
-same-length-2 c = c.before.loop.invariant.entries-long
+same-length-2 c = c.before.loop.invariant.entries_long
 
 same-length-3 : tie.Need-same-length-3 invariant-loop decreases-loop
-same-length-3 c = c.before.loop.invariant.starts-long
+same-length-3 c = c.before.loop.invariant.starts_long
 
 same-length-4 : tie.Need-same-length-4 invariant-loop decreases-loop
 same-length-4 c = c.before.loop.invariant.gains_long
 
 same-length-5 : tie.Need-same-length-5 invariant-loop decreases-loop
-same-length-5 c = c.before.loop.invariant.room-long
+same-length-5 c = c.before.loop.invariant.room_long
 
 same-length-6 : tie.Need-same-length-6 invariant-loop decreases-loop
 same-length-6 c = c.before.loop.invariant.tracks_long
@@ -155,8 +155,8 @@ returns c =
     let c20 = c16.before.before.before.before in
     let a = c20.args in
     let l = c.before.loop in
-    let g = given_in a.g a.rows.now a.areas.now a.inset-bounds.now a.parts.now a.shapes.now a.sheet.now a.sheet-entries.now
-    a.sheet-starts.now in
+    let g = given_in a.g a.rows.now a.areas.now a.inset_bounds.now a.parts.now a.shapes.now a.sheet.now a.sheet_entries.now
+    a.sheet_starts.now in
     λ j h r m d e f z.
     going-last g a.order.now a.placed.now a.entries.now a.starts.now a.gains.now a.room.now a.tracks.now a.spots.now
     a.firsts.now

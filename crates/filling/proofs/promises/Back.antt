@@ -103,13 +103,13 @@ module _ (bytes : List ℕ) (j : Job) (e : read_job bytes ≡ accepted j) (s : S
           numbers =
               record {
                 resolution = N.resolution;
-                sheet-bounds = N.sheet-bounds;
-                inset-bounds = N.inset-bounds;
+                sheet_bounds = N.sheet_bounds;
+                inset_bounds = N.inset_bounds;
                 xs = all_closed Number n s.taken pos_zero s.layout.x zero_is N.xs;
                 ys = all_closed Number n s.taken pos_zero s.layout.y zero_is N.ys;
                 gaps = all_closed Number n s.taken pos_zero s.layout.gap zero_is N.gaps;
                 right = right-small.num;
-                unplaced-area = N.unplaced-area;
+                unplaced_area = N.unplaced_area;
               };
           rooms =
               record { shapes = W.shapes; sheet = W.sheet; placed = all_laid (Left j s n) (zeros pos_zero w.placed) left-numbers (all_zeros w.placed) };

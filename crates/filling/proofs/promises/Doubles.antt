@@ -41,12 +41,12 @@ unfolding state_doubles
 state_doubles_lem s h =
     let heights = all_append Number s.layout.y s.layout.gap h.ys h.gaps in
     let places = all_append Number s.layout.x (s.layout.y ++ s.layout.gap) h.xs heights in
-    let insets = all_append Number s.tables.inset_bounds (s.layout.x ++ (s.layout.y ++ s.layout.gap)) h.inset-bounds places in
+    let insets = all_append Number s.tables.inset_bounds (s.layout.x ++ (s.layout.y ++ s.layout.gap)) h.inset_bounds places in
     let bounds =
     all_append Number (rect_doubles s.tables.sheet_bounds) (s.tables.inset_bounds ++ (s.layout.x ++ (s.layout.y ++ s.layout.gap)))
-    (rect_all s.tables.sheet_bounds h.sheet-bounds) insets
+    (rect_all s.tables.sheet_bounds h.sheet_bounds) insets
     in
-    numbers_are (state_doubles s) (h.resolution, (h.right, (h.unplaced-area, bounds)))
+    numbers_are (state_doubles s) (h.resolution, (h.right, (h.unplaced_area, bounds)))
 
 pub room_doubles_lem : (w : Rooms) → RoomNumbers w → every is_number (room_doubles w) ≡ true
 room_doubles_lem w h = numbers_are (room_doubles w) (room_all w h)
@@ -59,4 +59,4 @@ lent_doubles_lem l h =
 
 pub plan_doubles_lem : (p : Plan) → PlanNumbers p → every is_number (plan_doubles p) ≡ true
 unfolding plan_doubles
-plan_doubles_lem p h = numbers_are (plan_doubles p) (h.right, (h.unplaced-area, (h.offcut, tt)))
+plan_doubles_lem p h = numbers_are (plan_doubles p) (h.right, (h.unplaced_area, (h.offcut, tt)))

@@ -102,9 +102,9 @@ moved-capacity part x y =
     omega arith
 
 module _ (p : Planner) (m : ℕ) (few : (k o : ℕ) → capacity (shape_of p k o).apart ≤ m) where
-  copy-few : (c : Standing) → capacity (copy_strips p c) ≤ m
+  copy_few : (c : Standing) → capacity (copy_strips p c) ≤ m
   unfolding copy_strips
-  copy-few c = rw (moved-capacity (shape_of p c.copy.kind c.orientation).apart c.x c.y) (few c.copy.kind c.orientation)
+  copy_few c = rw (moved-capacity (shape_of p c.copy.kind c.orientation).apart c.x c.y) (few c.copy.kind c.orientation)
 
   pub new-few : (k : ℕ) (c : Choice) → capacity (new_strips p k c) ≤ m
   unfolding new_strips
@@ -119,7 +119,7 @@ module _ (p : Planner) (m : ℕ) (few : (k o : ℕ) → capacity (shape_of p k o
   standing-few [] = unfold capacity in omega arith
   standing-few (c ∷ cs) =
       let e : capacity (copy_strips p c ++ flat_map (copy_strips p) cs) ≡ capacity (copy_strips p c) + capacity (flat_map (copy_strips p) cs) = capacity_append (copy_strips p c) (flat_map (copy_strips p) cs) (copy_sixfold c) (unfold standing_strips in standing_sixfold p cs) in
-      let a = copy-few c in
+      let a = copy_few c in
       let b = standing-few cs in
       let f : suc (length cs) * m ≡ m + length cs * m = omega arith in
       rw (e, f) (let z : capacity (copy_strips p c) + capacity (flat_map (copy_strips p) cs) ≤ m + length cs * m = omega arith in z)
@@ -151,7 +151,7 @@ module _ (p : Planner) (st : List Float) (room : ℕ) where
   counts-below (s ∷ ss) [] fs h = unfold any_above in refl
   counts-below (s ∷ ss) (t ∷ ts) [] h = unfold any_above in refl
   counts-below (s ∷ ss) (t ∷ ts) (f ∷ fs) h =
-      all-below room (λ c. length (intervals_at p st s c)) (h 0 (omega arith)) (looks p s t.next-column f) (interval_counts p st ss ts fs) (counts-below ss ts fs (λ i l. h (suc i) (omega arith)))
+      all-below room (λ c. length (intervals_at p st s c)) (h 0 (omega arith)) (looks p s t.next_column f) (interval_counts p st ss ts fs) (counts-below ss ts fs (λ i l. h (suc i) (omega arith)))
 
 pub look_few : (p : Planner) (st : List Float) (s : Shape) (c : ℕ) → length (intervals_at p st s c) ≤ capacity s.inset * capacity p.sheet + capacity s.apart * capacity st
 unfolding intervals_at counted_in

@@ -198,13 +198,13 @@ flat-numbers (p ∷ ps) h =
 -- what a filling answers
 pub record PlanNumbers (p : Plan) : Type 0 where
   pub right : Number p.right
-  pub unplaced-area : Number p.unplaced_area
+  pub unplaced_area : Number p.unplaced_area
   pub offcut : Number p.offcut
-  pub offcut-not-below : le pos_zero p.offcut ≡ true
+  pub offcut_not_below : le pos_zero p.offcut ≡ true
 
 no_plan_lem : PlanNumbers no_plan
 unfolding no_plan le
-no_plan_lem = record { right = zero_is; unplaced-area = zero_is; offcut = zero_is; offcut-not-below = refl }
+no_plan_lem = record { right = zero_is; unplaced_area = zero_is; offcut = zero_is; offcut_not_below = refl }
 
 pub not_planned_lem : (r : Refusal) (l : Lent) → PlanNumbers (not_planned r l).plan × LentNumbers (not_planned r l).lent
 unfolding not_planned
@@ -218,8 +218,8 @@ strips j s = standing_strips (planner_of j) (standing_of s)
 -- most what is taken from the sheet's right edge
 pub record OffcutBounds (j : Job) (s : State) : Type 0 where
   pub number : Number (offcut_of (planner_of j) s)
-  pub not-below : le pos_zero (offcut_of (planner_of j) s) ≡ true
-  pub not-above : le (offcut_of (planner_of j) s) (not_below_zero (s.tables.sheet_bounds.right ⊖ s.layout.right)) ≡ true
+  pub not_below : le pos_zero (offcut_of (planner_of j) s) ≡ true
+  pub not_above : le (offcut_of (planner_of j) s) (not_below_zero (s.tables.sheet_bounds.right ⊖ s.layout.right)) ≡ true
   pub covers : (i : ℕ) → i < capacity (strips j s) → le (strip_at (strips j s) i).x1 (reach_of s.layout.right (strips j s)) ≡ true
 
 module _ (bytes : List ℕ) (j : Job) (e : read_job bytes ≡ accepted j) (order : List ℕ) (s : State) (w : Rooms) (q : Plain) (h : Held bytes j e order s w q) where
@@ -244,8 +244,8 @@ module _ (bytes : List ℕ) (j : Job) (e : read_job bytes ≡ accepted j) (order
       let R = h.sound.right in
       record {
         number = left-number edge R reached.num reached.first;
-        not-below = left-from edge R reached.num reached.first;
-        not-above = left_upto edge R reached.num reached.first;
+        not_below = left-from edge R reached.num reached.first;
+        not_above = left_upto edge R reached.num reached.first;
         covers = reached.covers;
       }
 
@@ -258,7 +258,7 @@ module _ (bytes : List ℕ) (j : Job) (e : read_job bytes ≡ accepted j) (order
       let c : length (standing_of s) ≤ 5000 = unfold standing_of in (let a = stands-few s s.taken in omega arith) in
       let d : All StandNumbers (standing_of s) = unfold standing_of in standing-numbers s N h.own.kept.linked.xs h.own.kept.linked.ys
       h.own.kept.linked.gaps h.sound.orientations s.taken t in (
-        record { right = N.right; unplaced-area = N.unplaced-area; offcut = offcut-bounds.number; offcut-not-below = offcut-bounds.not-below },
+        record { right = N.right; unplaced_area = N.unplaced_area; offcut = offcut-bounds.number; offcut_not_below = offcut-bounds.not_below },
         only_positions_lem l (flat_positions (positions j (standing_of s))) (flat-numbers (positions j (standing_of s))
             (positions-numbers j (standing_of s) z.kinds c d)),
       )

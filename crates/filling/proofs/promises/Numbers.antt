@@ -30,13 +30,13 @@ pub record RectNumbers (b : Rect) : Type 0 where
 -- of a state
 pub record StateNumbers (s : State) : Type 0 where
   pub resolution : Number s.tables.resolution
-  pub sheet-bounds : RectNumbers s.tables.sheet_bounds
-  pub inset-bounds : Numbers s.tables.inset_bounds
+  pub sheet_bounds : RectNumbers s.tables.sheet_bounds
+  pub inset_bounds : Numbers s.tables.inset_bounds
   pub xs : Numbers s.layout.x
   pub ys : Numbers s.layout.y
   pub gaps : Numbers s.layout.gap
   pub right : Number s.layout.right
-  pub unplaced-area : Number s.layout.unplaced_area
+  pub unplaced_area : Number s.layout.unplaced_area
 
 -- of strip rooms
 pub record RoomNumbers (w : Rooms) : Type 0 where
@@ -113,13 +113,13 @@ unfolding zero_state zero_tables empty_layout
 zero-state =
     record {
       resolution = zero_is;
-      sheet-bounds = no_bounds_lem;
-      inset-bounds = all_replicate 4096;
+      sheet_bounds = no_bounds_lem;
+      inset_bounds = all_replicate 4096;
       xs = all_replicate 4096;
       ys = all_replicate 4096;
       gaps = all_replicate 4096;
       right = zero_is;
-      unplaced-area = zero_is;
+      unplaced_area = zero_is;
     }
 
 pub zero-rooms : (w : Rooms) → RoomNumbers (zero_rooms w)

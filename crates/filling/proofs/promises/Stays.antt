@@ -55,11 +55,11 @@ module _ (j : Job) (g : GoodJob j) where
 
   apart_all : Numbers (apart_strips_of P)
   unfolding apart_strips_of by_slot
-  apart_all = all_flat_map (λ s. s.apart) (slot_shape P) (λ i. (slot_fine i).apart-numbers) 1024 0
+  apart_all = all_flat_map (λ s. s.apart) (slot_shape P) (λ i. (slot_fine i).apart_numbers) 1024 0
 
   inset_all : Numbers (inset_strips P)
   unfolding inset_strips by_slot
-  inset_all = all_flat_map (λ s. s.inset) (slot_shape P) (λ i. (slot_fine i).inset-numbers) 1024 0
+  inset_all = all_flat_map (λ s. s.inset) (slot_shape P) (λ i. (slot_fine i).inset_numbers) 1024 0
 
   sheet_all : Numbers P.sheet
   unfolding planner_of
@@ -75,13 +75,13 @@ module _ (j : Job) (g : GoodJob j) where
   first-numbers order =
       record {
         resolution = (resolution_in j g).num;
-        sheet-bounds = framed-numbers P.bounds (framed j g);
-        inset-bounds = bounds_all;
+        sheet_bounds = framed-numbers P.bounds (framed j g);
+        inset_bounds = bounds_all;
         xs = all_replicate 4096;
         ys = all_replicate 4096;
         gaps = all_replicate 4096;
         right = (framed j g).left.num;
-        unplaced-area = zero_is;
+        unplaced_area = zero_is;
       }
 
   pub first-rooms : (w : Rooms) → RoomNumbers (first_rooms P w)
@@ -149,7 +149,7 @@ module _ (j : Job) (g : GoodJob j) (k : ℕ) where
         y = r.1;
         gap = r.2;
         right = right-small c G r.0;
-        strips = (shape j g k c.orientation).moved-numbers c.x c.y r.0 r.1;
+        strips = (shape j g k c.orientation).moved_numbers c.x c.y r.0 r.1;
         orientation = o;
       }
 
@@ -169,13 +169,13 @@ module _ (p : Planner) (k : ℕ) (ts : List Track) (s : State) (w : Rooms) (st :
         numbers =
             record {
               resolution = N.resolution;
-              sheet-bounds = N.sheet-bounds;
-              inset-bounds = N.inset-bounds;
+              sheet_bounds = N.sheet_bounds;
+              inset_bounds = N.inset_bounds;
               xs = all_set s.layout.x s.taken pos_zero N.xs zero_is;
               ys = all_set s.layout.y s.taken pos_zero N.ys zero_is;
               gaps = all_set s.layout.gap s.taken pos_zero N.gaps zero_is;
               right = N.right;
-              unplaced-area = a;
+              unplaced_area = a;
             };
         rooms = S.rooms;
         right = S.right;
@@ -193,13 +193,13 @@ module _ (p : Planner) (k : ℕ) (ts : List Track) (s : State) (w : Rooms) (st :
         numbers =
             record {
               resolution = N.resolution;
-              sheet-bounds = N.sheet-bounds;
-              inset-bounds = N.inset-bounds;
+              sheet_bounds = N.sheet_bounds;
+              inset_bounds = N.inset_bounds;
               xs = all_set s.layout.x s.taken d.x N.xs C.x.num;
               ys = all_set s.layout.y s.taken d.y N.ys C.y.num;
               gaps = all_set s.layout.gap s.taken d.gap N.gaps C.gap.num;
               right = r.num;
-              unplaced-area = N.unplaced-area;
+              unplaced_area = N.unplaced_area;
             };
         rooms = record {
           shapes = W.shapes;

@@ -76,12 +76,12 @@ module _ (j : Job) (z : Sized j) (s : State) (w : Rooms) (h : Linked j s w) (m n
       let g = one_more in
       omega arith
 
-  entered-few : (c : Choice) → length (entries_for P.bounds (Now c)) ≤ length w.placed-entries
+  entered-few : (c : Choice) → length (entries_for P.bounds (Now c)) ≤ length w.placed_entries
   unfolding entries_for
   entered-few c =
       let b = entries-few (sheet_index P.bounds) (Now c) (capacity (Now c)) in
       let d = mul-le-mul_left 512 (now_few c) in
-      let g = a.placed-entries in
+      let g = a.placed_entries in
       le_trans b (le_trans d g)
 
   winner-fits : (cs : List Choice) → winner_verdict P w k St cs ≡ Accepted
@@ -89,7 +89,7 @@ module _ (j : Job) (z : Sized j) (s : State) (w : Rooms) (h : Linked j s w) (m n
   winner-fits [] = refl
   winner-fits (c ∷ cs) = rw (
     le-ltb (standing_capacity w.placed w.placed_firsts) (capacity (Now (best c cs))) (le_trans (now_few (best c cs)) a.placed),
-    le-ltb (length w.placed-entries) (length (entries_for P.bounds (Now (best c cs)))) (entered-few (best c cs)),
+    le-ltb (length w.placed_entries) (length (entries_for P.bounds (Now (best c cs)))) (entered-few (best c cs)),
   )
 
   module _ (iv : List Float) (r : AmpleIntervals j m n iv) where
@@ -116,9 +116,9 @@ module _ (j : Job) (z : Sized j) (s : State) (w : Rooms) (h : Linked j s w) (m n
     unfolding core_step place_next
     core_fits = rw (e, h.plan, h.stand, place-taken P St (get_or (tracks_of j s) k []) k s w iv copy-fits)
 
-  placed-long : (d : Choice) → standing_capacity (laid (Now d) w.placed) (laid (firsts_for P.bounds (Now d)) w.placed_firsts) ≡ standing_capacity
+  placed_long : (d : Choice) → standing_capacity (laid (Now d) w.placed) (laid (firsts_for P.bounds (Now d)) w.placed_firsts) ≡ standing_capacity
       w.placed w.placed_firsts
-  placed-long d =
+  placed_long d =
       let b = le_trans (now_few d) a.placed in
       let q : Sixfold (Now d) = sixfold_append St (new_strips P k d) (standing_sixfold P (standing_of s)) (new_sixfold P k d) in
       laid-capacity P.bounds (Now d) w.placed w.placed_firsts q b
@@ -131,8 +131,8 @@ module _ (j : Job) (z : Sized j) (s : State) (w : Rooms) (h : Linked j s w) (m n
       record {
         apart = a.apart;
         inset = a.inset;
-        placed = rw (placed-long (best c cs)) a.placed;
-        placed-entries = rw (length-laid (entries_for P.bounds (Now (best c cs))) w.placed-entries (entered-few (best c cs))) a.placed-entries;
+        placed = rw (placed_long (best c cs)) a.placed;
+        placed_entries = rw (length-laid (entries_for P.bounds (Now (best c cs))) w.placed_entries (entered-few (best c cs))) a.placed_entries;
       }
 
 -- ---- after a start
@@ -156,7 +156,7 @@ module _ (bytes : List ℕ) (j : Job) (e : read_job bytes ≡ accepted j) (order
 
   module _ (s : State) (w : Rooms) (q : Plain) (h : Ready s w q) (l : s.taken < j.copies) (iv : List Float) (a : AmpleIntervals j m n iv) where
     coming : (k : ℕ) × (ks : List ℕ) × Nexts j s k ks
-    coming = next_of (order_of j s) s.taken (let f = rearranged-length j order r in rw h.own.order-kept
+    coming = next_of (order_of j s) s.taken (let f = rearranged-length j order r in rw h.own.order_kept
         (let g : s.taken < length order = omega arith in g))
 
     core_takes : (core_step j s w iv).verdict ≡ Accepted
@@ -218,7 +218,7 @@ start_fits j order l r a =
       r,
       le-ltb (standing_capacity w.sheet w.sheet_firsts) (capacity p.sheet)
           a.sheet,
-      le-ltb (length w.sheet-entries) (length (entries_for p.bounds p.sheet)) a.sheet-entries,
+      le-ltb (length w.sheet_entries) (length (entries_for p.bounds p.sheet)) a.sheet_entries,
       le-ltb (capacity w.shapes)
           (capacity (apart_strips_of p ++ inset_strips p)) a.shapes,
     )
@@ -230,7 +230,7 @@ first-ample j m n w a =
       apart = a.apart;
       inset = a.inset;
       placed = rw (length-zeros pos_zero w.placed, length-zeros 0 w.placed_firsts) a.placed;
-      placed-entries = rw (length-zeros 0 w.placed-entries) a.placed-entries;
+      placed_entries = rw (length-zeros 0 w.placed_entries) a.placed_entries;
     }
 
 module _ (bytes : List ℕ) (j : Job) (e : read_job bytes ≡ accepted j) (order : List ℕ) (r : rearranged j order ≡ true) (m n : ℕ) (l : Lent) (f : AmpleStart j l)

@@ -13,7 +13,7 @@ use Rattle.filling.specs.Calls.{Call, next_copy}
 pub record AmpleStart (j : Job) (l : Lent) : Type 0 where
   pub positions : j.copies ≤ position_capacity l.positions
   pub sheet : capacity (planner_of j).sheet ≤ standing_capacity l.rooms.sheet l.rooms.sheet_firsts
-  pub sheet-entries : length (entries_for (planner_of j).bounds (planner_of j).sheet) ≤ length l.rooms.sheet-entries
+  pub sheet_entries : length (entries_for (planner_of j).bounds (planner_of j).sheet) ≤ length l.rooms.sheet_entries
   pub shapes : capacity (apart_strips_of (planner_of j) ++ inset_strips (planner_of j)) ≤ capacity l.rooms.shapes
 
 -- rooms that hold whatever the copies of a job need, where an orientation has at most m apart strips and n inset strips
@@ -21,7 +21,7 @@ pub record Ample (j : Job) (m n : ℕ) (w : Rooms) : Type 0 where
   pub apart : (k o : ℕ) → capacity (shape_of (planner_of j) k o).apart ≤ m
   pub inset : (k o : ℕ) → capacity (shape_of (planner_of j) k o).inset ≤ n
   pub placed : j.copies * m ≤ standing_capacity w.placed w.placed_firsts
-  pub placed-entries : 512 * (j.copies * m) ≤ length w.placed-entries
+  pub placed_entries : 512 * (j.copies * m) ≤ length w.placed_entries
 
 -- an interval room that holds whatever a look at a copy of the job can count
 abbrev pub AmpleIntervals : Job → ℕ → ℕ → List Float → Type 0

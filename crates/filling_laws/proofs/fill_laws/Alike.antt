@@ -29,22 +29,22 @@ pub record Alike (j : Job) (s : State) (w w' : Rooms) : Type 0 where
   pub planner : planner_at j s.tables w ≡ planner_at j s.tables w'
   pub standing : placed_strips_of s w ≡ placed_strips_of s w'
   pub placed : length w.placed ≡ length w'.placed
-  pub entries : length w.placed-entries ≡ length w'.placed-entries
+  pub entries : length w.placed_entries ≡ length w'.placed_entries
   pub firsts : length w.placed_firsts ≡ length w'.placed_firsts
 
 -- ---- what a step tests
 
-store_same : (p : Planner) (w w' : Rooms) (strips : List Float) → length w.placed ≡ length w'.placed → length w.placed-entries ≡ length w'.placed-entries → length w.placed_firsts ≡ length w'.placed_firsts → store_verdict p w strips ≡ store_verdict p w' strips
+store_same : (p : Planner) (w w' : Rooms) (strips : List Float) → length w.placed ≡ length w'.placed → length w.placed_entries ≡ length w'.placed_entries → length w.placed_firsts ≡ length w'.placed_firsts → store_verdict p w strips ≡ store_verdict p w' strips
 unfolding store_verdict Rattle.index.specs.Buckets.standing_capacity capacity
 store_same p w w' strips a b d = rw (a, b, d)
 
-winner-same : (p : Planner) (w w' : Rooms) (k : ℕ) (st : List Float) (cs : List Choice) → length w.placed ≡ length w'.placed → length w.placed-entries ≡ length w'.placed-entries → length w.placed_firsts ≡ length w'.placed_firsts → winner_verdict p w k st cs ≡ winner_verdict p w' k st cs
+winner-same : (p : Planner) (w w' : Rooms) (k : ℕ) (st : List Float) (cs : List Choice) → length w.placed ≡ length w'.placed → length w.placed_entries ≡ length w'.placed_entries → length w.placed_firsts ≡ length w'.placed_firsts → winner_verdict p w k st cs ≡ winner_verdict p w' k st cs
 unfolding winner_verdict
 winner-same p w w' k st [] a b d = refl
 winner-same p w w' k st (c ∷ cs) a b d = store_same p w w' (st ++ new_strips p k (best c cs)) a b d
 
 verdict-same : (p : Planner) (w w' : Rooms) (iv iv' : List Float) (k : ℕ) (st : List Float) (ss : List Shape) (ts : List Track) (fs : List Found)
-    → length w.placed ≡ length w'.placed → length w.placed-entries ≡ length w'.placed-entries → length w.placed_firsts ≡ length w'.placed_firsts → length iv ≡ length iv' → copy_verdict p w iv k st ss ts fs ≡ copy_verdict p w' iv' k st ss ts fs
+    → length w.placed ≡ length w'.placed → length w.placed_entries ≡ length w'.placed_entries → length w.placed_firsts ≡ length w'.placed_firsts → length iv ≡ length iv' → copy_verdict p w iv k st ss ts fs ≡ copy_verdict p w' iv' k st ss ts fs
 unfolding copy_verdict
 verdict-same p w w' iv iv' k st ss ts fs a b d c = rw (c, winner-same p w w' k st (choices p 0 ss fs) a b d)
 
@@ -66,7 +66,7 @@ module _ (j : Job) (s : State) (w w' : Rooms) (h : Alike j s w w') (p : Planner)
         planner = h.planner;
         standing = take-front (st ++ new_strips p k (best c cs)) w.placed ∙ sym (take-front (st ++ new_strips p k (best c cs)) w'.placed);
         placed = length-same _ w.placed w'.placed h.placed;
-        entries = length-same _ w.placed-entries w'.placed-entries h.entries;
+        entries = length-same _ w.placed_entries w'.placed_entries h.entries;
         firsts = length-same _ w.placed_firsts w'.placed_firsts h.firsts;
       }
 

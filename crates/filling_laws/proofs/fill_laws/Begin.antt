@@ -61,8 +61,8 @@ laid_none ix placed entries =
 
 -- ---- rooms in which a start is accepted
 
-not-below : (n : ℕ) → ltb n n ≡ false
-not-below n = le-ltb n n (omega arith)
+not_below : (n : ℕ) → ltb n n ≡ false
+not_below n = le-ltb n n (omega arith)
 
 refuse_none : (t : Bool) (r : Refusal) (v : Verdict) → t ≡ false → v ≡ Accepted → refuse_if t r v ≡ Accepted
 unfolding refuse_if
@@ -75,14 +75,14 @@ module _ (j : Job) (few : capacity (planner_of j).sheet ≤ strip_numbers) (orde
   enough : Lent
   enough =
       record {
-        rooms = record { shapes = apart_strips_of P ++ inset_strips P; sheet = P.sheet; placed = []; sheet-entries = entries_for P.bounds P.sheet; placed-entries = []; sheet_firsts = replicate (capacity P.sheet) 0; placed_firsts = [] };
+        rooms = record { shapes = apart_strips_of P ++ inset_strips P; sheet = P.sheet; placed = []; sheet_entries = entries_for P.bounds P.sheet; placed_entries = []; sheet_firsts = replicate (capacity P.sheet) 0; placed_firsts = [] };
         intervals = [];
         positions = replicate (6 * j.copies) pos_zero;
       }
 
   prepared : prepare_verdict P enough.rooms ≡ Accepted
   unfolding prepare_verdict enough standing_capacity
-  prepared = refuse_none _ _ _ (le-ltb (min (min (capacity P.sheet) (length {A = ℕ} (replicate (capacity P.sheet) 0))) strip_numbers) (capacity P.sheet) (let e = length-replicate {A = ℕ} (capacity P.sheet) 0 in omega (arith, few, e))) (refuse_none _ _ _ (not-below (length (entries_for P.bounds P.sheet))) (refuse_none _ _ _ (not-below (capacity (apart_strips_of P ++ inset_strips P))) refl))
+  prepared = refuse_none _ _ _ (le-ltb (min (min (capacity P.sheet) (length {A = ℕ} (replicate (capacity P.sheet) 0))) strip_numbers) (capacity P.sheet) (let e = length-replicate {A = ℕ} (capacity P.sheet) 0 in omega (arith, few, e))) (refuse_none _ _ _ (not_below (length (entries_for P.bounds P.sheet))) (refuse_none _ _ _ (not_below (capacity (apart_strips_of P ++ inset_strips P))) refl))
 
   started : start_verdict j order enough ≡ Accepted
   unfolding start_verdict enough
@@ -134,28 +134,28 @@ module _ (bytes : List ℕ) (j : Job) (read : read_job bytes ≡ accepted j) (fe
       record {
         kept = record { linked = linked; paired = (first-kept j z order (enough j few order r) (started j few order r)).paired };
         fine = first_fine j z b order n;
-        order-kept = first-order j z order n;
+        order_kept = first-order j z order n;
         few = first-few j order;
         counts = counts;
         parts = parts;
-        sheet-entries = first-sheet j lent;
-        placed-entries = first-placed j z order n entries;
+        sheet_entries = first-sheet j lent;
+        placed_entries = first-placed j z order n entries;
         firsts = first_firsts j order lent w refl refl;
         stands = first_passes j z order n (Stands j);
         reaches = first_passes j z order n (Reaches p);
       }
 
-  alike : (l : Lent) → length l.rooms.placed ≡ length placed → length l.rooms.placed-entries ≡ length entries → length l.rooms.placed_firsts ≡ length firsts → Alike j before w (first_rooms p l.rooms)
+  alike : (l : Lent) → length l.rooms.placed ≡ length placed → length l.rooms.placed_entries ≡ length entries → length l.rooms.placed_firsts ≡ length firsts → Alike j before w (first_rooms p l.rooms)
   unfolding first_rooms
   alike l a b c =
       record {
         planner = plan ∙ sym (first_linked j z order l.rooms).plan;
         standing = stand ∙ sym (first_linked j z order l.rooms).stand;
         placed = sym (length-zeros pos_zero l.rooms.placed ∙ a);
-        entries = sym (length-zeros 0 l.rooms.placed-entries ∙ b);
+        entries = sym (length-zeros 0 l.rooms.placed_entries ∙ b);
         firsts = sym (length-zeros 0 l.rooms.placed_firsts ∙ c);
       }
 
-  pub fill-first : (l : Lent) → length l.rooms.placed ≡ length placed → length l.rooms.placed-entries ≡ length entries → length l.rooms.placed_firsts ≡ length firsts → fill_from j l.intervals (length order) before w ≡ fill_order j l order
+  pub fill-first : (l : Lent) → length l.rooms.placed ≡ length placed → length l.rooms.placed_entries ≡ length entries → length l.rooms.placed_firsts ≡ length firsts → fill_from j l.intervals (length order) before w ≡ fill_order j l order
   unfolding fill_order
   fill-first l a b c = fill_alike j l.intervals l.intervals refl (length order) before w (first_rooms p l.rooms) (alike l a b c)

@@ -52,7 +52,7 @@ use Rattle.filling_laws.proofs.fill_laws.Begin.{own_first, fill-first}
 pub record Held (j : Job) (lent : Rooms) (order : List ℕ) (wide i : ℕ) (t : Totals) (placed : List Float) (entries firsts looks next orientation : List ℕ) (x y gap : List Float) : Type 0 where
   pub plain : Plain
   pub own : Own j order (state_by (planner_of j) order i next looks t orientation x y gap) (rooms_by (planner_of j) lent placed entries firsts) plain
-  pub same : (l : Lent) → length l.rooms.placed ≡ length placed → length l.rooms.placed-entries ≡ length entries → length l.intervals ≡ wide → length l.rooms.placed_firsts ≡ length firsts
+  pub same : (l : Lent) → length l.rooms.placed ≡ length placed → length l.rooms.placed_entries ≡ length entries → length l.intervals ≡ wide → length l.rooms.placed_firsts ≡ length firsts
       → fill_from j l.intervals (length order - i) (state_by (planner_of j) order i next looks t orientation x y gap) (rooms_by (planner_of j) lent placed entries firsts) ≡ fill_order j l order
 
 -- ---- before the first copy
@@ -115,7 +115,7 @@ state_in ts order taken next looks t orientation x y gap =
 -- what place_next leaves
 abbrev pub code_with : Given → ℕ → Float → ℕ → ℕ → Totals → List Float → List ℕ → List ℕ → List ℕ → List ℕ → List ℕ → Placed
 code_with g room area slot n t placed entries starts firsts looks next =
-    place_of g.index (surroundings room g.bounds g.resolution g.inset-bounds g.parts g.apart g.inset g.sheet (take (6 * t.placed_strips) placed)) area slot n t placed entries starts firsts looks next
+    place_of g.index (surroundings room g.bounds g.resolution g.inset_bounds g.parts g.apart g.inset g.sheet (take (6 * t.placed_strips) placed)) area slot n t placed entries starts firsts looks next
 
 same-given : {a a' : Index} {b b' : Rect} {c c' : Float} {rows : List ℕ} {areas : List Float} {d d' : List Float} {e e' : List ℕ} {f f' f₁ f₁' f₂ f₂' : List Float} {es es' ss : List ℕ}
     → a ≡ a' → b ≡ b' → c ≡ c' → d ≡ d' → e ≡ e' → f ≡ f' → f₁ ≡ f₁' → f₂ ≡ f₂' → es ≡ es' → given a b c rows areas d e f f₁ f₂ es ss ≡ given a' b' c' rows areas d' e' f' f₁' f₂' es' ss
@@ -129,10 +129,10 @@ module _ (j : Job) (g : Given) (h : Prepared j g) (order : List ℕ) (r : rearra
   abbrev pub Own' : Given
   Own' =
       given (sheet_index P.bounds) P.bounds P.resolution g.rows g.areas (tables_of P).inset_bounds (tables_of P).parts (apart_room (tables_of P) (first_rooms P h.lent).shapes) (inset_room (tables_of P) (first_rooms P h.lent).shapes)
-      (take (6 * (tables_of P).sheet_strips) (first_rooms P h.lent).sheet) (first_rooms P h.lent).sheet-entries g.sheet-starts
+      (take (6 * (tables_of P).sheet_strips) (first_rooms P h.lent).sheet) (first_rooms P h.lent).sheet_entries g.sheet_starts
 
   pub given_is : g ≡ Own'
-  given_is = same-given h.index h.bounds h.resolution h.inset-bounds h.parts h.apart h.inset h.sheet h.sheet-entries
+  given_is = same-given h.index h.bounds h.resolution h.inset_bounds h.parts h.apart h.inset h.sheet h.sheet_entries
 
   -- the kind at place i is one of the job's
   pub kind-below : (i : ℕ) → i < length order → get_or order i 0 < length j.kinds
@@ -166,7 +166,7 @@ module _ (j : Job) (g : Given) (h : Prepared j g) (order : List ℕ) (r : rearra
     slots = let e = b.own.kept.linked.look_counts in let l = slots-within j (job_good h.bytes j h.read).good k kind in omega arith
 
     next-order : drop i (order_of j S) ≡ k ∷ drop (suc i) order
-    next-order = ap (drop i) b.own.order-kept ∙ drop-cons order i 0 below
+    next-order = ap (drop i) b.own.order_kept ∙ drop-cons order i 0 below
 
     module _ (starts : List ℕ) (L : Laid g.index placed t.placed_strips entries starts) (K : FirstBuckets g.index placed t.placed_strips firsts) where
       -- what place_next leaves of this copy
@@ -208,7 +208,7 @@ module _ (j : Job) (g : Given) (h : Prepared j g) (order : List ℕ) (r : rearra
         count = omega arith
 
         -- a refusal ends the filling
-        pub held_stops : (c : Refusal) → q.outcome ≡ Refused c → (l : Lent) → length l.rooms.placed ≡ length placed → length l.rooms.placed-entries ≡ length entries → length l.intervals ≡ wide → length l.rooms.placed_firsts ≡ length firsts → fill_order j l order ≡ stopped c
+        pub held_stops : (c : Refusal) → q.outcome ≡ Refused c → (l : Lent) → length l.rooms.placed ≡ length placed → length l.rooms.placed_entries ≡ length entries → length l.intervals ≡ wide → length l.rooms.placed_firsts ≡ length firsts → fill_order j l order ≡ stopped c
         held_stops c o l u v w z =
             let iv = l.intervals in
             let e : (core_step j S W iv).verdict ≡ Verdicts.Refused c = ap (λ (z : Next.Step). z.verdict) (sym (step_is iv w D d firsts' F)) ∙ (ap (λ (z : Outcome). (step_by z S W iv firsts' D).verdict) o ∙ no_step-refused c S W iv) in

@@ -47,7 +47,7 @@ after_less (Verdicts.Refused c) i m n h e = omega arith
 -- rooms of these lengths
 abbrev pub Long : Lent → List Float → List ℕ → List ℕ → ℕ → Type 0
 Long l placed entries firsts wide =
-    (length l.rooms.placed ≡ length placed) × (length l.rooms.placed-entries ≡ length entries) × (length l.intervals ≡ wide)
+    (length l.rooms.placed ≡ length placed) × (length l.rooms.placed_entries ≡ length entries) × (length l.intervals ≡ wide)
     × (length l.rooms.placed_firsts ≡ length firsts)
 
 -- the filling goes on, or it has ended with a refusal
@@ -87,11 +87,11 @@ pub record Going (g : Given) (order : List ℕ) (placed₀ : List Float) (entrie
   pub kept : FirstBuckets g.index placed t.placed_strips firsts
   pub stage : (j : Job) (h : Prepared j g) → rearranged j order ≡ true → StageIn v j h.lent order (length room₀) i t placed entries firsts tracks spots
   pub doubles : AllFit placed
-  pub placed-long : length placed ≡ length placed₀
-  pub entries-long : length entries ≡ length entries₀
-  pub starts-long : length starts ≡ length starts₀
+  pub placed_long : length placed ≡ length placed₀
+  pub entries_long : length entries ≡ length entries₀
+  pub starts_long : length starts ≡ length starts₀
   pub gains_long : length gains ≡ length gains₀
-  pub room-long : length room ≡ length room₀
+  pub room_long : length room ≡ length room₀
   pub tracks_long : length tracks ≡ length tracks₀
   pub spots_long : length spots ≡ length spots₀
   pub firsts_long : length firsts ≡ length firsts₀
@@ -113,11 +113,11 @@ module _ (g : Given) (order : List ℕ) (placed₀ : List Float) (entries₀ sta
             held_first j g h order r (length room₀) t placed₀ entries₀ firsts₀ (look_counts_from tracks₀) (next_columns tracks₀) (orientations tracks₀) (xs spots₀) (ys spots₀) (gaps spots₀)
             a b c;
         doubles = f;
-        placed-long = refl;
-        entries-long = refl;
-        starts-long = refl;
+        placed_long = refl;
+        entries_long = refl;
+        starts_long = refl;
         gains_long = refl;
-        room-long = refl;
+        room_long = refl;
         tracks_long = refl;
         spots_long = refl;
         firsts_long = refl;
@@ -142,14 +142,14 @@ module _ (g : Given) (order : List ℕ) (placed₀ : List Float) (entries₀ sta
     -- what a search reads, in a room of so many intervals
     abbrev world_with : ℕ → Surroundings
     world_with capacity =
-        surroundings capacity g.bounds g.resolution g.inset-bounds g.parts g.apart g.inset g.sheet (take (6 * t.placed_strips) placed)
+        surroundings capacity g.bounds g.resolution g.inset_bounds g.parts g.apart g.inset g.sheet (take (6 * t.placed_strips) placed)
 
     -- what placing the next one requires, of the kind whose n orientations have their slots from `slot` on
     pub ready-next : i < length order → (j : Job) (h : Prepared j g) → rearranged j order ≡ true → Doubles g → length gains₀ ≡ buckets
         → track_numbers ≤ length tracks₀ → spot_numbers ≤ length spots₀ → (apart all : ℕ) → apart ≤ all
         → (slot n : ℕ) → slot ≡ 16 * get_or order i 0 → n ≡ get_or g.rows (4 * get_or order i 0 + 3) 0
         → (sheet_firsts : List ℕ) → SheetFirsts g sheet_firsts
-        → ((o : ℕ) → o < n → Fixed g.index (world_with (length room / 2)) g.sheet-entries g.sheet-starts (slot + o))
+        → ((o : ℕ) → o < n → Fixed g.index (world_with (length room / 2)) g.sheet_entries g.sheet_starts (slot + o))
         × (slot + n ≤ 1024) × ((o : ℕ) → o < n → get_or (look_counts_from tracks) (slot + o) 0 + 4000000002 < 2 ^ 64)
         × Standing g.index placed t.placed_strips entries starts × (length gains ≡ buckets) × (apart ≤ all)
         × (track_numbers ≤ length tracks) × (spot_numbers ≤ length spots) × (i < 4096)
@@ -177,17 +177,17 @@ module _ (g : Given) (order : List ℕ) (placed₀ : List Float) (entries₀ sta
         as_long m k l e f = omega arith
 
         fixed : HeldIn j h.lent order (length room₀) i t placed entries firsts tracks spots
-            → (o : ℕ) → o < n → Fixed g.index (world_with (length room / 2)) g.sheet-entries g.sheet-starts (slot + o)
+            → (o : ℕ) → o < n → Fixed g.index (world_with (length room / 2)) g.sheet_entries g.sheet_starts (slot + o)
         fixed H =
-            subst (λ (m : ℕ). (o : ℕ) → o < n → Fixed g.index (world_with (m / 2)) g.sheet-entries g.sheet-starts (slot + o)) (sym G.room-long)
-            (subst₂ (λ (s m : ℕ). (o : ℕ) → o < m → Fixed g.index (world_with (length room₀ / 2)) g.sheet-entries g.sheet-starts (s + o)) (sym es)
+            subst (λ (m : ℕ). (o : ℕ) → o < n → Fixed g.index (world_with (m / 2)) g.sheet_entries g.sheet_starts (slot + o)) (sym G.room_long)
+            (subst₂ (λ (s m : ℕ). (o : ℕ) → o < m → Fixed g.index (world_with (length room₀ / 2)) g.sheet_entries g.sheet_starts (s + o)) (sym es)
             (sym en)
             (held_fixed j g h order r (length room₀) i t placed entries firsts (look_counts_from tracks) (next_columns tracks) (orientations tracks) (xs spots) (ys spots) (gaps spots) H
             below D G.doubles))
 
     -- after the last
     pub going-last : length order ≤ i → (j : Job) → Prepared j g → rearranged j order ≡ true → (l : Lent)
-        → length l.rooms.placed ≡ length placed₀ → length l.rooms.placed-entries ≡ length entries₀ → length l.intervals ≡ length room₀
+        → length l.rooms.placed ≡ length placed₀ → length l.rooms.placed_entries ≡ length entries₀ → length l.intervals ≡ length room₀
         → length l.rooms.placed_firsts ≡ length firsts₀
         → filling_in v (planner_of j) order tracks t spots ≡ fill_order j l order
     going-last over j h r l a b c d = go v (G.stage j h r)
@@ -196,7 +196,7 @@ module _ (g : Given) (order : List ℕ) (placed₀ : List Float) (entries₀ sta
         ended = let u = G.upto in omega arith
 
         long : Long l placed entries firsts (length room₀)
-        long = (a ∙ sym G.placed-long, b ∙ sym G.entries-long, c, d ∙ sym G.firsts_long)
+        long = (a ∙ sym G.placed_long, b ∙ sym G.entries_long, c, d ∙ sym G.firsts_long)
 
         all : HeldIn j h.lent order (length room₀) i t placed entries firsts tracks spots → filling_in Verdicts.Accepted (planner_of j) order tracks t spots ≡
             fill_order j l order
@@ -229,7 +229,7 @@ module _ (g : Given) (order : List ℕ) (placed₀ : List Float) (entries₀ sta
           entries starts firsts tracks
       left_is =
           d
-          ∙ (ap (λ (m : ℕ). code_in g (m / 2) area slot n t placed entries starts firsts tracks) G.room-long
+          ∙ (ap (λ (m : ℕ). code_in g (m / 2) area slot n t placed entries starts firsts tracks) G.room_long
           ∙ (ap (λ (a : Float). code_in g (length room₀ / 2) a slot n t placed entries starts firsts tracks) ea
           ∙ ap₂ (λ (s m : ℕ). code_in g (length room₀ / 2) (get_or g.areas (get_or order i 0) nan) s m t placed entries starts firsts tracks) es en))
 
@@ -290,11 +290,11 @@ module _ (g : Given) (order : List ℕ) (placed₀ : List Float) (entries₀ sta
                 subst₂ (λ (u : Verdict) (m : ℕ). StageIn u j h.lent order (length room₀) m q.totals placed' entries' firsts' tracks' spots') (sym ev)
                 (sym (ei ∙ ap (λ (u : Verdict). next_after u i (length order)) ev)) (stage_next j h r);
             doubles = fit;
-            placed-long = lp ∙ G.placed-long;
-            entries-long = le ∙ G.entries-long;
-            starts-long = ls ∙ G.starts-long;
+            placed_long = lp ∙ G.placed_long;
+            entries_long = le ∙ G.entries_long;
+            starts_long = ls ∙ G.starts_long;
             gains_long = lg ∙ G.gains_long;
-            room-long = lr ∙ G.room-long;
+            room_long = lr ∙ G.room_long;
             tracks_long = lt ∙ G.tracks_long;
             spots_long = lo ∙ G.spots_long;
             firsts_long = lf ∙ G.firsts_long;

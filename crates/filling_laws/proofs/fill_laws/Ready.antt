@@ -43,17 +43,17 @@ unfolding flat_parts
 length-parts [] = refl
 length-parts (b ∷ l) = let e = length-parts l in omega arith
 
-pub bounds-long : (p : Planner) → length (tables_of p).inset_bounds ≡ 4096
+pub bounds_long : (p : Planner) → length (tables_of p).inset_bounds ≡ 4096
 unfolding tables_of
-bounds-long p =
+bounds_long p =
     let a = length-bounds (map (λ s. s.bounds) (by_slot (slot_shape p))) in
     let b = length-map (by_slot (slot_shape p)) (λ s. s.bounds) in
     let c = length-by_slot (slot_shape p) in
     omega arith
 
-pub parts-long : (p : Planner) → length (tables_of p).parts ≡ 4096
+pub parts_long : (p : Planner) → length (tables_of p).parts ≡ 4096
 unfolding tables_of
-parts-long p =
+parts_long p =
     let a = length-parts (parts_from 0 0 (by_slot (slot_shape p))) in
     let b = parts-length (by_slot (slot_shape p)) 0 0 in
     let c = length-by_slot (slot_shape p) in
@@ -75,7 +75,7 @@ zeros-fit (suc n) (suc i) = zeros-fit n i
 -- what a filling is given are doubles: so are all numbers that code holds
 pub record Doubles (g : Given) : Type 0 where
   pub resolution : T (fits binary64 g.resolution)
-  pub inset-bounds : AllFit g.inset-bounds
+  pub inset_bounds : AllFit g.inset_bounds
   pub apart : AllFit g.apart
   pub inset : AllFit g.inset
   pub sheet : AllFit g.sheet
@@ -120,8 +120,8 @@ module _ (j : Job) (g : Given) (h : Prepared j g) (order : List ℕ) (r : rearra
     in_doubles =
         record {
           resolution = subst (λ (z : Float). T (fits binary64 z)) h.resolution D.resolution;
-          sheet-bounds = bounds-fit;
-          inset-bounds = subst AllFit h.inset-bounds D.inset-bounds;
+          sheet_bounds = bounds-fit;
+          inset_bounds = subst AllFit h.inset_bounds D.inset_bounds;
           shapes = shapes-fit D.apart D.inset;
           sheet = sheet-fit D.sheet;
           placed = fit;
@@ -136,19 +136,19 @@ module _ (j : Job) (g : Given) (h : Prepared j g) (order : List ℕ) (r : rearra
     turn : (o : ℕ) → o < get_or g.rows (4 * k + 3) 0 → o < get_or (orientation_counts j) k 0
     turn o l = subst (λ (n : ℕ). o < n) (sym (h.tabled.orientations k (kind-below j g h order r i below))) l
 
-    own_laid : Laid (sheet_index P.bounds) (take (6 * (tables_of P).sheet_strips) (first_rooms P h.lent).sheet) (capacity (take (6 * (tables_of P).sheet_strips) (first_rooms P h.lent).sheet)) (first_rooms P h.lent).sheet-entries g.sheet-starts
-    own_laid = subst (λ (g' : Given). Laid g'.index g'.sheet (capacity g'.sheet) g'.sheet-entries g'.sheet-starts) (given_is j g h order r) h.sheet-laid
+    own_laid : Laid (sheet_index P.bounds) (take (6 * (tables_of P).sheet_strips) (first_rooms P h.lent).sheet) (capacity (take (6 * (tables_of P).sheet_strips) (first_rooms P h.lent).sheet)) (first_rooms P h.lent).sheet_entries g.sheet_starts
+    own_laid = subst (λ (g' : Given). Laid g'.index g'.sheet (capacity g'.sheet) g'.sheet_entries g'.sheet_starts) (given_is j g h order r) h.sheet_laid
 
     fixed_own : (o : ℕ) → o < get_or g.rows (4 * k + 3) 0
-        → Fixed (sheet_index P.bounds) (surroundings (wide / 2) P.bounds P.resolution (tables_of P).inset_bounds (tables_of P).parts (apart_room (tables_of P) (first_rooms P h.lent).shapes) (inset_room (tables_of P) (first_rooms P h.lent).shapes) (take (6 * (tables_of P).sheet_strips) (first_rooms P h.lent).sheet) (take (6 * t.placed_strips) placed)) (first_rooms P h.lent).sheet-entries g.sheet-starts (16 * k + o)
+        → Fixed (sheet_index P.bounds) (surroundings (wide / 2) P.bounds P.resolution (tables_of P).inset_bounds (tables_of P).parts (apart_room (tables_of P) (first_rooms P h.lent).shapes) (inset_room (tables_of P) (first_rooms P h.lent).shapes) (take (6 * (tables_of P).sheet_strips) (first_rooms P h.lent).sheet) (take (6 * t.placed_strips) placed)) (first_rooms P h.lent).sheet_entries g.sheet_starts (16 * k + o)
     unfolding tables_of
     fixed_own o l =
-        ready_fixed j S W consistent_is in_doubles k kind o (turn o l) (wide / 2) (take (6 * t.placed_strips) placed) g.sheet-starts (bounds-long P) (parts-long P) (let a = slots-below j g h order r i below in omega arith) own_laid
+        ready_fixed j S W consistent_is in_doubles k kind o (turn o l) (wide / 2) (take (6 * t.placed_strips) placed) g.sheet_starts (bounds_long P) (parts_long P) (let a = slots-below j g h order r i below in omega arith) own_laid
 
     pub held_fixed : (o : ℕ) → o < get_or g.rows (4 * k + 3) 0
-        → Fixed g.index (surroundings (wide / 2) g.bounds g.resolution g.inset-bounds g.parts g.apart g.inset g.sheet (take (6 * t.placed_strips) placed)) g.sheet-entries g.sheet-starts (16 * k + o)
+        → Fixed g.index (surroundings (wide / 2) g.bounds g.resolution g.inset_bounds g.parts g.apart g.inset g.sheet (take (6 * t.placed_strips) placed)) g.sheet_entries g.sheet_starts (16 * k + o)
     held_fixed o l =
-        subst (λ (g' : Given). Fixed g'.index (surroundings (wide / 2) g'.bounds g'.resolution g'.inset-bounds g'.parts g'.apart g'.inset g'.sheet (take (6 * t.placed_strips) placed)) g'.sheet-entries g'.sheet-starts (16 * k + o)) (sym (given_is j g h order r))
+        subst (λ (g' : Given). Fixed g'.index (surroundings (wide / 2) g'.bounds g'.resolution g'.inset_bounds g'.parts g'.apart g'.inset g'.sheet (take (6 * t.placed_strips) placed)) g'.sheet_entries g'.sheet_starts (16 * k + o)) (sym (given_is j g h order r))
         (fixed_own o l)
 
     pub held-counts : (o : ℕ) → o < get_or g.rows (4 * k + 3) 0 → get_or looks (16 * k + o) 0 + 4000000002 < 2 ^ 64

@@ -181,7 +181,7 @@ module _ (j : Job) (s : State) (w : Rooms) (e : consistent j s w ≡ true) (D : 
         let B = bounds_in j s w e D in
         let R = resolution_in j s w e D in
         let r = ranges b S.bounds in
-        let c = column_at f r Y.column-number in
+        let c = column_at f r Y.column_number in
         let L = subst (Bounded 2000000) (low_same b S.bounds f) (y_low-bounded b S.bounds f B sides) in
         let H = subst (Bounded 2000000) (high_same b S.bounds f) (y_high-bounded b S.bounds f B sides) in
         let is = counted_in c r.y_low r.y_high S.inset S.apart p.sheet Y.standing in
@@ -189,7 +189,7 @@ module _ (j : Job) (s : State) (w : Rooms) (e : consistent j s w ≡ true) (D : 
         let h = height_between r.y_low r.y_high L.fine H.fine is F y g Y.freed in
         let Q : Upto 2000000 y = record { at_least = low (k r.y_low) (k y) L.bound.at_least h.1; at_most = high (k r.y_high) (k y) H.bound.at_most h.2 } in
         let G = clear-between r.y_high y H.fine (finite h.0) h.2 is F 2000000 H.bound Q (lit≤ tt) in (
-          subst (Bounded 3000000) (sym Y.x_is) (subst (Bounded 3000000) (x_same b S.bounds f Y.column-number) (column-bounded b S.bounds f B sides R Y.column-number)),
+          subst (Bounded 3000000) (sym Y.x_is) (subst (Bounded 3000000) (x_same b S.bounds f Y.column_number) (column-bounded b S.bounds f B sides R Y.column_number)),
           record { fine = finite h.0; bound = Q },
           subst Finite (sym h.3) (finite G.0.num),
         )
@@ -231,7 +231,7 @@ pub record MadeBy (s : State) (w : Rooms) (r : Step) : Type 0 where
   pub ys : Made s.layout.y r.state.layout.y
   pub gaps : Made s.layout.gap r.state.layout.gap
   pub right : (r.state.layout.right ≡ s.layout.right) ⊎ Finite r.state.layout.right
-  pub unplaced-area : (r.state.layout.unplaced_area ≡ s.layout.unplaced_area) ⊎ Finite r.state.layout.unplaced_area
+  pub unplaced_area : (r.state.layout.unplaced_area ≡ s.layout.unplaced_area) ⊎ Finite r.state.layout.unplaced_area
   pub shapes : r.rooms.shapes ≡ w.shapes
   pub sheet : r.rooms.sheet ≡ w.sheet
   pub placed : Made w.placed r.rooms.placed
@@ -244,7 +244,7 @@ nothing_made s w r a b =
       ys = λ i. inl (ap (λ s. get_or s.layout.y i pos_zero) a);
       gaps = λ i. inl (ap (λ s. get_or s.layout.gap i pos_zero) a);
       right = inl (ap (λ s. s.layout.right) a);
-      unplaced-area = inl (ap (λ s. s.layout.unplaced_area) a);
+      unplaced_area = inl (ap (λ s. s.layout.unplaced_area) a);
       shapes = ap (λ w. w.shapes) b;
       sheet = ap (λ w. w.sheet) b;
       placed = λ i. inl (ap (λ w. get_or w.placed i pos_zero) b);
@@ -322,7 +322,7 @@ module _ (bytes : List ℕ) (j : Job) (a : read_job bytes ≡ accepted j) (s : S
         ys = made_set s.layout.y s.taken pos_zero (finite (zero_num binary64));
         gaps = made_set s.layout.gap s.taken pos_zero (finite (zero_num binary64));
         right = inl refl;
-        unplaced-area = inr (area_made kind);
+        unplaced_area = inr (area_made kind);
         shapes = refl;
         sheet = refl;
         placed = λ i. inl refl;
@@ -336,7 +336,7 @@ module _ (bytes : List ℕ) (j : Job) (a : read_job bytes ≡ accepted j) (s : S
         ys = made_set s.layout.y s.taken d.y W.y;
         gaps = made_set s.layout.gap s.taken d.gap W.gap;
         right = larger_made s.layout.right d.right W.right;
-        unplaced-area = inl refl;
+        unplaced_area = inl refl;
         shapes = refl;
         sheet = refl;
         placed = made_laid (6 * s.placed_strips) w.placed (new_strips (planner_at j s.tables w) kind d) W.strips;

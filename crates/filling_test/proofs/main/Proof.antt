@@ -7,14 +7,14 @@ use Rattle.filling_test.proofs.main.Tie as tie
 
 abbrev invariant-loop : tie.invariant-loop
 invariant-loop lengths₀ bytes₀ order₀ shapes₀ sheet₀ placed₀ sheet-entries₀ placed-entries₀ sheet-firsts₀ placed-firsts₀ intervals₀ positions₀ state₀ left₀
-    lengths bytes order shapes sheet placed sheet-entries placed-entries sheet_firsts placed_firsts intervals positions state left =
+    lengths bytes order shapes sheet placed sheet_entries placed_entries sheet_firsts placed_firsts intervals positions state left =
     (11 ≡ length lengths) × (66000 ≡ length bytes) × (4100 ≡ length order) × (8200 ≡ length shapes) × (8200 ≡ length sheet) × (8200 ≡ length placed) ×
-    (16500 ≡ length sheet-entries) × (16500 ≡ length placed-entries) × (1400 ≡ length sheet_firsts) × (1400 ≡ length placed_firsts) ×
+    (16500 ≡ length sheet_entries) × (16500 ≡ length placed_entries) × (1400 ≡ length sheet_firsts) × (1400 ≡ length placed_firsts) ×
     (8200 ≡ length intervals) × (24600 ≡ length positions)
 
 abbrev decreases-loop : tie.decreases-loop
 decreases-loop lengths₀ bytes₀ order₀ shapes₀ sheet₀ placed₀ sheet-entries₀ placed-entries₀ sheet-firsts₀ placed-firsts₀ intervals₀ positions₀ state₀ left₀
-    lengths bytes order shapes sheet placed sheet-entries placed-entries sheet_firsts placed_firsts intervals positions state left =
+    lengths bytes order shapes sheet placed sheet_entries placed_entries sheet_firsts placed_firsts intervals positions state left =
     left
 
 zero-state-requires : tie.Need-zero-state-requires invariant-loop decreases-loop

@@ -18,7 +18,7 @@ judge-bytes-requires c κs =
     let c37 = c21.before.before.before.before.before.before.before.before.before.before.before.before.before.before.before.before in
     let c38 = c37.before in
     let a = c38.args in (
-      rooms_of a.shapes.now a.sheet.now a.placed.now a.sheet-entries.now a.placed-entries.now a.sheet_firsts.now a.placed_firsts.now,
+      rooms_of a.shapes.now a.sheet.now a.placed.now a.sheet_entries.now a.placed_entries.now a.sheet_firsts.now a.placed_firsts.now,
       cleared _ _ _ _ _ _ _ _ c21.clear-rooms.ensures,
     )
 
@@ -96,7 +96,7 @@ returns c =
     let c70 = c54.before.before.before.before.before.before.before.before.before.before.before.before.before.before.before.before in
     let c71 = c70.before in
     let a = c71.args in
-    let w = rooms_of a.shapes.now a.sheet.now a.placed.now a.sheet-entries.now a.placed-entries.now a.sheet_firsts.now
+    let w = rooms_of a.shapes.now a.sheet.now a.placed.now a.sheet_entries.now a.placed_entries.now a.sheet_firsts.now
     a.placed_firsts.now in
     let E = c14.clear-rooms2.ensures in
     whole_is a.bytes.now a.given.now w c32.judge-bytes.result (c32.judge-bytes.ensures w (cleared w _ _ _ _ _ _ _ c54.clear-rooms.ensures)) _
@@ -104,8 +104,8 @@ returns c =
     (zeros-after pos_zero _ _ a.shapes.now E.0 (c32.judge-bytes.auto.1.1.0 ∙ c54.clear-rooms.auto.0))
     (zeros-after pos_zero _ _ a.sheet.now E.1 (c32.judge-bytes.auto.1.1.1.0 ∙ c54.clear-rooms.auto.1.0))
     (zeros-after pos_zero _ _ a.placed.now E.2 (c32.judge-bytes.auto.1.1.1.1.0 ∙ c54.clear-rooms.auto.1.1.0))
-    (zeros-after 0 _ _ a.sheet-entries.now E.3 (c32.judge-bytes.auto.1.1.1.1.1.0 ∙ c54.clear-rooms.auto.1.1.1.0))
-    (zeros-after 0 _ _ a.placed-entries.now E.4 c54.clear-rooms.auto.1.1.1.1.0)
+    (zeros-after 0 _ _ a.sheet_entries.now E.3 (c32.judge-bytes.auto.1.1.1.1.1.0 ∙ c54.clear-rooms.auto.1.1.1.0))
+    (zeros-after 0 _ _ a.placed_entries.now E.4 c54.clear-rooms.auto.1.1.1.1.0)
     (zeros-after 0 _ _ a.sheet_firsts.now E.5 (c32.judge-bytes.auto.1.1.1.1.1.1.1.0 ∙ c54.clear-rooms.auto.1.1.1.1.1.0))
     (zeros-after 0 _ _ a.placed_firsts.now E.6 c54.clear-rooms.auto.1.1.1.1.1.1.0)
 

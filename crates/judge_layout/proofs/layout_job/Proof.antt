@@ -8,7 +8,7 @@ use Rattle.index.proofs.Standing.{standing-within}
 use Rattle.job.specs.Jobs.{frame_of}
 use Rattle.filling.specs.declared.Tables.{Tables}
 use Rattle.filling.specs.Shapes.{planner_of}
-use Rattle.filling_laws.proofs.fill_laws.Ready.{bounds-long, parts-long}
+use Rattle.filling_laws.proofs.fill_laws.Ready.{bounds_long, parts_long}
 use Rattle.report.proofs.readied.Preparing.{ready-sheet}
 use Rattle.layouts.specs.Layouts.{lines_of}
 use Rattle.judge_layout.proofs.Whole.{tables-ready, shapes-ready, room_is, entries_are, lines_are, refusal_is}
@@ -51,7 +51,7 @@ slice-aggregate-judge-lines c =
     let c34 = c18.before.before.before.before.before.before.before.before.before.before.before.before.before.before.before.before in
     let p = c34.requires in
     let E = c18.prepare.ensures p.0.0 p.0.3.from p.0.3.header_is in
-    sym (ap (λ (t : Tables). length t.inset_bounds) (E.ready c8.enum_told.given.1).tables_are ∙ bounds-long (planner_of p.0.0))
+    sym (ap (λ (t : Tables). length t.inset_bounds) (E.ready c8.enum_told.given.1).tables_are ∙ bounds_long (planner_of p.0.0))
 
 slice-aggregate-judge-lines-2 : tie.Need-slice-aggregate-judge-lines-2
 slice-aggregate-judge-lines-2 c =
@@ -60,7 +60,7 @@ slice-aggregate-judge-lines-2 c =
     let c35 = c19.before.before.before.before.before.before.before.before.before.before.before.before.before.before.before.before in
     let p = c35.requires in
     let E = c19.prepare.ensures p.0.0 p.0.3.from p.0.3.header_is in
-    sym (ap (λ (t : Tables). length t.parts) (E.ready c9.enum_told.given.1).tables_are ∙ parts-long (planner_of p.0.0))
+    sym (ap (λ (t : Tables). length t.parts) (E.ready c9.enum_told.given.1).tables_are ∙ parts_long (planner_of p.0.0))
 
 slice-reshare-prefix-judge-lines : tie.Need-slice-reshare-prefix-judge-lines
 slice-reshare-prefix-judge-lines c =

@@ -9,5 +9,5 @@ rooms_alone w = record { rooms = w; intervals = []; positions = [] }
 
 -- the rooms are those that were lent, all zero
 abbrev pub ZeroRooms : Rooms → List Float → List Float → List Float → List ℕ → List ℕ → List ℕ → List ℕ → Type 0
-ZeroRooms w shapes sheet placed sheet-entries placed-entries sheet_firsts placed_firsts =
-    Zeroed (rooms_alone w) shapes sheet placed sheet-entries placed-entries [] [] sheet_firsts placed_firsts
+ZeroRooms w shapes sheet placed sheet_entries placed_entries sheet_firsts placed_firsts =
+    Zeroed (rooms_alone w) shapes sheet placed sheet_entries placed_entries [] [] sheet_firsts placed_firsts

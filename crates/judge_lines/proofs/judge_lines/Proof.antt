@@ -16,7 +16,7 @@ abbrev invariant-loop : tie.invariant-loop
 invariant-loop g f kinds rows ib parts shapes sheet given placed₀ room entries counts₀ count s₀ i₀ placed counts s i =
     (i ≤ length given / 4) × (s.strips ≤ room) × (length counts ≡ 64) × (length placed ≡ length placed₀)
     × ((j : Job) (w : Rooms) → TablesOf j g kinds rows ib parts shapes sheet → standing_capacity w.placed w.placed_firsts ≡ room
-    → length w.placed-entries ≡ entries → frame_of j.header ≡ f → Going j w given counts placed s i)
+    → length w.placed_entries ≡ entries → frame_of j.header ≡ f → Going j w given counts placed s i)
 
 abbrev decreases-loop : tie.decreases-loop
 decreases-loop g f kinds rows ib parts shapes sheet given placed₀ room entries counts₀ count s₀ i₀ placed counts s i = length given / 4 - i

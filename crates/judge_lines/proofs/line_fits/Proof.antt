@@ -1,7 +1,7 @@
 -- `line_fits`: what is known of the kind, then the place. Assumes nothing.
 use native.Mathlib.Omega.{arith}
 use mathlib.Core.Path.{sym, ◌∙◌}
-use Rattle.judge_lines.proofs.Slots.{kinds-few, kind_in, turn_in, slot_bounded, slot_parted, few}
+use Rattle.judge_lines.proofs.Slots.{kinds_few, kind_in, turn_in, slot_bounded, slot_parted, few}
 use Rattle.judge_lines.proofs.Verdicts.{known_has, fits_refused, fits-place}
 use borrow.Author.Rules.{rules}
 use Rattle.judge_lines.proofs.line_fits.Statement.{statement}
@@ -23,7 +23,7 @@ mul-slot c =
     let t = p.0.1 in
     let e = sym (c.before.before.known.ensures p.0.0 t.areas t.prepared.tabled t.number) ∙ c.enum_told.given.1 in
     let h = kind_in t c10.args.kind c10.args.orientation (known_has p.0.0 _ c10.args.kind c10.args.orientation e) in
-    let f = kinds-few t in
+    let f = kinds_few t in
     record { fits = omega (arith, h, f) }
 
 add-slot : tie.Need-overflow-add-slot
@@ -34,7 +34,7 @@ add-slot c =
     let e = sym (c.before.before.known.ensures p.0.0 t.areas t.prepared.tabled t.number) ∙ c.enum_told.given.1 in
     let h = kind_in t c10.args.kind c10.args.orientation (known_has p.0.0 _ c10.args.kind c10.args.orientation e) in
     let o = turn_in t c10.args.kind c10.args.orientation (known_has p.0.0 _ c10.args.kind c10.args.orientation e) in
-    let f = kinds-few t in
+    let f = kinds_few t in
     record { fits = omega (arith, h, o, f) }
 
 place-fits-requires : tie.Need-place-fits-requires

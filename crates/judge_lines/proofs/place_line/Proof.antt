@@ -7,7 +7,7 @@ use lib.Seq.{length-take-le}
 use Rattle.layouts.specs.Layouts.{quantity_of}
 use Rattle.judge_lines.specs.inner.Judging.{Stored, Within}
 use borrow.Author.Tests.{leb-false}
-use Rattle.judge_lines.proofs.Slots.{kinds-few, kind_in, turn_in, slot_parted, copies-few}
+use Rattle.judge_lines.proofs.Slots.{kinds_few, kind_in, turn_in, slot_parted, copies_few}
 use Rattle.judge_lines.proofs.Storing.{stored-within}
 use Rattle.judge_lines.proofs.Verdicts.{fits_known, known_has, known_few, place-refused, place_stores}
 use Rattle.judge_lines.proofs.Lines.{fits-same, counted_next, line-stored}
@@ -54,7 +54,7 @@ mul-slot c =
     let h = known_has j _ k o K in
     let a = kind_in t k o h in
     let b = turn_in t k o h in
-    let f = kinds-few t in
+    let f = kinds_few t in
     record { fits = omega (arith, a, f) }
 
 add-slot : tie.Need-overflow-add-slot
@@ -69,7 +69,7 @@ add-slot c =
     let h = known_has j _ k o K in
     let a = kind_in t k o h in
     let b = turn_in t k o h in
-    let f = kinds-few t in
+    let f = kinds_few t in
     record { fits = omega (arith, a, b, f) }
 
 mul-counts : tie.Need-overflow-mul-counts
@@ -84,7 +84,7 @@ mul-counts c =
     let h = known_has j _ k o K in
     let a = kind_in t k o h in
     let b = turn_in t k o h in
-    let f = kinds-few t in
+    let f = kinds_few t in
     record { fits = omega (arith, a, f) }
 
 slice-read-counts : tie.Need-slice-read-counts
@@ -99,7 +99,7 @@ slice-read-counts c =
     let h = known_has j _ k o K in
     let a = kind_in t k o h in
     let b = turn_in t k o h in
-    let f = kinds-few t in
+    let f = kinds_few t in
     omega (arith, a, f, p.1)
 
 add-counts : tie.Need-overflow-add-counts
@@ -114,9 +114,9 @@ add-counts c =
     let h = known_has j _ k o K in
     let a = kind_in t k o h in
     let b = turn_in t k o h in
-    let f = kinds-few t in
+    let f = kinds_few t in
     let n = leb-false (quantity_of j k) (get_or c14.args.counts.now k 0) (known_few j (get_or c14.args.counts.now k 0) k o K) in
-    let m = copies-few t k in
+    let m = copies_few t k in
     record { fits = omega (arith, n, m) }
 
 mul-counts-2 : tie.Need-overflow-mul-counts-2
@@ -131,7 +131,7 @@ mul-counts-2 c =
     let h = known_has j _ k o K in
     let a = kind_in t k o h in
     let b = turn_in t k o h in
-    let f = kinds-few t in
+    let f = kinds_few t in
     record { fits = omega (arith, a, f) }
 
 slice-write-counts : tie.Need-slice-write-counts
@@ -146,7 +146,7 @@ slice-write-counts c =
     let h = known_has j _ k o K in
     let a = kind_in t k o h in
     let b = turn_in t k o h in
-    let f = kinds-few t in
+    let f = kinds_few t in
     omega (arith, a, f, p.1)
 
 store-line-requires : tie.Need-store-line-requires
@@ -161,7 +161,7 @@ store-line-requires c κs =
     let h = known_has j _ k o K in
     let a = kind_in t k o h in
     let b = turn_in t k o h in
-    let f = kinds-few t in
+    let f = kinds_few t in
     (slot_parted t k o h, p.2, p.3, p.4)
 
 enum-known-r : tie.Need-enum-known-r
@@ -190,7 +190,7 @@ returns c =
           let K = fits_known j _ _ k o x.at (sym F ∙ c5.enum_told.given.1) in
           let h = known_has j _ k o K in
           let a = kind_in t k o h in
-          let f = kinds-few t in
+          let f = kinds_few t in
           line-stored t w ks st l x.room ri x.counts.now x.placed.now x.s kept k o x.at ki ti ai h p.3 p.4 _
           (counted_next x.counts.now ks k p.1 kept.counted (omega (arith, a, f))) _ c2.Store-Line.result c2.Store-Line.ensures _
           (place_stores j w ks st l (sym (fits-same t w ks st l x.room ri x.counts.now x.placed.now x.s kept k o x.at ki ti ai

@@ -76,11 +76,11 @@ stored_of ix apart q room s placed =
 -- ---- over a job
 
 -- tables, shapes and sheet strips are the job's
-pub record TablesOf (j : Job) (g : Grid) (kinds : ℕ) (rows : List ℕ) (inset-bounds : List Float) (parts : List ℕ) (shapes sheet : List Float) : Type 0 where
+pub record TablesOf (j : Job) (g : Grid) (kinds : ℕ) (rows : List ℕ) (inset_bounds : List Float) (parts : List ℕ) (shapes sheet : List Float) : Type 0 where
   pub areas : List Float
-  pub sheet-entries : List ℕ
-  pub sheet-starts : List ℕ
-  pub prepared : Prepared j (given_in g rows areas inset-bounds parts shapes sheet sheet-entries sheet-starts)
+  pub sheet_entries : List ℕ
+  pub sheet_starts : List ℕ
+  pub prepared : Prepared j (given_in g rows areas inset_bounds parts shapes sheet sheet_entries sheet_starts)
   pub number : length j.kinds ≡ kinds
 
 -- the strips that stand are at most so many
@@ -92,7 +92,7 @@ Within room (Bad r) = Unit {0}
 pub record Kept (j : Job) (w : Rooms) (ks : List ℕ) (st : List Float) (counts : List ℕ) (placed : List Float) (s : Standing) : Type 0 where
   pub counted : (k : ℕ) → k < 64 → get_or counts k 0 ≡ count_in k ks
   pub stands : take (6 * s.strips) placed ≡ st
-  pub entries : length w.placed-entries ≡ s.entries + length (entries_for (planner_of j).bounds st)
+  pub entries : length w.placed_entries ≡ s.entries + length (entries_for (planner_of j).bounds st)
 
 -- a line with the verdict v: it is kept too, or v refuses it
 abbrev pub LineIs : Job → Rooms → List ℕ → List Float → PutLine → Verdict → List ℕ → List Float → Line → Type 0

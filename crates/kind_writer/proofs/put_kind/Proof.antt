@@ -5,7 +5,7 @@ use mathlib.Core.List.{[]}
 use native.Mathlib.Omega.{arith}
 use borrow.Author.Rules.{rules}
 use Rattle.set_writer.proofs.Walking.{walk-long, ready-next}
-use Rattle.kind_writer.proofs.KindLaws.{kind-few, kind_on, kind-bad}
+use Rattle.kind_writer.proofs.KindLaws.{kind_few, kind_on, kind-bad}
 use Rattle.kind_writer.proofs.put_kind.Statement.{statement}
 use Rattle.kind_writer.proofs.put_kind.Tie as tie
 
@@ -28,7 +28,7 @@ put-orientations-requires c κs =
     let c2 = c.before.before in
     let c6 = c2.before.before.before.before in
     let c11 = c6.before.before.before.before.before in
-    let few = kind-few c11.args.h [] [] (c6.put-head.ensures.0 [] []) c2.v.given.1 in ready-next _ 2080 2097152 134238546 _ _ _ c11.requires
+    let few = kind_few c11.args.h [] [] (c6.put-head.ensures.0 [] []) c2.v.given.1 in ready-next _ 2080 2097152 134238546 _ _ _ c11.requires
     (c6.put-head.ensures.0 [] []) c6.put-head.ensures.1 c2.v.given.1 (130 * c11.args.h.orientations)
     (131072 * c11.args.h.orientations) (8389902 * c11.args.h.orientations) (omega (arith, few)) (omega (arith, few)) (omega (arith, few))
 

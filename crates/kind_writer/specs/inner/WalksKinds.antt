@@ -10,9 +10,9 @@ use Rattle.kind_writer.specs.declared.KindsPut.TheVariants.{Kinds, NoKinds}
 
 -- the kinds that a taker takes are put by their bits, with their copies, or its refusal is answered
 pub data WalksKinds (t : Taken (List Kind)) (bits : List Kind → List ℕ) (w : Walk) (out : List ℕ) : KindsPut → List ℕ → Type 0 where
-  went-kinds : {v : Walk} {n : ℕ} {after : List ℕ} (ks : List Kind) → t ≡ ok ks v.counts v.coordinates
+  went_kinds : {v : Walk} {n : ℕ} {after : List ℕ} (ks : List Kind) → t ≡ ok ks v.counts v.coordinates
       → Put out w.writer (bits ks) after v.writer → n ≡ copies_of ks → WalksKinds t bits w out (Kinds v n) after
-  stopped-kinds : {k : Refusal} {after : List ℕ} → t ≡ bad k → length after ≡ length out → WalksKinds t bits w out (NoKinds k) after
+  stopped_kinds : {k : Refusal} {after : List ℕ} → t ≡ bad k → length after ≡ length out → WalksKinds t bits w out (NoKinds k) after
 
 -- so many counts, coordinates, bits and copies at most
 abbrev pub NearKinds : Walk → KindsPut → ℕ → ℕ → ℕ → ℕ → Type 0

@@ -27,7 +27,7 @@ returns : tie.Need-returns
 returns c =
     let c8 = c.before.before.before.before.before.before.before.before in
     let a = c8.args in
-    strips-refused a.bytes.now a.kind a.orientation a.parts.now a.apart.now a.inset.now a.is-inset _
+    strips-refused a.bytes.now a.kind a.orientation a.parts.now a.apart.now a.inset.now a.is_inset _
     (sym c.before.before.before.shape-verdict.ensures ∙ c.before.enum-told2.given.1)
 
 number-at-requires : tie.Need-number-at-requires
@@ -44,7 +44,7 @@ returns-2 c =
     let c11 = c.before.before.before.before.before.before.before.before.before.before.before in
     let a = c11.args in
     c.strips-of.ensures
-    ∙ strips-inset a.bytes.now a.kind a.orientation a.parts.now a.apart.now a.inset.now a.is-inset _ _
+    ∙ strips-inset a.bytes.now a.kind a.orientation a.parts.now a.apart.now a.inset.now a.is_inset _ _
     (sym c.before.before.before.before.before.before.shape-verdict.ensures ∙ c.before.before.before.before.enum_told.given.1)
     c.before.before.before.if1.true c.before.before.number_at.ensures c.before.number-at2.ensures
 
@@ -62,7 +62,7 @@ returns-3 c =
     let c11 = c.before.before.before.before.before.before.before.before.before.before.before in
     let a = c11.args in
     c.strips-of2.ensures
-    ∙ strips-apart a.bytes.now a.kind a.orientation a.parts.now a.apart.now a.inset.now a.is-inset _ _
+    ∙ strips-apart a.bytes.now a.kind a.orientation a.parts.now a.apart.now a.inset.now a.is_inset _ _
     (sym c.before.before.before.before.before.before.shape-verdict.ensures ∙ c.before.before.before.before.enum_told.given.1)
     c.before.before.before.if1.false c.before.before.number-at3.ensures c.before.number-at4.ensures
 

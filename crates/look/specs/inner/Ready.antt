@@ -25,11 +25,11 @@ abbrev pub BoundedStrips : List Float → Type 0
 BoundedStrips l = (i : ℕ) → i < capacity l → BoundedStrip (strip_at l i)
 
 -- entries that are those of the strips, numbers within bounds: a column's x stays below 3,000,000
-pub record Lookable (ix : Index) (x y_low y_high : Float) (inset apart sheet placed : List Float) (sheet-entries sheet-starts placed-entries
-    placed-starts : List ℕ) : Type 0 where
+pub record Lookable (ix : Index) (x y_low y_high : Float) (inset apart sheet placed : List Float) (sheet_entries sheet_starts placed_entries
+    placed_starts : List ℕ) : Type 0 where
   pub index : Fair ix
-  pub sheet-laid : Laid ix sheet (capacity sheet) sheet-entries sheet-starts
-  pub placed-laid : Laid ix placed (capacity placed) placed-entries placed-starts
+  pub sheet_laid : Laid ix sheet (capacity sheet) sheet_entries sheet_starts
+  pub placed_laid : Laid ix placed (capacity placed) placed_entries placed_starts
   pub column : Bounded 3000000 x
   pub low : Finite y_low
   pub high : Finite y_high

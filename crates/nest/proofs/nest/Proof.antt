@@ -21,16 +21,16 @@ nest-bytes-requires c κs =
     let c36 = c25.before.before.before.before.before.before.before.before.before.before.before in
     let c48 = c36.before.before.before.before.before.before.before.before.before.before.before.before in
     let a = c48.args in (
-      (lent_of a.shapes.now a.sheet.now a.placed.now a.sheet-entries.now a.placed-entries.now a.sheet_firsts.now a.placed_firsts.now
+      (lent_of a.shapes.now a.sheet.now a.placed.now a.sheet_entries.now a.placed_entries.now a.sheet_firsts.now a.placed_firsts.now
           a.intervals.now a.positions.now),
       record {
-        shapes-zero = c25.clear.ensures.0;
-        sheet-zero = c25.clear.ensures.1;
-        placed-zero = c25.clear.ensures.2;
-        sheet-entries-zero = c25.clear.ensures.3;
-        placed-entries-zero = c25.clear.ensures.4;
-        intervals-zero = c25.clear.ensures.5;
-        positions-zero = c36.zero.ensures;
+        shapes_zero = c25.clear.ensures.0;
+        sheet_zero = c25.clear.ensures.1;
+        placed_zero = c25.clear.ensures.2;
+        sheet_entries_zero = c25.clear.ensures.3;
+        placed_entries_zero = c25.clear.ensures.4;
+        intervals_zero = c25.clear.ensures.5;
+        positions_zero = c36.zero.ensures;
         sheet_firsts_zero = c25.clear.ensures.6;
         placed_firsts_zero = c25.clear.ensures.7;
       },
@@ -131,27 +131,27 @@ returns c =
     let c80 = c69.before.before.before.before.before.before.before.before.before.before.before in
     let c92 = c80.before.before.before.before.before.before.before.before.before.before.before.before in
     let a = c92.args in
-    let l = lent_of a.shapes.now a.sheet.now a.placed.now a.sheet-entries.now a.placed-entries.now
+    let l = lent_of a.shapes.now a.sheet.now a.placed.now a.sheet_entries.now a.placed_entries.now
     a.sheet_firsts.now a.placed_firsts.now a.intervals.now a.positions.now in
     together l (nest_of a.bytes.now l) (nest_zero a.bytes.now l) c43.nest-bytes.result _ _ _ _ _ _ _ _ _
     (zeros-after pos_zero _ _ a.shapes.now c16.clear2.ensures.0 (c43.nest-bytes.auto.1.0 ∙ c69.clear.auto.0))
     (zeros-after pos_zero _ _ a.sheet.now c16.clear2.ensures.1 (c43.nest-bytes.auto.1.1.0 ∙ c69.clear.auto.1.0))
     (zeros-after pos_zero _ _ a.placed.now c16.clear2.ensures.2 (c43.nest-bytes.auto.1.1.1.0 ∙ c69.clear.auto.1.1.0))
-    (zeros-after 0 _ _ a.sheet-entries.now c16.clear2.ensures.3 (c43.nest-bytes.auto.1.1.1.1.0 ∙ c69.clear.auto.1.1.1.0))
-    (zeros-after 0 _ _ a.placed-entries.now c16.clear2.ensures.4 (c43.nest-bytes.auto.1.1.1.1.1.0 ∙ c69.clear.auto.1.1.1.1.0))
+    (zeros-after 0 _ _ a.sheet_entries.now c16.clear2.ensures.3 (c43.nest-bytes.auto.1.1.1.1.0 ∙ c69.clear.auto.1.1.1.0))
+    (zeros-after 0 _ _ a.placed_entries.now c16.clear2.ensures.4 (c43.nest-bytes.auto.1.1.1.1.1.0 ∙ c69.clear.auto.1.1.1.1.0))
     (zeros-after 0 _ _ a.sheet_firsts.now c16.clear2.ensures.6
     (c43.nest-bytes.auto.1.1.1.1.1.1.1.1.0 ∙ c69.clear.auto.1.1.1.1.1.1.0))
     (zeros-after 0 _ _ a.placed_firsts.now c16.clear2.ensures.7
     (c43.nest-bytes.auto.1.1.1.1.1.1.1.1.1.0 ∙ c69.clear.auto.1.1.1.1.1.1.1.0))
     (zeros-after pos_zero _ _ a.intervals.now c16.clear2.ensures.5 (c43.nest-bytes.auto.1.1.1.1.1.1.0 ∙ c69.clear.auto.1.1.1.1.1.0))
     (c43.nest-bytes.ensures l (record {
-      shapes-zero = c69.clear.ensures.0;
-      sheet-zero = c69.clear.ensures.1;
-      placed-zero = c69.clear.ensures.2;
-      sheet-entries-zero = c69.clear.ensures.3;
-      placed-entries-zero = c69.clear.ensures.4;
-      intervals-zero = c69.clear.ensures.5;
-      positions-zero = c80.zero.ensures;
+      shapes_zero = c69.clear.ensures.0;
+      sheet_zero = c69.clear.ensures.1;
+      placed_zero = c69.clear.ensures.2;
+      sheet_entries_zero = c69.clear.ensures.3;
+      placed_entries_zero = c69.clear.ensures.4;
+      intervals_zero = c69.clear.ensures.5;
+      positions_zero = c80.zero.ensures;
       sheet_firsts_zero = c69.clear.ensures.6;
       placed_firsts_zero = c69.clear.ensures.7;
     }))

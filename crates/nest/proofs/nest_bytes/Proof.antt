@@ -121,7 +121,7 @@ returns-2 c =
     let a = c18.args in
     let t = c7.read in
     λ l z. no_job-reply _ _ _ _ t.result.answer t.ensures.0 _ c.before.before.answer2.given.1 (λ (z : Answer). nest_given z l) l refl
-    c.refused.result a.positions.now z.positions-zero c.refused.ensures
+    c.refused.result a.positions.now z.positions_zero c.refused.ensures
 
 pub nest-bytes-spec : {M : Type 1} → statement M
 nest-bytes-spec =

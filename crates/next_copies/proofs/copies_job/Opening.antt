@@ -39,17 +39,17 @@ module _ (j : Job) (s : State) (w : Rooms) (rows : List ℕ) (areas : List Float
     pub most_all : most < n → j.copies ≤ s.taken + most
     most_all h = let t = taken-within in let c = O.copies_are in omega (arith, m, t, h, c)
 
-    pub starting : (sheet-starts starts : List ℕ) → Sized j
+    pub starting : (sheet_starts starts : List ℕ) → Sized j
         → Laid (sheet_index s.tables.sheet_bounds) (take (6 * s.tables.sheet_strips) w.sheet)
         (capacity (take (6 * s.tables.sheet_strips) w.sheet))
-        w.sheet-entries sheet-starts
+        w.sheet_entries sheet_starts
         → Laid (sheet_index s.tables.sheet_bounds) (take (6 * s.placed_strips) w.placed) (capacity (take (6 * s.placed_strips) w.placed))
-        w.placed-entries starts
+        w.placed_entries starts
         → FirstBuckets (sheet_index s.tables.sheet_bounds) (take (6 * s.tables.sheet_strips) w.sheet)
         (capacity (take (6 * s.tables.sheet_strips) w.sheet)) w.sheet_firsts
         → FirstBuckets (sheet_index s.tables.sheet_bounds) (take (6 * s.placed_strips) w.placed)
-        (capacity (take (6 * s.placed_strips) w.placed)) w.placed_firsts → Starting j s w rows areas sheet-starts starts most
-    starting sheet-starts starts z L P K Q =
+        (capacity (take (6 * s.placed_strips) w.placed)) w.placed_firsts → Starting j s w rows areas sheet_starts starts most
+    starting sheet_starts starts z L P K Q =
         let l = most-left in
         record {
           tabled = O.tabled;
@@ -58,7 +58,7 @@ module _ (j : Job) (s : State) (w : Rooms) (rows : List ℕ) (areas : List Float
           few = O.few;
           left = let c = O.copies_are in omega (arith, l, c);
           passes = e;
-          going = λ h. going j s w rows areas kinds copies sheet-starts starts O e (omega (arith, l, h)) L P K Q;
+          going = λ h. going j s w rows areas kinds copies sheet_starts starts O e (omega (arith, l, h)) L P K Q;
         }
 
 -- 31 before the first copy

@@ -21,7 +21,7 @@ returns : tie.Need-returns
 returns c =
     let c14 = c.before.before.before.before.before.before.before.before.before.before.before.before.before.before in
     let a = c14.args in
-    let w = rooms_of a.shapes.now a.sheet.now a.placed.now a.sheet-entries.now a.placed-entries.now a.sheet_firsts.now
+    let w = rooms_of a.shapes.now a.sheet.now a.placed.now a.sheet_entries.now a.placed_entries.now a.sheet_firsts.now
     a.placed_firsts.now in
     c.before.before.none-taken.ensures w ∙ copies-none a.bytes.now a.n a.state w a.intervals.now
     c.before.before.before.before.if1.true
@@ -36,7 +36,7 @@ returns-2 : tie.Need-returns-2
 returns-2 c =
     let c15 = c.before.before.before.before.before.before.before.before.before.before.before.before.before.before.before in
     let a = c15.args in
-    let w = rooms_of a.shapes.now a.sheet.now a.placed.now a.sheet-entries.now a.placed-entries.now a.sheet_firsts.now
+    let w = rooms_of a.shapes.now a.sheet.now a.placed.now a.sheet_entries.now a.placed_entries.now a.sheet_firsts.now
     a.placed_firsts.now in
     c.before.before.none-taken2.ensures w ∙ sym (copies_over a.bytes.now a.n a.state w a.intervals.now
     c.before.before.before.before.if2.true)
@@ -112,7 +112,7 @@ returns-3 c =
     let e = read_as _ t.result t.ensures.0 c16.answer.given.1 in
     let g = c32.well-formed.1.1.0.1.1 in
     let l = g.1.1.1.1.1.1.0.1.1 in
-    let w = rooms_of a.shapes.now a.sheet.now a.placed.now a.sheet-entries.now a.placed-entries.now a.sheet_firsts.now
+    let w = rooms_of a.shapes.now a.sheet.now a.placed.now a.sheet_entries.now a.placed_entries.now a.sheet_firsts.now
     a.placed_firsts.now in
     c8.copies-job.ensures _ (opened _ _ _ a.bytes.now t.result.rows t.result.areas t.result.places e (le_of_eq (sym t.ensures.1))
     (le_of_eq (sym t.ensures.2))) (sized a.bytes.now _ e)
@@ -137,7 +137,7 @@ returns-4 c =
     let c21 = c11.before.before.before.before.before.before.before.before.before.before in
     let a = c21.args in
     let t = c9.read in
-    let w = rooms_of a.shapes.now a.sheet.now a.placed.now a.sheet-entries.now a.placed-entries.now a.sheet_firsts.now
+    let w = rooms_of a.shapes.now a.sheet.now a.placed.now a.sheet_entries.now a.placed_entries.now a.sheet_firsts.now
     a.placed_firsts.now in
     let e = read_as _ t.result t.ensures.0 c.before.before.before.before.before.answer2.given.1 in
     c.before.before.none-taken3.ensures w ∙ copies-refused a.bytes.now a.n a.state w a.intervals.now _ e (some a.n c11.if1.false)

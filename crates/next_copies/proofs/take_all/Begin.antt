@@ -36,8 +36,8 @@ with_tracks s taken t next counts orientation x y gap =
       layout = record { orientation = orientation; x = x; y = y; gap = gap; unplaced_area = t.unplaced_area; right = t.right };
     }
 
-module _ {j : Job} {s : State} {w : Rooms} {rows : List ℕ} {areas : List Float} {sheet-starts starts : List ℕ} {most : ℕ}
-    (B : Starting j s w rows areas sheet-starts starts most) where
+module _ {j : Job} {s : State} {w : Rooms} {rows : List ℕ} {areas : List Float} {sheet_starts starts : List ℕ} {most : ℕ}
+    (B : Starting j s w rows areas sheet_starts starts most) where
   pub sheet-within : 6 * s.tables.sheet_strips ≤ length w.sheet
   sheet-within = (strips-within j s w B.passes).sheet
 
@@ -53,15 +53,15 @@ module _ {j : Job} {s : State} {w : Rooms} {rows : List ℕ} {areas : List Float
         few = B.few;
         tabling = record {
           grid = e;
-          inset-bounds_are = refl;
+          inset_bounds_are = refl;
           parts_are = refl;
           sheet_is = refl;
-          bounds-long = a;
-          parts-long = b;
+          bounds_long = a;
+          parts_long = b;
           resolution-fits = r;
           bounds-fit = f;
-          insets-fit = i;
-          whole-fits = h;
+          insets_fit = i;
+          whole_fits = h;
         };
         long = c;
         left = B.left;
@@ -73,8 +73,8 @@ module _ {j : Job} {s : State} {w : Rooms} {rows : List ℕ} {areas : List Float
     is : state_in s.tables s.order s.taken tracks t orientation x y gap ≡ s
     is = ap (λ (t : Totals). state_in s.tables s.order s.taken tracks t orientation x y gap) e ∙ spread
 
-    pub going_in : 0 < most → Going j (state_in s.tables s.order s.taken tracks t orientation x y gap) w rows areas sheet-starts starts
-    going_in h = subst⁻¹ (λ (s : State). Going j s w rows areas sheet-starts starts) is (B.going h)
+    pub going_in : 0 < most → Going j (state_in s.tables s.order s.taken tracks t orientation x y gap) w rows areas sheet_starts starts
+    going_in h = subst⁻¹ (λ (s : State). Going j s w rows areas sheet_starts starts) is (B.going h)
 
     pub equal_in : (q : Batch) (n : ℕ) (intervals : List Float)
         → q ≡ tested_from j n (state_in s.tables s.order s.taken tracks t orientation x y gap) w intervals true → q ≡ tested_from j n s w intervals true

@@ -68,7 +68,7 @@ returns c =
     let a = c30.args in
     let t = c20.read in
     let e = read_as _ t.result t.ensures.0 c16.answer.given.1 in
-    let w = rooms a.shapes.now a.sheet.now a.placed.now a.sheet-entries.now a.placed-entries.now a.sheet_firsts.now
+    let w = rooms a.shapes.now a.sheet.now a.placed.now a.sheet_entries.now a.placed_entries.now a.sheet_firsts.now
     a.placed_firsts.now in
     let o = opened _ _ _ a.bytes.now t.result.rows t.result.areas t.result.places e
     (le_of_eq (sym t.ensures.1)) (le_of_eq (sym t.ensures.2)) in
@@ -82,7 +82,7 @@ returns-2 c =
     let c9 = c.before.before.before.before.before.before.before.before.before in
     let c19 = c9.before.before.before.before.before.before.before.before.before.before in
     let a = c19.args in
-    let w = rooms a.shapes.now a.sheet.now a.placed.now a.sheet-entries.now a.placed-entries.now a.sheet_firsts.now
+    let w = rooms a.shapes.now a.sheet.now a.placed.now a.sheet_entries.now a.placed_entries.now a.sheet_firsts.now
     a.placed_firsts.now in
     let e = read_as _ c9.read.result c9.read.ensures.0 c.before.before.before.before.before.answer2.given.1 in
     c.before.before.refuse.ensures w ∙ read-refused a.bytes.now _ a.state w a.intervals.now e

@@ -40,10 +40,10 @@ choose-requires c κs =
     let c20 = c16.before.before.before.before in
     let a = c20.args in
     let p = c20.requires in
-    let w = surroundings_in (length a.room.now / 2) a.g a.inset-bounds.now a.parts.now a.shapes.now a.sheet.now
+    let w = surroundings_in (length a.room.now / 2) a.g a.inset_bounds.now a.parts.now a.shapes.now a.sheet.now
     (take (6 * a.t.placed_strips) a.placed.now) in (
-      (λ o h. ready_of a.g.index a.placed.now a.t.placed_strips a.entries.now a.starts.now p.4 w a.sheet-entries.now
-          a.sheet-starts.now
+      (λ o h. ready_of a.g.index a.placed.now a.t.placed_strips a.entries.now a.starts.now p.4 w a.sheet_entries.now
+          a.sheet_starts.now
           (a.copy.slot + o) refl (p.0 o h)),
       p.1,
       p.2,
@@ -60,7 +60,7 @@ settle-requires c κs =
     let c30 = c25.before.before.before.before.before in
     let a = c30.args in
     let p = c30.requires in
-    let w = surroundings_in (length a.room.now / 2) a.g a.inset-bounds.now a.parts.now a.shapes.now a.sheet.now
+    let w = surroundings_in (length a.room.now / 2) a.g a.inset_bounds.now a.parts.now a.shapes.now a.sheet.now
     (take (6 * a.t.placed_strips) a.placed.now) in (
       p.4.laid,
       p.5,
@@ -100,7 +100,7 @@ returns c =
     let c36 = c20.before.before.before.before.before.before.before.before.before.before.before.before.before.before.before.before in
     let c41 = c36.before.before.before.before.before in
     let a = c41.args in
-    let w = surroundings_in (length a.room.now / 2) a.g a.inset-bounds.now a.parts.now a.shapes.now a.sheet.now
+    let w = surroundings_in (length a.room.now / 2) a.g a.inset_bounds.now a.parts.now a.shapes.now a.sheet.now
     (take (6 * a.t.placed_strips) a.placed.now) in
     let C = c20.choose.ensures in
     let E = c10.settle.ensures in (

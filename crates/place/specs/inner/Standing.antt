@@ -14,9 +14,9 @@ pub record Standing (ix : Index) (placed : List Float) (n : ℕ) (entries starts
   pub strips : (i : ℕ) → i < n → BoundedStrip (strip_at placed i)
 
 -- what the job fixes of slot i, whatever stands
-pub record Fixed (ix : Index) (w : Surroundings) (sheet-entries sheet-starts : List ℕ) (i : ℕ) : Type 0 where
+pub record Fixed (ix : Index) (w : Surroundings) (sheet_entries sheet_starts : List ℕ) (i : ℕ) : Type 0 where
   pub index : Fair ix
-  pub sheet-laid : Laid ix w.sheet (capacity w.sheet) sheet-entries sheet-starts
+  pub sheet_laid : Laid ix w.sheet (capacity w.sheet) sheet_entries sheet_starts
   pub sheets : BoundedStrips w.sheet
   pub insets : BoundedStrips (inset_part (part_at w.parts i) w.inset)
   pub aparts : BoundedStrips (apart_part (part_at w.parts i) w.apart)
@@ -24,5 +24,5 @@ pub record Fixed (ix : Index) (w : Surroundings) (sheet-entries sheet-starts : L
   pub high : Finite (columns_at w i).y_high
   pub column : (c : ℕ) → c ≤ last_of (columns_at w i) → Bounded 3000000 (column_x (columns_at w i) c)
   pub few : (columns_at w i).count ≤ 4000000000
-  pub bounded : 4 * i + 4 ≤ length w.inset-bounds
+  pub bounded : 4 * i + 4 ≤ length w.inset_bounds
   pub parted : 4 * i + 4 ≤ length w.parts

@@ -10,7 +10,7 @@ returns : tie.Need-returns
 returns c =
     let c15 = c.before.before.before.before.before.before.before.before.before.before.before.before.before.before.before in
     let a = c15.args in
-    λ j l r z n. no_positions j l a.copies n a.positions.now z.positions-zero c.refused.result c.before.if1.true c.refused.ensures
+    λ j l r z n. no_positions j l a.copies n a.positions.now z.positions_zero c.refused.result c.before.if1.true c.refused.ensures
 
 nest-tables-requires : tie.Need-nest-tables-requires
 nest-tables-requires c κs =
@@ -80,7 +80,7 @@ returns-2 c =
     let c28 = c18.before.before.before.before.before.before.before.before.before.before in
     let c42 = c28.before.before.before.before.before.before.before.before.before.before.before.before.before.before in
     let a = c42.args in
-    λ j l r z n. then-prepared j l a.copies n a.positions.now z.positions-zero
+    λ j l r z n. then-prepared j l a.copies n a.positions.now z.positions_zero
     c18.nest-tables.result _ c28.if1.false (c18.nest-tables.ensures j l r z)
 
 pub nest-job-spec : {M : Type 1} → statement M

@@ -33,7 +33,7 @@ copy-order-requires c κs =
     let p = c30.requires.0 in
     let R = p.2 in
     let t = R.tabled in
-    (subst (λ (m : ℕ). m ≤ 64) R.number t.few, t.rows_long, t.areas-long, copies_upto _ p.0 R.read _ _ _ t R.number)
+    (subst (λ (m : ℕ). m ≤ 64) R.number t.few, t.rows_long, t.areas_long, copies_upto _ p.0 R.read _ _ _ t R.number)
 
 array-borrow-prefix-order : tie.Need-array-borrow-prefix-order
 array-borrow-prefix-order c =

@@ -14,7 +14,7 @@ returns : tie.Need-returns
 returns c =
     let c12 = c.before.before.before.before.before.before.before.before.before.before.before.before in
     let a = c12.args in
-    told_short a.bytes.now a.out.now (lent_of a.shapes.now a.sheet.now a.placed.now a.sheet-entries.now a.placed-entries.now
+    told_short a.bytes.now a.out.now (lent_of a.shapes.now a.sheet.now a.placed.now a.sheet_entries.now a.placed_entries.now
     a.sheet_firsts.now a.placed_firsts.now a.intervals.now a.positions.now) c.if1.true
 
 nest-requires : tie.Need-nest-requires
@@ -28,7 +28,7 @@ print-reply-requires c κs =
     let c43 = c31.before.before.before.before.before.before.before.before.before.before.before.before in
     let a = c43.args in
     let n = c21.nest in
-    let d = placed_of a.bytes.now (lent_of a.shapes.now a.sheet.now a.placed.now a.sheet-entries.now a.placed-entries.now
+    let d = placed_of a.bytes.now (lent_of a.shapes.now a.sheet.now a.placed.now a.sheet_entries.now a.placed_entries.now
     a.sheet_firsts.now a.placed_firsts.now a.intervals.now a.positions.now)
     (answered n.result (lent_of n.new.1.0 n.new.1.1.0 n.new.1.1.1.0 n.new.1.1.1.1.0 n.new.1.1.1.1.1.0
     n.new.1.1.1.1.1.1.0 n.new.1.1.1.1.1.1.1.0 n.new.1.1.1.1.1.1.1.1.0 n.new.1.1.1.1.1.1.1.1.1.0))
@@ -114,7 +114,7 @@ returns-2 c =
     let l = (lent_of n.new.1.0 n.new.1.1.0 n.new.1.1.1.0 n.new.1.1.1.1.0 n.new.1.1.1.1.1.0
     n.new.1.1.1.1.1.1.0 n.new.1.1.1.1.1.1.1.0 n.new.1.1.1.1.1.1.1.1.0 n.new.1.1.1.1.1.1.1.1.1.0) in
     told_text a.bytes.now a.out.now t.new.1.1.1.1.0 z.new.0
-    (lent_of a.shapes.now a.sheet.now a.placed.now a.sheet-entries.now a.placed-entries.now
+    (lent_of a.shapes.now a.sheet.now a.placed.now a.sheet_entries.now a.placed_entries.now
     a.sheet_firsts.now a.placed_firsts.now a.intervals.now a.positions.now)
     (answered n.result l) t.result c38.if1.false n.ensures t.ensures.0 t.auto.1.1.1.1.0 (t.ensures.1 l refl) z.ensures
 

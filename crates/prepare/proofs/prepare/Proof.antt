@@ -91,8 +91,8 @@ returns c =
     let a = c34.args in
     λ j T H. all_ready a.bytes.now a.rows.now a.places.now a.at a.h.kinds j T c26.frame-of.result
     (c26.frame-of.ensures ∙ ap frame_of (sym H)) c21.lay-sheet.result
-    a.shapes.now _ a.sheet.now _ a.sheet-entries.now _ _ a.sheet_firsts.now _ c21.lay-sheet.ensures
-    _ _ c12.sheet-bounds.given.1 c7.lay-shapes.result _ _ c7.lay-shapes.ensures a.h H _ _ c.before.apart-strips.given.1
+    a.shapes.now _ a.sheet.now _ a.sheet_entries.now _ _ a.sheet_firsts.now _ c21.lay-sheet.ensures
+    _ _ c12.sheet_bounds.given.1 c7.lay-shapes.result _ _ c7.lay-shapes.ensures a.h H _ _ c.before.apart_strips.given.1
 
 same-length-5 : tie.Need-same-length-5
 same-length-5 c =
@@ -127,8 +127,8 @@ returns-2 c =
     let a = c34.args in
     λ j T H. shapes_over a.bytes.now a.rows.now a.places.now a.at a.h.kinds j T c26.frame-of.result
     (c26.frame-of.ensures ∙ ap frame_of (sym H)) c21.lay-sheet.result
-    a.shapes.now _ a.sheet.now _ a.sheet-entries.now _ _ a.sheet_firsts.now _ c21.lay-sheet.ensures
-    _ _ c12.sheet-bounds.given.1 c7.lay-shapes.result _ _ c7.lay-shapes.ensures
+    a.shapes.now _ a.sheet.now _ a.sheet_entries.now _ _ a.sheet_firsts.now _ c21.lay-sheet.ensures
+    _ _ c12.sheet_bounds.given.1 c7.lay-shapes.result _ _ c7.lay-shapes.ensures
     c.refused.result c.before.enum_told.given.1 c.refused.ensures
 
 same-length-9 : tie.Need-same-length-9
@@ -154,7 +154,7 @@ returns-3 c =
     let a = c23.args in
     λ j T H. sheet_over a.bytes.now a.rows.now a.places.now a.at a.h.kinds j T c15.frame-of.result
     (c15.frame-of.ensures ∙ ap frame_of (sym H)) c10.lay-sheet.result
-    a.shapes.now a.shapes.now a.sheet.now _ a.sheet-entries.now _ _ a.sheet_firsts.now _ c10.lay-sheet.ensures
+    a.shapes.now a.shapes.now a.sheet.now _ a.sheet_entries.now _ _ a.sheet_firsts.now _ c10.lay-sheet.ensures
     c.refused2.result c.before.enum-told2.given.1 c.refused2.ensures
 
 same-length-12 : tie.Need-same-length-12
@@ -180,7 +180,7 @@ returns-4 c =
     let a = c23.args in
     λ j T H. entries_over a.bytes.now a.rows.now a.places.now a.at a.h.kinds j T c15.frame-of.result
     (c15.frame-of.ensures ∙ ap frame_of (sym H)) c10.lay-sheet.result
-    a.shapes.now a.shapes.now a.sheet.now _ a.sheet-entries.now _ _ a.sheet_firsts.now _ c10.lay-sheet.ensures
+    a.shapes.now a.shapes.now a.sheet.now _ a.sheet_entries.now _ _ a.sheet_firsts.now _ c10.lay-sheet.ensures
     c.refused3.result c.before.enum-told3.given.1 c.refused3.ensures
 
 pub prepare-spec : {M : Type 1} → statement M

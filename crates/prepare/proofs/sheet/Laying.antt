@@ -91,9 +91,9 @@ module _ (ix : Index) (s : List Float) (n : ℕ) (before after : List ℕ) (e : 
   firsts_laid = numbers-written ix s n before after e firsts_kept W.above
 
 -- ---- the sheet
-pub sheet-strips : (f : Frame) (bytes : List ℕ) (at : ℕ) → flat (strips_at f bytes at true) ≡ set_strips true (framed f (set_at bytes at))
+pub sheet_strips : (f : Frame) (bytes : List ℕ) (at : ℕ) → flat (strips_at f bytes at true) ≡ set_strips true (framed f (set_at bytes at))
 unfolding set_strips strips_at strips_of
-sheet-strips f bytes at = refl
+sheet_strips f bytes at = refl
 
 -- the room's length counts, not what it holds
 standing-same : (room room' : List Float) (firsts : List ℕ) → length room ≡ length room' → standing_capacity room firsts ≡ standing_capacity room' firsts
@@ -111,7 +111,7 @@ module _ (g : Frame) (bytes : List ℕ) (at : ℕ) (sheet₀ sheet : List Float)
   pub no_strips : (entries₀ entries starts firsts₀ firsts : List ℕ) → r ≡ NoRoom → SheetIs Sheet.NoStrips B S sheet₀ sheet entries₀ entries starts firsts₀
       firsts
   no_strips entries₀ entries starts firsts₀ firsts d =
-      subst (λ (l : List Float). standing_capacity sheet₀ firsts₀ < capacity l) (sheet-strips g bytes at)
+      subst (λ (l : List Float). standing_capacity sheet₀ firsts₀ < capacity l) (sheet_strips g bytes at)
       (over (strips_at g bytes at true) sheet₀ sheet r e d firsts₀)
 
   module _ (n : ℕ) (d : r ≡ Count n) where
@@ -119,10 +119,10 @@ module _ (g : Frame) (bytes : List ℕ) (at : ℕ) (sheet₀ sheet : List Float)
     fits = within (strips_at g bytes at true) sheet₀ sheet r e n d
 
     n_is : n ≡ capacity S
-    n_is = number_is (strips_at g bytes at true) sheet₀ sheet r e n d ∙ ap capacity (sheet-strips g bytes at)
+    n_is = number_is (strips_at g bytes at true) sheet₀ sheet r e n d ∙ ap capacity (sheet_strips g bytes at)
 
     front : take (6 * n) sheet ≡ S
-    front = front_is (strips_at g bytes at true) sheet₀ sheet r e n d ∙ sheet-strips g bytes at
+    front = front_is (strips_at g bytes at true) sheet₀ sheet r e n d ∙ sheet_strips g bytes at
 
     -- m strips are what the rooms are used for
     module _ (k : length sheet ≡ length sheet₀) (firsts₀ : List ℕ) (m : ℕ) (q : m ≡ standing_capacity sheet firsts₀) where
@@ -172,7 +172,7 @@ module _ (g : Frame) (bytes : List ℕ) (at : ℕ) (sheet₀ sheet : List Float)
                   number = n_is;
                   strips-fit = strips_in;
                   entries_fit = h.0;
-                  strips = room_is (strips_at g bytes at true) sheet₀ sheet r e n d ∙ ap (λ (l : List Float). laid l sheet₀) (sheet-strips g bytes at);
+                  strips = room_is (strips_at g bytes at true) sheet₀ sheet r e n d ∙ ap (λ (l : List Float). laid l sheet₀) (sheet_strips g bytes at);
                   entries_are = h.1;
                   indexed = own (λ i l c. Laid i l c entries starts) (e' y);
                   firsts_are = firsts_laid (sheet_index B) S (capacity S) firsts₀ firsts w (subst (λ (c : ℕ). c ≤ length firsts₀) n_is long) z;

@@ -26,8 +26,8 @@ given shapes sheet entries firsts =
       shapes = shapes;
       sheet = sheet;
       placed = [];
-      sheet-entries = entries;
-      placed-entries = [];
+      sheet_entries = entries;
+      placed_entries = [];
       sheet_firsts = firsts;
       placed_firsts = [];
     }
@@ -37,7 +37,7 @@ pub record Readied (p : Planner) (tables : Tables) (starts : List ℕ) (before :
   pub tables_are : tables ≡ tables_of p
   pub shapes_are : shapes ≡ laid (apart_strips_of p ++ inset_strips p) before.shapes
   pub sheet_is : sheet ≡ laid p.sheet before.sheet
-  pub entries_are : entries ≡ laid (entries_for p.bounds p.sheet) before.sheet-entries
+  pub entries_are : entries ≡ laid (entries_for p.bounds p.sheet) before.sheet_entries
   pub indexed : Laid (sheet_index p.bounds) p.sheet (capacity p.sheet) entries starts
   pub firsts_are : firsts ≡ laid (firsts_for p.bounds p.sheet) before.sheet_firsts
   pub kept : FirstBuckets (sheet_index p.bounds) p.sheet (capacity p.sheet) firsts

@@ -35,11 +35,11 @@ use Rattle.report.specs.readied.inner.Zeroed.{Zeroed, ReadInto}
 
 -- 20 and 21 go by the rooms' lengths
 pub verdict_zeroed : (p : Planner) (l : Lent) (shapes sheet : List Float) (entries firsts : List ℕ) → shapes ≡ zeros pos_zero l.rooms.shapes
-    → sheet ≡ zeros pos_zero l.rooms.sheet → entries ≡ zeros 0 l.rooms.sheet-entries → firsts ≡ zeros 0 l.rooms.sheet_firsts
+    → sheet ≡ zeros pos_zero l.rooms.sheet → entries ≡ zeros 0 l.rooms.sheet_entries → firsts ≡ zeros 0 l.rooms.sheet_firsts
     → prepare_verdict p (Rooms₀.given shapes sheet entries firsts) ≡ prepare_verdict p l.rooms
 unfolding prepare_verdict Rattle.index.specs.Buckets.standing_capacity capacity
 verdict_zeroed p l shapes sheet entries firsts a b c d =
-    rw (ap length a ∙ length-zeros pos_zero l.rooms.shapes, ap length b ∙ length-zeros pos_zero l.rooms.sheet, ap length c ∙ length-zeros 0 l.rooms.sheet-entries, ap length d ∙ length-zeros 0 l.rooms.sheet_firsts)
+    rw (ap length a ∙ length-zeros pos_zero l.rooms.shapes, ap length b ∙ length-zeros pos_zero l.rooms.sheet, ap length c ∙ length-zeros 0 l.rooms.sheet_entries, ap length d ∙ length-zeros 0 l.rooms.sheet_firsts)
 
 module _ {j : Job} {bytes : List ℕ} {at : ℕ} {h : Header} {rows : List ℕ} {areas : List Float} {places : List ℕ} (R : ReadInto j bytes at h rows areas places)
     {l : Lent} {shapes₀ sheet₀ placed₀ : List Float} {entries₀ placed-entries₀ : List ℕ} {intervals₀ positions₀ : List Float} {firsts₀ placed-firsts₀ : List ℕ}
@@ -51,15 +51,15 @@ module _ {j : Job} {bytes : List ℕ} {at : ℕ} {h : Header} {rows : List ℕ} 
 
   shapes_are : shapes ≡ (first_rooms P l.rooms).shapes
   unfolding first_rooms
-  shapes_are = D.shapes_are ∙ ap (laid (apart_strips_of P ++ inset_strips P)) Z.shapes-zero
+  shapes_are = D.shapes_are ∙ ap (laid (apart_strips_of P ++ inset_strips P)) Z.shapes_zero
 
   sheet_is : sheet ≡ (first_rooms P l.rooms).sheet
   unfolding first_rooms
-  sheet_is = D.sheet_is ∙ ap (laid P.sheet) Z.sheet-zero
+  sheet_is = D.sheet_is ∙ ap (laid P.sheet) Z.sheet_zero
 
-  entries_are : entries ≡ (first_rooms P l.rooms).sheet-entries
+  entries_are : entries ≡ (first_rooms P l.rooms).sheet_entries
   unfolding first_rooms
-  entries_are = D.entries_are ∙ ap (laid (entries_for P.bounds P.sheet)) Z.sheet-entries-zero
+  entries_are = D.entries_are ∙ ap (laid (entries_for P.bounds P.sheet)) Z.sheet_entries_zero
 
   bounds_are : t.sheet_bounds ≡ P.bounds
   unfolding tables_of
@@ -118,13 +118,13 @@ module _ {j : Job} {bytes : List ℕ} {at : ℕ} {h : Header} {rows : List ℕ} 
         index = ap sheet_index bounds_are;
         bounds = bounds_are;
         resolution = resolution_is;
-        inset-bounds = ap (λ (u : Tables). u.inset_bounds) D.tables_are;
+        inset_bounds = ap (λ (u : Tables). u.inset_bounds) D.tables_are;
         parts = ap (λ (u : Tables). u.parts) D.tables_are;
         apart = apart_is;
         inset = inset_is;
         sheet = sheet-part;
-        sheet-entries = entries_are;
-        sheet-laid = laid_own;
+        sheet_entries = entries_are;
+        sheet_laid = laid_own;
       }
 
   pub firsts_given : SheetFirsts (given (sheet_index t.sheet_bounds) t.sheet_bounds t.resolution rows areas t.inset_bounds t.parts
@@ -155,7 +155,7 @@ module _ {j : Job} {bytes : List ℕ} {at : ℕ} {h : Header} {rows : List ℕ} 
     (q : Answers.Prepared) (shapes sheet : List Float) (entries firsts : List ℕ)
     (E : PreparedIs q (planner_of j) (Rooms₀.given shapes₀ sheet₀ entries₀ firsts₀) shapes sheet entries firsts) where
   pub same-verdict : prepare_verdict (planner_of j) l.rooms ≡ q.verdict
-  same-verdict = sym (E.verdict_is ∙ verdict_zeroed (planner_of j) l shapes₀ sheet₀ entries₀ firsts₀ Z.shapes-zero Z.sheet-zero Z.sheet-entries-zero Z.sheet_firsts_zero)
+  same-verdict = sym (E.verdict_is ∙ verdict_zeroed (planner_of j) l shapes₀ sheet₀ entries₀ firsts₀ Z.shapes_zero Z.sheet_zero Z.sheet_entries_zero Z.sheet_firsts_zero)
 
   module _ (e : q.verdict ≡ Accepted) where
     abbrev T : Tables
@@ -177,19 +177,19 @@ module _ {j : Job} {bytes : List ℕ} {at : ℕ} {h : Header} {rows : List ℕ} 
 
     -- the reply of what is filled then
     pub ready-reply : (w : Planned) (r : NestResult) (positions : List Float)
-        → (length l.rooms.placed ≡ length placed₀ → length l.rooms.placed-entries ≡ length placed-entries₀
+        → (length l.rooms.placed ≡ length placed₀ → length l.rooms.placed_entries ≡ length placed-entries₀
         → length l.intervals ≡ length intervals₀ → length l.rooms.placed_firsts ≡ length placed-firsts₀ → positions₀ ≡ zeros pos_zero l.positions → reply r positions ≡ reply_of w)
         → reply r positions ≡ reply_of (planned_when (prepare_verdict (planner_of j) l.rooms) l w)
     ready-reply w r positions f =
-        f (sym (ap length Z.placed-zero ∙ length-zeros pos_zero l.rooms.placed))
-        (sym (ap length Z.placed-entries-zero ∙ length-zeros 0 l.rooms.placed-entries))
-        (sym (ap length Z.intervals-zero ∙ length-zeros pos_zero l.intervals))
-        (sym (ap length Z.placed_firsts_zero ∙ length-zeros 0 l.rooms.placed_firsts)) Z.positions-zero
+        f (sym (ap length Z.placed_zero ∙ length-zeros pos_zero l.rooms.placed))
+        (sym (ap length Z.placed_entries_zero ∙ length-zeros 0 l.rooms.placed_entries))
+        (sym (ap length Z.intervals_zero ∙ length-zeros pos_zero l.intervals))
+        (sym (ap length Z.placed_firsts_zero ∙ length-zeros 0 l.rooms.placed_firsts)) Z.positions_zero
         ∙ ap (λ (v : Verdict). reply_of (planned_when v l w)) (sym (same-verdict ∙ e))
 
   -- 20 or 21
   pub over_reply : (w : Planned) (k : Refusal) (r : NestResult) → q.verdict ≡ Refused k → r ≡ refused_by k
       → reply r positions₀ ≡ reply_of (planned_when (prepare_verdict (planner_of j) l.rooms) l w)
   over_reply w k r e d =
-      refused-reply l k positions₀ Z.positions-zero r d
+      refused-reply l k positions₀ Z.positions_zero r d
       ∙ ap (λ (v : Verdict). reply_of (planned_when v l w)) (sym (same-verdict ∙ e))

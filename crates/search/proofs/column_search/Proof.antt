@@ -12,12 +12,12 @@ use Rattle.search.proofs.column_search.Lts as lts
 use Rattle.search.proofs.column_step.Reads as column-step-reads
 
 abbrev invariant-loop : tie.invariant-loop
-invariant-loop ix k from last slot inset apart sheet sheet-entries sheet-starts placed placed-entries placed-starts room₀ tracks₀ sheet_firsts placed_firsts c₀ room
+invariant-loop ix k from last slot inset apart sheet sheet_entries sheet_starts placed placed_entries placed_starts room₀ tracks₀ sheet_firsts placed_firsts c₀ room
     tracks c =
     Goes k inset apart sheet placed room₀ slot last from tracks₀ room tracks c
 
 abbrev decreases-loop : tie.decreases-loop
-decreases-loop ix k from last slot inset apart sheet sheet-entries sheet-starts placed placed-entries placed-starts room₀ tracks₀ sheet_firsts placed_firsts c₀ room
+decreases-loop ix k from last slot inset apart sheet sheet_entries sheet_starts placed placed_entries placed_starts room₀ tracks₀ sheet_firsts placed_firsts c₀ room
     tracks c =
     last + 1 - c
 

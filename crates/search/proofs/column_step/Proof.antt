@@ -48,7 +48,7 @@ look-at-requires c κs =
     let g = c15.args in
     let p = c15.requires in (
       subst⁻¹ (λ (x : Float). Lookable g.ix x g.k.y_low g.k.y_high g.inset.now g.apart.now g.sheet.now g.placed.now
-          g.sheet-entries.now g.sheet-starts.now g.placed-entries.now g.placed-starts.now) c.before.x.ensures p.0,
+          g.sheet_entries.now g.sheet_starts.now g.placed_entries.now g.placed_starts.now) c.before.x.ensures p.0,
       p.5,
       p.6,
     )

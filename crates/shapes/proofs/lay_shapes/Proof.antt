@@ -52,7 +52,7 @@ returns c =
     let c27 = c12.before.before.before.before.before.before.before.before.before.before.before.before.before.before.before in
     none-laid c27.args.f c27.args.bytes.now c27.args.rows.now c27.args.places.now c27.args.kinds c27.args.shapes.now
     c12.lay-slots.new.1.1.1.1.1.1.1.1.1.1.1.0 c27.args.parts.now c12.lay-slots.new.1.1.1.1.1.1.1.1.1.1.1.1.1.0
-    c12.lay-slots.result c12.lay-slots.new.1.1.1.1.1.1.1.1.1.1.1.0 c27.args.inset-bounds.now
+    c12.lay-slots.result c12.lay-slots.new.1.1.1.1.1.1.1.1.1.1.1.0 c27.args.inset_bounds.now
     c12.lay-slots.new.1.1.1.1.1.1.1.1.1.1.1.1.1.0 c12.lay-slots.ensures c.enum_told.given.1
 
 slice-aggregate-lay-slots-7 : tie.Need-slice-aggregate-lay-slots-7
@@ -117,7 +117,7 @@ returns-2 c =
     let c49 = c34.before.before.before.before.before.before.before.before.before.before.before.before.before.before.before in
     some-laid c49.args.f c49.args.bytes.now c49.args.rows.now c49.args.places.now c49.args.kinds c49.args.shapes.now
     c34.lay-slots.new.1.1.1.1.1.1.1.1.1.1.1.0 c49.args.parts.now c34.lay-slots.new.1.1.1.1.1.1.1.1.1.1.1.1.1.0
-    c34.lay-slots.result c12.lay-slots2.new.1.1.1.1.1.1.1.1.1.1.1.0 c49.args.inset-bounds.now
+    c34.lay-slots.result c12.lay-slots2.new.1.1.1.1.1.1.1.1.1.1.1.0 c49.args.inset_bounds.now
     c12.lay-slots2.new.1.1.1.1.1.1.1.1.1.1.1.1.1.0 _ c34.lay-slots.ensures c22.n.given.1 c12.lay-slots2.result
     c12.lay-slots2.ensures c.enum-told2.given.1
 
@@ -173,7 +173,7 @@ returns-3 c =
     c43.lay-slots.new.1.1.1.1.1.1.1.1.1.1.1.0 c58.args.parts.now c43.lay-slots.new.1.1.1.1.1.1.1.1.1.1.1.1.1.0
     c43.lay-slots.result c21.lay-slots2.new.1.1.1.1.1.1.1.1.1.1.1.0 c4.lay-bounds.new.1.1.1.1.1.1.0
     c21.lay-slots2.new.1.1.1.1.1.1.1.1.1.1.1.1.1.0 _ c43.lay-slots.ensures c31.n.given.1 c21.lay-slots2.result
-    c21.lay-slots2.ensures _ c58.args.inset-bounds.now c9.n2.given.1 c4.lay-bounds.ensures
+    c21.lay-slots2.ensures _ c58.args.inset_bounds.now c9.n2.given.1 c4.lay-bounds.ensures
     (c21.lay-slots2.auto.1.1.1.1.1.1.1.1.1.1.1.1.1.0 ∙ c43.lay-slots.auto.1.1.1.1.1.1.1.1.1.1.1.1.1.0 ∙ c58.requires.3)
     (c4.lay-bounds.auto.1.1.1.1.1.1.0 ∙ c58.requires.2)
 

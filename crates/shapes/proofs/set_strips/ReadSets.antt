@@ -37,20 +37,20 @@ use Rattle.shapes.specs.set_strips.inner.SetStrips.{strips_of, strips_at}
 
 -- ---- a set that was read
 
-ends-few : (first n : ℕ) (es : List ℕ) (i : ℕ) → Ends first es n → i < length es → get_or es i 0 ≤ n
-ends-few first n [] i h l = absurd (none i l)
+ends_few : (first n : ℕ) (es : List ℕ) (i : ℕ) → Ends first es n → i < length es → get_or es i 0 ≤ n
+ends_few first n [] i h l = absurd (none i l)
   where
     none : (i : ℕ) → i < 0 → ⊥
     none i h = omega arith
-ends-few first n (e ∷ es) zero h l = let m = ends-most e n es h.1 in omega (arith, m)
-ends-few first n (e ∷ es) (suc i) h l = ends-few e n es i h.1 (omega arith)
+ends_few first n (e ∷ es) zero h l = let m = ends-most e n es h.1 in omega (arith, m)
+ends_few first n (e ∷ es) (suc i) h l = ends_few e n es i h.1 (omega arith)
 
 -- n loops and m points lie in the rooms, in the frame
 pub record SetIn (f : Frame) (bytes : List ℕ) (at : ℕ) (room : List Float) (ends : List ℕ) (n m : ℕ) : Type 0 where
   pub some : 0 < m
   pub few : m ≤ 512
   pub loops : n ≤ 64
-  pub ends-few : (i : ℕ) → i < n → get_or ends i 0 ≤ 512
+  pub ends_few : (i : ℕ) → i < n → get_or ends i 0 ≤ 512
   pub lie : Loops 0 (take n ends) m
   pub is : framed f (set_at bytes at) ≡ record { points = take (2 * m) room; ends = take n ends }
 
@@ -74,7 +74,7 @@ module _ (f : Frame) (bytes : List ℕ) (at : ℕ) (room : List Float) (ends : L
         some = omega arith;
         few = h;
         loops = l;
-        ends-few = λ i v. subst (λ (x : ℕ). x ≤ 512) (get_or-take n ends i 0 v) (let u = ends-few 0 m (take n ends) i E (omega arith) in omega arith);
+        ends_few = λ i v. subst (λ (x : ℕ). x ≤ 512) (get_or-take n ends i 0 v) (let u = ends_few 0 m (take n ends) i E (omega arith) in omega arith);
         lie = ends_loops 0 m (take n ends) E;
         is = e;
       }

@@ -70,7 +70,7 @@ returns-2 c =
     let a = c13.args in
     let e = read_as _ c6.read.result c6.read.ensures.0 c.before.before.answer2.given.1 in
     λ l C q. job-refused a.bytes.now a.order.now l _ c.refused.result
-    a.shapes.now a.sheet.now a.sheet-entries.now a.sheet_firsts.now C e c.refused.ensures
+    a.shapes.now a.sheet.now a.sheet_entries.now a.sheet_firsts.now C e c.refused.ensures
 
 pub begin-spec : {M : Type 1} → statement M
 begin-spec =

@@ -19,7 +19,7 @@ refused-requires c κs = tt
 returns : tie.Need-returns
 returns c =
     let c10 = c.before.before.before.before.before.before.before.before.before.before in
-    λ j l e C q. few-positions j c10.args.order.now l c.refused.result c10.args.shapes.now c10.args.sheet.now c10.args.sheet-entries.now
+    λ j l e C q. few-positions j c10.args.order.now l c.refused.result c10.args.shapes.now c10.args.sheet.now c10.args.sheet_entries.now
     c10.args.sheet_firsts.now
     c10.args.positions q (subst (λ (x : Job). c10.args.positions < x.copies)
     (job_is c10.args.bytes.now c10.args.rows.now c10.args.places.now c10.args.h c10.args.at c10.args.copies c10.requires.2 j e)
@@ -84,7 +84,7 @@ returns-3 : tie.Need-returns-3
 returns-3 c =
     let c2 = c.before.before in
     let c12 = c2.before.before.before.before.before.before.before.before.before.before in
-    λ j l e C q. wrong_order j c12.args.order.now l c.refused2.result c12.args.shapes.now c12.args.sheet.now c12.args.sheet-entries.now
+    λ j l e C q. wrong_order j c12.args.order.now l c.refused2.result c12.args.shapes.now c12.args.sheet.now c12.args.sheet_entries.now
     c12.args.sheet_firsts.now
     c12.args.positions q (subst (λ (x : Job). x.copies ≤ c12.args.positions)
     (job_is c12.args.bytes.now c12.args.rows.now c12.args.places.now c12.args.h c12.args.at c12.args.copies c12.requires.2 j e)

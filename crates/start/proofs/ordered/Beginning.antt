@@ -23,7 +23,7 @@ use Rattle.start.specs.ordered.inner.Beginning.{Cleared, Begun}
 -- ---- refused
 pub not_begun : (k : Refusal) (l : Lent) (shapes sheet : List Float) (entries firsts : List ℕ) → Cleared l shapes sheet entries firsts → Begun (not_started k) (no_start k l) shapes sheet entries firsts
 unfolding not_started no_start only_positions zero_rooms
-not_begun k l shapes sheet entries firsts C = record { verdict_is = refl; state_is = refl; shapes_are = C.shapes-zero; sheet_is = C.sheet-zero; entries_are = C.entries-zero; firsts_are = C.firsts_zero }
+not_begun k l shapes sheet entries firsts C = record { verdict_is = refl; state_is = refl; shapes_are = C.shapes_zero; sheet_is = C.sheet_zero; entries_are = C.entries_zero; firsts_are = C.firsts_zero }
 
 module _ (j : Job) (order : List ℕ) (l : Lent) (r : Started) (shapes sheet : List Float) (entries firsts : List ℕ) where
   pub begun_refused : (k : Refusal) → start_verdict j order l ≡ Refused k → r ≡ not_started k → Cleared l shapes sheet entries firsts → Begun r (start_job j order l) shapes sheet entries firsts
@@ -34,9 +34,9 @@ verdict_by_length : (p : Planner) (l : Lent) (shapes sheet : List Float) (entrie
     → prepare_verdict p (given shapes sheet entries firsts) ≡ prepare_verdict p l.rooms
 unfolding prepare_verdict Rattle.index.specs.Buckets.standing_capacity Rattle.trapezoid.specs.Strip.capacity
 verdict_by_length p l shapes sheet entries firsts C =
-    let a = ap length C.shapes-zero ∙ length-zeros pos_zero l.rooms.shapes in
-    let b = ap length C.sheet-zero ∙ length-zeros pos_zero l.rooms.sheet in
-    let c = ap length C.entries-zero ∙ length-zeros 0 l.rooms.sheet-entries in
+    let a = ap length C.shapes_zero ∙ length-zeros pos_zero l.rooms.shapes in
+    let b = ap length C.sheet_zero ∙ length-zeros pos_zero l.rooms.sheet in
+    let c = ap length C.entries_zero ∙ length-zeros 0 l.rooms.sheet_entries in
     let d = ap length C.firsts_zero ∙ length-zeros 0 l.rooms.sheet_firsts in
     rw (a, b, c, d)
 
@@ -53,9 +53,9 @@ module _ (j : Job) (order : List ℕ) (l : Lent) (shapes₀ sheet₀ : List Floa
   not-ready k r shapes' sheet' entries' firsts' e d a b c f x y z u =
       begun_refused j order l r shapes' sheet' entries' firsts' k (verdict_is ∙ e) d
       (record {
-        shapes-zero = x ∙ zeros-same pos_zero shapes l.rooms.shapes (a ∙ ap length C.shapes-zero ∙ length-zeros pos_zero l.rooms.shapes);
-        sheet-zero = y ∙ zeros-same pos_zero sheet l.rooms.sheet (b ∙ ap length C.sheet-zero ∙ length-zeros pos_zero l.rooms.sheet);
-        entries-zero = z ∙ zeros-same 0 entries l.rooms.sheet-entries (c ∙ ap length C.entries-zero ∙ length-zeros 0 l.rooms.sheet-entries);
+        shapes_zero = x ∙ zeros-same pos_zero shapes l.rooms.shapes (a ∙ ap length C.shapes_zero ∙ length-zeros pos_zero l.rooms.shapes);
+        sheet_zero = y ∙ zeros-same pos_zero sheet l.rooms.sheet (b ∙ ap length C.sheet_zero ∙ length-zeros pos_zero l.rooms.sheet);
+        entries_zero = z ∙ zeros-same 0 entries l.rooms.sheet_entries (c ∙ ap length C.entries_zero ∙ length-zeros 0 l.rooms.sheet_entries);
         firsts_zero = u ∙ zeros-same 0 firsts l.rooms.sheet_firsts (f ∙ ap length C.firsts_zero ∙ length-zeros 0 l.rooms.sheet_firsts);
       })
 
@@ -67,9 +67,9 @@ module _ (j : Job) (order : List ℕ) (l : Lent) (shapes₀ sheet₀ : List Floa
         record {
           verdict_is = refl;
           state_is = ap₂ (λ (t : Tables) (o : List ℕ). (started_with t o).state) R.tables_are o;
-          shapes_are = R.shapes_are ∙ ap (laid _) C.shapes-zero;
-          sheet_is = R.sheet_is ∙ ap (laid _) C.sheet-zero;
-          entries_are = R.entries_are ∙ ap (laid _) C.entries-zero;
+          shapes_are = R.shapes_are ∙ ap (laid _) C.shapes_zero;
+          sheet_is = R.sheet_is ∙ ap (laid _) C.sheet_zero;
+          entries_are = R.entries_are ∙ ap (laid _) C.entries_zero;
           firsts_are = R.firsts_are ∙ ap (laid _) C.firsts_zero;
         }
 

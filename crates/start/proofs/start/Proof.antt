@@ -115,15 +115,15 @@ returns c =
     let c47 = c43.before.before.before.before in
     let c60 = c47.before.before.before.before.before.before.before.before.before.before.before.before.before in
     let a = c60.args in
-    let l = lent_of a.shapes.now a.sheet.now a.placed.now a.sheet-entries.now a.placed-entries.now a.sheet_firsts.now
+    let l = lent_of a.shapes.now a.sheet.now a.placed.now a.sheet_entries.now a.placed_entries.now a.sheet_firsts.now
     a.placed_firsts.now a.intervals.now a.positions.now in
     whole a.bytes.now a.order.now l c8.begin.result c8.begin.new.1.1.1.0 c8.begin.new.1.1.1.1.0 c39.zero3.new.0
     c8.begin.new.1.1.1.1.1.0 c31.zero-numbers2.new.0 c8.begin.new.1.1.1.1.1.1.0 c23.zero-numbers4.new.0 c19.zero4.new.0
     c15.zero5.new.0
     (c8.begin.ensures l (record {
-      shapes-zero = c47.zero.ensures;
-      sheet-zero = c43.zero2.ensures;
-      entries-zero = c35.zero-numbers.ensures;
+      shapes_zero = c47.zero.ensures;
+      sheet_zero = c43.zero2.ensures;
+      entries_zero = c35.zero-numbers.ensures;
       firsts_zero = c27.zero-numbers3.ensures;
     }) refl)
     c39.zero3.ensures c31.zero-numbers2.ensures c23.zero-numbers4.ensures c19.zero4.ensures c15.zero5.ensures

@@ -10,7 +10,7 @@ use Rattle.rooms.specs.tracks.inner.Tracks.{next_columns, look_counts_from}
 use Rattle.filling_laws.proofs.Ready.{InDoubles}
 use Rattle.step.specs.inner.Going.{rooms}
 use Rattle.step.proofs.After.{below}
-use Rattle.step.proofs.Allowed.{field_fit, six, kind-few, taken-few, sheet-within, apart-within, slots-few, turns-few}
+use Rattle.step.proofs.Allowed.{field_fit, six, kind_few, taken-few, sheet-within, apart-within, slots-few, turns_few}
 use Rattle.step.proofs.Allowed.{allowed_counts, allowed_fixed, allowed_standing, allowed_sheet_firsts, allowed_firsts}
 use Rattle.step.proofs.Steps.{room-zeros, code_of, written_by, step-answer}
 use Rattle.step.proofs.step_copy.Statement.{statement}
@@ -36,9 +36,9 @@ copy-at-requires c κs =
     let s = c14.args.state in
     let G = c14.requires.1 in (
       below s.taken (length s.order) (taken-few G) (length_unmapped _ s.order 4096 c14.well-formed.1.1.0.1.1.1.0.1.0.1),
-      kind-few G,
+      kind_few G,
       G.tabled.rows_long,
-      G.tabled.areas-long,
+      G.tabled.areas_long,
     )
 
 grid-of-requires : tie.Need-grid-of-requires
@@ -99,18 +99,18 @@ place-copy-requires c κs =
     let b = t.1.0.1.1 in
     let i = t.1.1.1.1.0 in
     let G = c32.requires.1 in
-    let D : InDoubles s (rooms a.shapes.now a.sheet.now a.placed.now a.sheet-entries.now a.entries.now
+    let D : InDoubles s (rooms a.shapes.now a.sheet.now a.placed.now a.sheet_entries.now a.entries.now
     a.sheet_firsts.now a.firsts.now) =
     record {
       resolution = subst T (sym t.0.1) tt;
-      sheet-bounds =
+      sheet_bounds =
           record {
             left = subst T (sym b.0.1) tt;
             bottom = subst T (sym b.1.0.1) tt;
             right = subst T (sym b.1.1.0.1) tt;
             top = subst T (sym b.1.1.1.0.1) tt;
           };
-      inset-bounds = field_fit s.tables.inset_bounds i.0 i.1.1;
+      inset_bounds = field_fit s.tables.inset_bounds i.0 i.1.1;
       shapes = c29.shared-slice-known3.given;
       sheet = c28.shared-slice-known4.given;
       placed = c25.slice-known.given;
@@ -149,7 +149,7 @@ answer-requires c κs =
     let G = c50.requires.1 in (
       taken-few G,
       c17.place-copy.ensures.2,
-      turns-few G c35.copy_at.result c35.copy_at.ensures,
+      turns_few G c35.copy_at.result c35.copy_at.ensures,
       le_of_eq (sym (c17.place-copy.auto.1.1.1.1.1.1.1.1.1.1.1.1.1.1.0 ∙ c28.tracks_of_lem.ensures.0)),
     )
 

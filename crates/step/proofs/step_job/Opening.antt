@@ -41,33 +41,33 @@ used_up j s w intervals e = sym (ap (place_next j s w intervals) e)
 pub step_used_up : (j : Job) (s : State) (w : Rooms) (intervals : List Float) → consistent j s w ≡ true → j.copies ≤ s.taken → no_step Why.OrderUsedUp s w intervals ≡ step_job j s w intervals
 step_used_up j s w intervals e h = used_up j s w intervals (none_left j s w e h) ∙ sym (step-consistent j s w intervals e)
 
-pub going : (j : Job) (s : State) (w : Rooms) (rows : List ℕ) (areas : List Float) (kinds copies : ℕ) (sheet-starts starts : List ℕ) → Opened j rows areas kinds copies → consistent j s w ≡ true → s.taken < copies
-    → Laid (sheet_index s.tables.sheet_bounds) (take (6 * s.tables.sheet_strips) w.sheet) (capacity (take (6 * s.tables.sheet_strips) w.sheet)) w.sheet-entries sheet-starts
-    → Laid (sheet_index s.tables.sheet_bounds) (take (6 * s.placed_strips) w.placed) (capacity (take (6 * s.placed_strips) w.placed)) w.placed-entries starts
+pub going : (j : Job) (s : State) (w : Rooms) (rows : List ℕ) (areas : List Float) (kinds copies : ℕ) (sheet_starts starts : List ℕ) → Opened j rows areas kinds copies → consistent j s w ≡ true → s.taken < copies
+    → Laid (sheet_index s.tables.sheet_bounds) (take (6 * s.tables.sheet_strips) w.sheet) (capacity (take (6 * s.tables.sheet_strips) w.sheet)) w.sheet_entries sheet_starts
+    → Laid (sheet_index s.tables.sheet_bounds) (take (6 * s.placed_strips) w.placed) (capacity (take (6 * s.placed_strips) w.placed)) w.placed_entries starts
     → FirstBuckets (sheet_index s.tables.sheet_bounds) (take (6 * s.tables.sheet_strips) w.sheet)
     (capacity (take (6 * s.tables.sheet_strips) w.sheet)) w.sheet_firsts
     → FirstBuckets (sheet_index s.tables.sheet_bounds) (take (6 * s.placed_strips) w.placed)
     (capacity (take (6 * s.placed_strips) w.placed)) w.placed_firsts
-    → Going j s w rows areas sheet-starts starts
-going j s w rows areas kinds copies sheet-starts starts O e h L P K Q =
+    → Going j s w rows areas sheet_starts starts
+going j s w rows areas kinds copies sheet_starts starts O e h L P K Q =
     record {
       tabled = O.tabled;
       good = O.good;
       few = O.few;
       passes = e;
       left = subst⁻¹ (λ (n : ℕ). s.taken < n) O.copies_are h;
-      sheet-laid = L;
-      placed-laid = laid-whole (sheet_index s.tables.sheet_bounds) w.placed s.placed_strips w.placed-entries starts (strips-within j s w e).placed P;
-      sheet-kept = K;
-      placed-kept = firsts_whole (sheet_index s.tables.sheet_bounds) w.placed s.placed_strips w.placed_firsts (strips-within j s w e).placed Q;
+      sheet_laid = L;
+      placed_laid = laid-whole (sheet_index s.tables.sheet_bounds) w.placed s.placed_strips w.placed_entries starts (strips-within j s w e).placed P;
+      sheet_kept = K;
+      placed_kept = firsts_whole (sheet_index s.tables.sheet_bounds) w.placed s.placed_strips w.placed_firsts (strips-within j s w e).placed Q;
     }
 
 -- ---- what the tables hold
 pub record Numbers (rows : List ℕ) (kinds copies : ℕ) : Type 0 where
-  pub kinds-few : kinds ≤ 64
+  pub kinds_few : kinds ≤ 64
   pub rows_long : 256 ≤ length rows
-  pub turns-few : (k : ℕ) → k < kinds → get_or rows (4 * k + 3) 0 ≤ 16
-  pub copies-few : copies ≤ 4096
+  pub turns_few : (k : ℕ) → k < kinds → get_or rows (4 * k + 3) 0 ≤ 16
+  pub copies_few : copies ≤ 4096
 
 turns-most : (j : Job) → GoodJob j → (k : ℕ) → get_or (orientation_counts j) k 0 ≤ 16
 unfolding orientation_counts
@@ -76,10 +76,10 @@ turns-most j g k = most-turns j.kinds g.kinds k
 pub numbers : (j : Job) (rows : List ℕ) (areas : List Float) (kinds copies : ℕ) → Opened j rows areas kinds copies → Numbers rows kinds copies
 numbers j rows areas kinds copies O =
     record {
-      kinds-few = subst (λ (n : ℕ). n ≤ 64) O.kinds_are O.tabled.few;
+      kinds_few = subst (λ (n : ℕ). n ≤ 64) O.kinds_are O.tabled.few;
       rows_long = O.tabled.rows_long;
-      turns-few = turns;
-      copies-few = subst (λ (n : ℕ). n ≤ 4096) O.copies_are O.few;
+      turns_few = turns;
+      copies_few = subst (λ (n : ℕ). n ≤ 4096) O.copies_are O.few;
     }
   where
     turns : (k : ℕ) → k < kinds → get_or rows (4 * k + 3) 0 ≤ 16

@@ -18,30 +18,30 @@ use Rattle.place.specs.inner.Placing.{orientation_number, outcome_x, y_of, gap_o
 use Rattle.step.specs.declared.Stepped.{Stepped}
 
 abbrev pub rooms : List Float → List Float → List Float → List ℕ → List ℕ → List ℕ → List ℕ → Rooms
-rooms shapes sheet placed sheet-entries entries sheet_firsts firsts =
+rooms shapes sheet placed sheet_entries entries sheet_firsts firsts =
     record {
       shapes = shapes;
       sheet = sheet;
       placed = placed;
-      sheet-entries = sheet-entries;
-      placed-entries = entries;
+      sheet_entries = sheet_entries;
+      placed_entries = entries;
       sheet_firsts = sheet_firsts;
       placed_firsts = firsts;
     }
 
 -- the tables of a job, a state and rooms that 31 lets pass, the starts of their buckets, and a copy to come
-pub record Going (j : Job) (s : State) (w : Rooms) (rows : List ℕ) (areas : List Float) (sheet-starts starts : List ℕ) : Type 0 where
+pub record Going (j : Job) (s : State) (w : Rooms) (rows : List ℕ) (areas : List Float) (sheet_starts starts : List ℕ) : Type 0 where
   pub tabled : Tabled j rows areas
   pub good : GoodJob j
   pub few : j.copies ≤ 4096
   pub passes : consistent j s w ≡ true
   pub left : s.taken < j.copies
-  pub sheet-laid : Laid (sheet_index s.tables.sheet_bounds) (take (6 * s.tables.sheet_strips) w.sheet)
-      (capacity (take (6 * s.tables.sheet_strips) w.sheet)) w.sheet-entries sheet-starts
-  pub placed-laid : Laid (sheet_index s.tables.sheet_bounds) w.placed s.placed_strips w.placed-entries starts
-  pub sheet-kept : FirstBuckets (sheet_index s.tables.sheet_bounds) (take (6 * s.tables.sheet_strips) w.sheet)
+  pub sheet_laid : Laid (sheet_index s.tables.sheet_bounds) (take (6 * s.tables.sheet_strips) w.sheet)
+      (capacity (take (6 * s.tables.sheet_strips) w.sheet)) w.sheet_entries sheet_starts
+  pub placed_laid : Laid (sheet_index s.tables.sheet_bounds) w.placed s.placed_strips w.placed_entries starts
+  pub sheet_kept : FirstBuckets (sheet_index s.tables.sheet_bounds) (take (6 * s.tables.sheet_strips) w.sheet)
       (capacity (take (6 * s.tables.sheet_strips) w.sheet)) w.sheet_firsts
-  pub placed-kept : FirstBuckets (sheet_index s.tables.sheet_bounds) w.placed s.placed_strips w.placed_firsts
+  pub placed_kept : FirstBuckets (sheet_index s.tables.sheet_bounds) w.placed s.placed_strips w.placed_firsts
 
 -- a reply with the rooms after it
 abbrev pub step_of : Stepped → Rooms → List Float → Step

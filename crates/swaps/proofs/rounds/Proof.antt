@@ -17,17 +17,17 @@ use Rattle.swaps.proofs.rounds.Statement.{statement}
 use Rattle.swaps.proofs.rounds.Tie as tie
 
 abbrev invariant-loop : tie.invariant-loop
-invariant-loop g seed n order₀ rows areas inset-bounds parts shapes sheet sheet-entries sheet-starts placed₀ entries₀ room₀ tracks₀ spots₀ sheet_firsts firsts₀ turns
+invariant-loop g seed n order₀ rows areas inset_bounds parts shapes sheet sheet_entries sheet_starts placed₀ entries₀ room₀ tracks₀ spots₀ sheet_firsts firsts₀ turns
     verdict₀ best₀
     i₀ order placed entries room tracks spots firsts verdict best i =
-    Going (given_in g rows areas inset-bounds parts shapes sheet sheet-entries sheet-starts) turns
+    Going (given_in g rows areas inset_bounds parts shapes sheet sheet_entries sheet_starts) turns
     (record { best = best₀; order = order₀; tracks = tracks₀; spots = spots₀ }) placed₀ entries₀ room₀ firsts₀ i verdict
     (record { best = best; order = order; tracks = tracks; spots = spots })
     × (length order ≡ length order₀) × (length placed ≡ length placed₀) × (length entries ≡ length entries₀) × (length room ≡ length room₀)
     × (length tracks ≡ length tracks₀) × (length spots ≡ length spots₀) × (length firsts ≡ length firsts₀)
 
 abbrev decreases-loop : tie.decreases-loop
-decreases-loop g seed n order₀ rows areas inset-bounds parts shapes sheet sheet-entries sheet-starts placed₀ entries₀ room₀ tracks₀ spots₀ sheet_firsts firsts₀ turns
+decreases-loop g seed n order₀ rows areas inset_bounds parts shapes sheet sheet_entries sheet_starts placed₀ entries₀ room₀ tracks₀ spots₀ sheet_firsts firsts₀ turns
     verdict₀ best₀
     i₀ order placed entries room tracks spots firsts verdict best i =
     turns - i
@@ -47,8 +47,8 @@ loop-holds c =
     let a = c18.args in
     let k = c.none_kept in (
       going_start
-          (given_in a.g a.rows.now a.areas.now a.inset-bounds.now a.parts.now a.shapes.now a.sheet.now a.sheet-entries.now
-          a.sheet-starts.now)
+          (given_in a.g a.rows.now a.areas.now a.inset_bounds.now a.parts.now a.shapes.now a.sheet.now a.sheet_entries.now
+          a.sheet_starts.now)
           c.before.turns-for.result (record { best = k.result; order = a.order.now; tracks = a.tracks.now; spots = a.spots.now })
           a.placed.now a.entries.now a.room.now a.firsts.now k.ensures.1 k.ensures.2,
       refl,
@@ -110,8 +110,8 @@ loop-again c =
     let h = c25.loop in
     let q = c16.round in
     let n = c27.turns-for.result in
-    let g = given_in a.g a.rows.now a.areas.now a.inset-bounds.now a.parts.now a.shapes.now a.sheet.now a.sheet-entries.now
-    a.sheet-starts.now in (
+    let g = given_in a.g a.rows.now a.areas.now a.inset_bounds.now a.parts.now a.shapes.now a.sheet.now a.sheet_entries.now
+    a.sheet_starts.now in (
       subst
           (λ (m : ℕ). Going g n (record { best = c26.none_kept.result; order = a.order.now; tracks = a.tracks.now; spots = a.spots.now })
           a.placed.now a.entries.now a.room.now a.firsts.now m q.result.verdict
@@ -174,8 +174,8 @@ returns c =
     let h = c.before.loop in
     let k = c.before.before.none_kept in
     let n = c3.turns-for.result in
-    let g = given_in a.g a.rows.now a.areas.now a.inset-bounds.now a.parts.now a.shapes.now a.sheet.now a.sheet-entries.now
-    a.sheet-starts.now in (
+    let g = given_in a.g a.rows.now a.areas.now a.inset_bounds.now a.parts.now a.shapes.now a.sheet.now a.sheet_entries.now
+    a.sheet_starts.now in (
       λ (j : Job) P r (l : Lent) e1 e2 e3 e4 es.
           going_end g n (record { best = k.result; order = a.order.now; tracks = a.tracks.now; spots = a.spots.now })
           a.placed.now a.entries.now a.room.now a.firsts.now h.i h.verdict

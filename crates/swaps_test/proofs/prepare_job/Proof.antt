@@ -1,7 +1,7 @@
 -- `swaps_test::prepare_job`: prepared in rooms that are zero, then searched; or the refusal. Assumes nothing.
 use mathlib.Core.Path.{refl, sym}
 use Rattle.report.proofs.readied.Preparing.{ready-given, ready-sheet, ready-shapes, ready_firsts}
-use Rattle.swaps_test.proofs.Lent.{rooms-zero}
+use Rattle.swaps_test.proofs.Lent.{rooms_zero}
 use borrow.Author.Rules.{length_unmapped}
 use Rattle.swaps_test.proofs.prepare_job.Statement.{statement}
 use Rattle.swaps_test.proofs.prepare_job.Tie as tie
@@ -61,10 +61,10 @@ search-requires c κs =
     let q = c13.prepare.result in
     let E = c13.prepare.ensures p.0.0 R.from R.header_is in
     let e = c.before.before.before.before.before.enum_told.given.1 in (
-      (p.0.0, ready-given R rooms-zero q _ _ _ _ E e, R.header_is, R.number),
-      ready-sheet R rooms-zero q _ _ _ _ E e,
-      ready-shapes R rooms-zero q _ _ _ _ E e,
-      ready_firsts R rooms-zero q _ _ _ _ E e,
+      (p.0.0, ready-given R rooms_zero q _ _ _ _ E e, R.header_is, R.number),
+      ready-sheet R rooms_zero q _ _ _ _ E e,
+      ready-shapes R rooms_zero q _ _ _ _ E e,
+      ready_firsts R rooms_zero q _ _ _ _ E e,
     )
 
 enum-known-verdict : tie.Need-enum-known-verdict

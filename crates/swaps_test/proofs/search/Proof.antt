@@ -26,7 +26,7 @@ copy-order-requires c κs =
     let c10 = c.before.before.before.before.before.before.before.before.before.before in
     let p = c10.requires.0 in
     let t = p.1.tabled in
-    (subst (λ (m : ℕ). m ≤ 64) p.3 t.few, t.rows_long, t.areas-long, copies_upto _ p.0 p.1.read _ _ _ t p.3)
+    (subst (λ (m : ℕ). m ≤ 64) p.3 t.few, t.rows_long, t.areas_long, copies_upto _ p.0 p.1.read _ _ _ t p.3)
 
 array-borrow-prefix-order : tie.Need-array-borrow-prefix-order
 array-borrow-prefix-order c =

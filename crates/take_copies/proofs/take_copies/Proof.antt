@@ -3,14 +3,14 @@ use Prim.Native.Nat.{◌-◌}
 use native.Mathlib.Omega.{arith}
 use mathlib.Core.Path.{refl, ◌∙◌}
 use borrow.Author.Rules.{rules}
-use Rattle.step.proofs.Allowed.{kind-few, taken-few}
+use Rattle.step.proofs.Allowed.{kind_few, taken-few}
 use Rattle.take_copies.proofs.Running.{Running, sizes_on, run_first}
 use Rattle.take_copies.proofs.NextTurn.{less_after, run_next, run_few, run_whole}
 use Rattle.take_copies.proofs.take_copies.Statement.{statement}
 use Rattle.take_copies.proofs.take_copies.Tie as tie
 
 abbrev invariant-loop : tie.invariant-loop
-invariant-loop most taken g order rows areas inset-bounds parts shapes sheet sheet-entries sheet-starts placed₀ entries₀ starts₀ gains₀ room₀ tracks₀ orientation₀ x₀
+invariant-loop most taken g order rows areas inset_bounds parts shapes sheet sheet_entries sheet_starts placed₀ entries₀ starts₀ gains₀ room₀ tracks₀ orientation₀ x₀
     y₀ gap₀ sheet_firsts firsts₀ last₀ took₀ end₀ placed entries starts gains room tracks orientation x y gap firsts last took end =
     Running
     (record {
@@ -21,12 +21,12 @@ invariant-loop most taken g order rows areas inset-bounds parts shapes sheet she
       order = order;
       rows = rows;
       areas = areas;
-      inset-bounds = inset-bounds;
+      inset_bounds = inset_bounds;
       parts = parts;
       shapes = shapes;
       sheet = sheet;
-      sheet-entries = sheet-entries;
-      sheet-starts = sheet-starts;
+      sheet_entries = sheet_entries;
+      sheet_starts = sheet_starts;
       sheet_firsts = sheet_firsts;
     })
     (record {
@@ -57,7 +57,7 @@ invariant-loop most taken g order rows areas inset-bounds parts shapes sheet she
     }) last took end
 
 abbrev decreases-loop : tie.decreases-loop
-decreases-loop most taken g order rows areas inset-bounds parts shapes sheet sheet-entries sheet-starts placed₀ entries₀ starts₀ gains₀ room₀ tracks₀ orientation₀ x₀
+decreases-loop most taken g order rows areas inset_bounds parts shapes sheet sheet_entries sheet_starts placed₀ entries₀ starts₀ gains₀ room₀ tracks₀ orientation₀ x₀
     y₀ gap₀ sheet_firsts firsts₀ last₀ took₀ end₀ placed entries starts gains room tracks orientation x y gap firsts last took end = end - took
 
 loop-holds : tie.Need-loop-init invariant-loop decreases-loop
@@ -78,7 +78,7 @@ copy-at-requires c κs =
     let p = c23.requires.0 in
     let B = p.3 in
     let G = c.before.loop.invariant.going p.0 p.1 p.2 B p.4 c.loop-test.true in
-    (omega (arith, taken-few G, B.long), kind-few G, B.tabled.rows_long, B.tabled.areas-long)
+    (omega (arith, taken-few G, B.long), kind_few G, B.tabled.rows_long, B.tabled.areas_long)
 
 take-next-requires : tie.Need-take-next-requires invariant-loop decreases-loop
 take-next-requires c κs =

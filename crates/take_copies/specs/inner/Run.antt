@@ -26,12 +26,12 @@ rest_of j Accepted n s w intervals fits = tested_from j n s w intervals fits
 rest_of j (Refused k) n s w intervals fits = none_taken (Refused k) s w intervals
 
 -- the tables of a job and of a state, with so many copies to come at the least
-pub record Begun (j : Job) (b : Tables) (g : Grid) (rows : List ℕ) (areas inset-bounds : List Float) (parts : List ℕ) (whole sheet : List Float)
+pub record Begun (j : Job) (b : Tables) (g : Grid) (rows : List ℕ) (areas inset_bounds : List Float) (parts : List ℕ) (whole sheet : List Float)
     (order : List ℕ) (taken most : ℕ) : Type 0 where
   pub tabled : Tabled j rows areas
   pub good : GoodJob j
   pub sized : Sized j
   pub few : j.copies ≤ 4096
-  pub tabling : Tabling b g inset-bounds parts whole sheet
+  pub tabling : Tabling b g inset_bounds parts whole sheet
   pub long : length order ≡ 4096
   pub left : taken + most ≤ j.copies

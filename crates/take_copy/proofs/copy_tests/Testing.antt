@@ -25,23 +25,23 @@ use Rattle.take_copy.specs.copy_tests.inner.CopyTest.{slot_track_test, tracks_te
 
 -- ---- a slot
 
-module _ (bounds : Rect) (resolution : Float) (inset-bounds : List Float) (i : ℕ) {t : Rect} {c : Columns} (et : t ≡ bounds_at inset-bounds i)
+module _ (bounds : Rect) (resolution : Float) (inset_bounds : List Float) (i : ℕ) {t : Rect} {c : Columns} (et : t ≡ bounds_at inset_bounds i)
     (ec : c ≡ columns_of bounds t resolution) where
-  columns-same : c ≡ columns_of bounds (bounds_at inset-bounds i) resolution
+  columns-same : c ≡ columns_of bounds (bounds_at inset_bounds i) resolution
   columns-same = ec ∙ ap (λ (x : Rect). columns_of bounds x resolution) et
 
-  pub told-few : BoundedRect bounds → Resolving resolution → BoundedRect (bounds_at inset-bounds i) → c.count ≤ 4000000000
+  pub told-few : BoundedRect bounds → Resolving resolution → BoundedRect (bounds_at inset_bounds i) → c.count ≤ 4000000000
   told-few b r h =
-      subst (λ (x : Columns). x.count ≤ 4000000000) (sym columns-same) (few-columns bounds (bounds_at inset-bounds i) resolution b h r)
+      subst (λ (x : Columns). x.count ≤ 4000000000) (sym columns-same) (few-columns bounds (bounds_at inset_bounds i) resolution b h r)
 
   pub told_slot : (taken : ℕ) (tracks : List ℕ) → i < 1024 → {r : Bool} → r ≡ track_test taken (last_for c) (get_or tracks (2 * i) 0) (get_or tracks (2 * i + 1) 0)
-      → r ≡ slot_track_test bounds resolution taken inset-bounds (next_columns tracks) (look_counts_from tracks) i
+      → r ≡ slot_track_test bounds resolution taken inset_bounds (next_columns tracks) (look_counts_from tracks) i
   unfolding slot_track_test
   told_slot taken tracks l e =
       let z : 2 * i ≡ 2 * i + 0 = omega arith in
       e
       ∙ (ap (λ (x : Columns). track_test taken (last_for x) (get_or tracks (2 * i) 0) (get_or tracks (2 * i + 1) 0)) columns-same
-      ∙ ap₂ (track_test taken (last_for (columns_of bounds (bounds_at inset-bounds i) resolution)))
+      ∙ ap₂ (track_test taken (last_for (columns_of bounds (bounds_at inset_bounds i) resolution)))
       (ap (λ (p : ℕ). get_or tracks p 0) z ∙ sym (field_at 0 2 0 1024 tracks i 0 l)) (sym (field_at 0 2 1 1024 tracks i 0 l)))
 
 -- ---- position and gap
@@ -68,39 +68,39 @@ part_is (suc a) zero l = let e : 0 - suc a ≡ 0 = omega arith in ap (λ n. take
 part_is (suc a) (suc b) [] = take-nil (suc b - suc a)
 part_is (suc a) (suc b) (x ∷ l) = let e : suc b - suc a ≡ b - a = omega arith in ap (λ n. take n (drop a l)) e ∙ part_is a b l
 
-module _ (g : Grid) (copy : Copy) (taken strips : ℕ) (r : Step) (inset-bounds placed : List Float) (tracks : List ℕ) where
+module _ (g : Grid) (copy : Copy) (taken strips : ℕ) (r : Step) (inset_bounds placed : List Float) (tracks : List ℕ) where
   abbrev Layout : Bool
   Layout = layout_fits r.totals.right r.totals.unplaced_area
 
   abbrev Tracks : Bool
-  Tracks = tracks_test g.bounds g.resolution taken copy.slot copy.orientations inset-bounds (next_columns tracks) (look_counts_from tracks)
+  Tracks = tracks_test g.bounds g.resolution taken copy.slot copy.orientations inset_bounds (next_columns tracks) (look_counts_from tracks)
 
   pub told-strips : {b : Bool} → b ≡ strips_fit (take (6 * r.totals.placed_strips - 6 * strips) (drop (6 * strips) placed))
       → b ≡ strips_fit (drop (6 * strips) (take (6 * r.totals.placed_strips) placed))
   told-strips e = e ∙ ap strips_fit (part_is (6 * strips) (6 * r.totals.placed_strips) placed)
 
   pub copy-strips : strips_fit (drop (6 * strips) (take (6 * r.totals.placed_strips) placed)) ≡ false
-      → copy_test g copy taken strips r inset-bounds placed tracks ≡ false
+      → copy_test g copy taken strips r inset_bounds placed tracks ≡ false
   unfolding copy_test
   copy-strips e = ap (λ b. b && (Layout && (Tracks && outcome_test r.outcome))) e
 
   module _ (a : strips_fit (drop (6 * strips) (take (6 * r.totals.placed_strips) placed)) ≡ true) where
     pub copy-layout : layout_fits r.totals.right r.totals.unplaced_area ≡ false
-        → copy_test g copy taken strips r inset-bounds placed tracks ≡ false
+        → copy_test g copy taken strips r inset_bounds placed tracks ≡ false
     unfolding copy_test
     copy-layout e = ap₂ (λ b c. b && (c && (Tracks && outcome_test r.outcome))) a e
 
     module _ (l : layout_fits r.totals.right r.totals.unplaced_area ≡ true) where
-      pub copy_tracks : tracks_test g.bounds g.resolution taken copy.slot copy.orientations inset-bounds (next_columns tracks) (look_counts_from tracks) ≡
+      pub copy_tracks : tracks_test g.bounds g.resolution taken copy.slot copy.orientations inset_bounds (next_columns tracks) (look_counts_from tracks) ≡
           false
-          → copy_test g copy taken strips r inset-bounds placed tracks ≡ false
+          → copy_test g copy taken strips r inset_bounds placed tracks ≡ false
       unfolding copy_test
       copy_tracks e =
           ap₂ (λ b c. b && (c && (Tracks && outcome_test r.outcome))) a l ∙ ap (λ b. b && outcome_test r.outcome) e
 
-      pub copy_outcome : tracks_test g.bounds g.resolution taken copy.slot copy.orientations inset-bounds (next_columns tracks) (look_counts_from tracks) ≡
+      pub copy_outcome : tracks_test g.bounds g.resolution taken copy.slot copy.orientations inset_bounds (next_columns tracks) (look_counts_from tracks) ≡
           true
-          → outcome_test r.outcome ≡ copy_test g copy taken strips r inset-bounds placed tracks
+          → outcome_test r.outcome ≡ copy_test g copy taken strips r inset_bounds placed tracks
       unfolding copy_test
       copy_outcome e =
           sym (ap₂ (λ b c. b && (c && (Tracks && outcome_test r.outcome))) a l ∙ ap (λ b. b && outcome_test r.outcome) e)

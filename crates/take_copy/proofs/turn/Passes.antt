@@ -25,8 +25,8 @@ use Rattle.take_copy.proofs.copy_tests.SameTest.{copy-test_is}
 
 module _ {j : Job} {b : Tables} {order rows : List ℕ} {areas whole : List Float} {g : Grid} {insets : List Float} {parts : List ℕ} {sheet : List Float}
     (B : Tabling b g insets parts whole sheet) {at : ℕ} (tracks : List ℕ) {t : Totals} {orientation : List ℕ} {x y gap shapes placed : List Float}
-    {sheet-entries entries sheet_firsts firsts sheet-starts starts : List ℕ}
-    (G : Going j (state_in b order at tracks t orientation x y gap) (rooms shapes whole placed sheet-entries entries sheet_firsts firsts) rows areas sheet-starts
+    {sheet_entries entries sheet_firsts firsts sheet_starts starts : List ℕ}
+    (G : Going j (state_in b order at tracks t orientation x y gap) (rooms shapes whole placed sheet_entries entries sheet_firsts firsts) rows areas sheet_starts
     starts) (Z : Sizes orientation x y gap) where
   below : (n : ℕ) → n ≡ 4096 → at < n
   below n e = let h = taken-few G in omega arith
@@ -36,12 +36,12 @@ module _ {j : Job} {b : Tables} {order rows : List ℕ} {areas whole : List Floa
       → orientation' ≡ written_at v orientation at (orientation_number r.outcome) → x' ≡ written_at v x at (outcome_x r.outcome)
       → y' ≡ written_at v y at (y_of r.outcome) → gap' ≡ written_at v gap at (gap_of r.outcome)
       → copy_test g q (at + 1) t.placed_strips r insets placed' tracks' ≡ copy_fits j at t.placed_strips
-      (state_in b order (at + 1) tracks' u orientation' x' y' gap') (rooms shapes whole placed' sheet-entries entries' sheet_firsts firsts')
+      (state_in b order (at + 1) tracks' u orientation' x' y' gap') (rooms shapes whole placed' sheet_entries entries' sheet_firsts firsts')
   turn_passes q f r u e v a tracks' orientation' x' y' gap' placed' entries' firsts' o p c d =
       ap (λ (g : Grid). copy_test g q (at + 1) t.placed_strips r insets placed' tracks') B.grid
-      ∙ (ap (λ (l : List Float). copy_test (grid_of b) q (at + 1) t.placed_strips r l placed' tracks') B.inset-bounds_are
+      ∙ (ap (λ (l : List Float). copy_test (grid_of b) q (at + 1) t.placed_strips r l placed' tracks') B.inset_bounds_are
       ∙ copy-test_is j (state_in b order (at + 1) tracks' u orientation' x' y' gap')
-      (rooms shapes whole placed' sheet-entries entries' sheet_firsts firsts') at t.placed_strips tracks' q r (listed G) (ap (λ (q : Copy). q.slot) f)
+      (rooms shapes whole placed' sheet_entries entries' sheet_firsts firsts') at t.placed_strips tracks' q r (listed G) (ap (λ (q : Copy). q.slot) f)
       (ap (λ (q : Copy). q.orientations) f ∙ sym (turns_are G)) (sym e)
       (record {
         number = at_place 0 orientation orientation' _ (below (length orientation) Z.orientations) o;

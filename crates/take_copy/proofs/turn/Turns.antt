@@ -37,7 +37,7 @@ use Rattle.filling_laws.proofs.Ready.{InDoubles, resolution_in, bounds_in, shape
 use Rattle.filling_laws.proofs.ReadyOrder.{most-turns}
 use Rattle.step.specs.declared.Stepped.{Stepped}
 use Rattle.step.specs.inner.Going.{rooms, Going, taken_of, answer_of, step_of}
-use Rattle.step.proofs.Allowed.{kind, listed, turns_are, kind-few, apart-within}
+use Rattle.step.proofs.Allowed.{kind, listed, turns_are, kind_few, apart-within}
 use Rattle.step.proofs.Allowed.{allowed_counts, allowed_fixed, allowed_standing, allowed_sheet_firsts, allowed_firsts}
 use Rattle.step.proofs.Kept.{place_kept}
 use Rattle.step.proofs.Steps.{refused_by_lem, code, code_of, written_by, step-answer}
@@ -57,23 +57,23 @@ sixteen k h = omega arith
 
 module _ {j : Job} {b : Tables} {order rows : List ℕ} {areas whole : List Float} {g : Grid} {insets : List Float} {parts : List ℕ} {sheet : List Float}
     (B : Tabling b g insets parts whole sheet) {at : ℕ} (tracks : List ℕ) {t : Totals} {orientation : List ℕ} {x y gap shapes placed : List Float}
-    {sheet-entries entries sheet_firsts firsts sheet-starts starts : List ℕ}
-    (G : Going j (state_in b order at tracks t orientation x y gap) (rooms shapes whole placed sheet-entries entries sheet_firsts firsts) rows areas sheet-starts
+    {sheet_entries entries sheet_firsts firsts sheet_starts starts : List ℕ}
+    (G : Going j (state_in b order at tracks t orientation x y gap) (rooms shapes whole placed sheet_entries entries sheet_firsts firsts) rows areas sheet_starts
     starts) where
   abbrev pub S : State
   S = state_in b order at tracks t orientation x y gap
 
   abbrev pub W : Rooms
-  W = rooms shapes whole placed sheet-entries entries sheet_firsts firsts
+  W = rooms shapes whole placed sheet_entries entries sheet_firsts firsts
 
   pub doubles : AllFit shapes → AllFit placed → InDoubles S W
   doubles a p =
       record {
         resolution = B.resolution-fits;
-        sheet-bounds = B.bounds-fit;
-        inset-bounds = B.insets-fit;
+        sheet_bounds = B.bounds-fit;
+        inset_bounds = B.insets_fit;
         shapes = a;
-        sheet = B.whole-fits;
+        sheet = B.whole_fits;
         placed = p;
       }
 
@@ -83,7 +83,7 @@ module _ {j : Job} {b : Tables} {order rows : List ℕ} {areas whole : List Floa
   -- ---- what placing the copy asks
   module _ (q : Copy) (f : q ≡ copy_of order rows areas at) where
     pub slot_room : q.slot + 16 ≤ 1024
-    slot_room = subst⁻¹ (λ (q : Copy). q.slot + 16 ≤ 1024) f (sixteen (kind G) (kind-few G))
+    slot_room = subst⁻¹ (λ (q : Copy). q.slot + 16 ≤ 1024) f (sixteen (kind G) (kind_few G))
 
     pub few-turns : q.orientations ≤ 16
     unfolding orientation_counts
@@ -95,15 +95,15 @@ module _ {j : Job} {b : Tables} {order rows : List ℕ} {areas whole : List Floa
     turn_counts D = allowed_counts G q f D (look_counts_from tracks) refl
 
     pub turn_fixed : InDoubles S W → (room : ℕ) (o : ℕ) → o < q.orientations
-        → Fixed g.index (surroundings_in room g insets parts shapes sheet (take (6 * t.placed_strips) placed)) sheet-entries sheet-starts (q.slot + o)
+        → Fixed g.index (surroundings_in room g insets parts shapes sheet (take (6 * t.placed_strips) placed)) sheet_entries sheet_starts (q.slot + o)
     turn_fixed D room o h =
-        subst⁻¹ (λ (l : List Float). Fixed g.index (surroundings_in room g l parts shapes sheet (take (6 * t.placed_strips) placed)) sheet-entries
-        sheet-starts (q.slot + o)) B.inset-bounds_are
+        subst⁻¹ (λ (l : List Float). Fixed g.index (surroundings_in room g l parts shapes sheet (take (6 * t.placed_strips) placed)) sheet_entries
+        sheet_starts (q.slot + o)) B.inset_bounds_are
         (subst⁻¹ (λ (l : List ℕ). Fixed g.index (surroundings_in room g b.inset_bounds l shapes sheet (take (6 * t.placed_strips) placed))
-        sheet-entries sheet-starts (q.slot + o)) B.parts_are
+        sheet_entries sheet_starts (q.slot + o)) B.parts_are
         (subst⁻¹ (λ (l : List Float). Fixed g.index (surroundings_in room g b.inset_bounds b.parts shapes l (take (6 * t.placed_strips) placed))
-        sheet-entries sheet-starts (q.slot + o)) B.sheet_is
-        (allowed_fixed G D B.bounds-long B.parts-long room (take (6 * t.placed_strips) placed) g B.grid q f o h)))
+        sheet_entries sheet_starts (q.slot + o)) B.sheet_is
+        (allowed_fixed G D B.bounds_long B.parts_long room (take (6 * t.placed_strips) placed) g B.grid q f o h)))
 
   pub turn_standing : InDoubles S W → Standing g.index placed t.placed_strips entries starts
   turn_standing D = allowed_standing G D g B.grid t refl
@@ -126,11 +126,11 @@ module _ {j : Job} {b : Tables} {order rows : List ℕ} {areas whole : List Floa
   turn_resolving D = subst⁻¹ (λ (g : Grid). Resolving g.resolution) B.grid (resolving (resolution_in j S W G.passes D))
 
   pub turn_long : 4096 ≤ length insets
-  turn_long = let a = B.bounds-long in let e : length insets ≡ length b.inset_bounds = ap length B.inset-bounds_are in omega arith
+  turn_long = let a = B.bounds_long in let e : length insets ≡ length b.inset_bounds = ap length B.inset_bounds_are in omega arith
 
   pub turn_shapes : InDoubles S W → (q : Copy) → q ≡ copy_of order rows areas at → (o : ℕ) → o < q.orientations → BoundedRect (bounds_at insets (q.slot + o))
   turn_shapes D q f =
-      subst⁻¹ (λ (l : List Float). (o : ℕ) → o < q.orientations → BoundedRect (bounds_at l (q.slot + o))) B.inset-bounds_are
+      subst⁻¹ (λ (l : List Float). (o : ℕ) → o < q.orientations → BoundedRect (bounds_at l (q.slot + o))) B.inset_bounds_are
       (subst⁻¹ (λ (q : Copy). (o : ℕ) → o < q.orientations → BoundedRect (bounds_at b.inset_bounds (q.slot + o))) f
       (λ o h. shape_bounds j S W G.passes D (kind G) (listed G) o (subst⁻¹ (λ (m : ℕ). o < m) (turns_are G) h)))
 
@@ -148,7 +148,7 @@ module _ {j : Job} {b : Tables} {order rows : List ℕ} {areas whole : List Floa
         → placed_in (length room / 2) insets parts sheet q ≡ Code
     code_now room e q f =
         ap (λ (n : ℕ). placed_in (n / 2) insets parts sheet q) (sym e)
-        ∙ (ap (λ (l : List Float). placed_in (length intervals / 2) l parts sheet q) B.inset-bounds_are
+        ∙ (ap (λ (l : List Float). placed_in (length intervals / 2) l parts sheet q) B.inset_bounds_are
         ∙ (ap (λ (l : List ℕ). placed_in (length intervals / 2) b.inset_bounds l sheet q) B.parts_are
         ∙ (ap (λ (l : List Float). placed_in (length intervals / 2) b.inset_bounds b.parts l q) B.sheet_is
         ∙ code_of G intervals counted g q t (look_counts_from tracks) (next_columns tracks) B.grid f refl refl refl)))
@@ -200,7 +200,7 @@ module _ {j : Job} {b : Tables} {order rows : List ℕ} {areas whole : List Floa
           → next_columns tracks' ≡ kept_of (verdict_of r.outcome) (next_columns tracks) (next_columns raw)
           → orientation' ≡ written_at v orientation at (orientation_number r.outcome) → x' ≡ written_at v x at (outcome_x r.outcome)
           → y' ≡ written_at v y at (y_of r.outcome) → gap' ≡ written_at v gap at (gap_of r.outcome)
-          → step_in v (After v) (rooms shapes whole placed' sheet-entries entries' sheet_firsts firsts') intervals ≡ core_step j S W intervals
+          → step_in v (After v) (rooms shapes whole placed' sheet_entries entries' sheet_firsts firsts') intervals ≡ core_step j S W intervals
       step_is placed' entries' starts' firsts' e F v f l n o a c d =
           step-answer G intervals counted r placed' entries' starts' raw firsts' e (written_by G intervals counted g B.grid _ _ _ F)
           (record { verdict = v; state = After v })
@@ -217,11 +217,11 @@ module _ {j : Job} {b : Tables} {order rows : List ℕ} {areas whole : List Floa
           → orientation' ≡ written_at v orientation at (orientation_number r.outcome) → x' ≡ written_at v x at (outcome_x r.outcome)
           → y' ≡ written_at v y at (y_of r.outcome) → gap' ≡ written_at v gap at (gap_of r.outcome)
           → step_in v (state_in b order (taken_after v at) tracks' u orientation' x' y' gap')
-          (rooms shapes whole placed' sheet-entries entries' sheet_firsts firsts')
+          (rooms shapes whole placed' sheet_entries entries' sheet_firsts firsts')
           intervals ≡ core_step j S W intervals
       turn_step u q placed' entries' starts' firsts' e F v f l n o a c d =
           ap (λ (u : Totals). step_in v (state_in b order (taken_after v at) tracks' u orientation' x' y' gap')
-          (rooms shapes whole placed' sheet-entries entries' sheet_firsts firsts') intervals) q
+          (rooms shapes whole placed' sheet_entries entries' sheet_firsts firsts') intervals) q
           ∙ step_is placed' entries' starts' firsts' e F v f l n o a c d
 
 -- ---- strips and first buckets with those totals

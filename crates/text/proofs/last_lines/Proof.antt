@@ -40,9 +40,9 @@ double-line-requires-3 c κs =
     let u : Wrote c13.args.out.now c13.args.at (line right_word (hex c13.args.right ∷ [])) c9.double-line.new.0
     c9.double-line.result = c9.double-line.ensures in
     let d = double-length right_word c13.args.right in
-    let v : Wrote c9.double-line.new.0 c9.double-line.result (line area_word (hex c13.args.unplaced-area ∷ [])) c4.double-line2.new.0
+    let v : Wrote c9.double-line.new.0 c9.double-line.result (line area_word (hex c13.args.unplaced_area ∷ [])) c4.double-line2.new.0
     c4.double-line2.result = c4.double-line2.ensures in
-    let e = double-length area_word c13.args.unplaced-area in
+    let e = double-length area_word c13.args.unplaced_area in
     omega arith
 
 same_length : tie.Need-same-length
@@ -57,18 +57,18 @@ returns c =
     let a = c16.args in
     let u : Wrote a.out.now a.at (line right_word (hex a.right ∷ [])) c12.double-line.new.0
     c12.double-line.result = c12.double-line.ensures in
-    let v : Wrote c12.double-line.new.0 c12.double-line.result (line area_word (hex a.unplaced-area ∷ [])) c7.double-line2.new.0
+    let v : Wrote c12.double-line.new.0 c12.double-line.result (line area_word (hex a.unplaced_area ∷ [])) c7.double-line2.new.0
     c7.double-line2.result = c7.double-line2.ensures in
     let w : Wrote c7.double-line2.new.0 c7.double-line2.result (line offcut_word (hex a.offcut ∷ [])) c2.double-line3.new.0
     c2.double-line3.result = c2.double-line3.ensures in (
-      λ p e f g. wrote-same (last_is p a.right a.unplaced-area a.offcut e f g) (wrote-both u (wrote-both v w)),
+      λ p e f g. wrote-same (last_is p a.right a.unplaced_area a.offcut e f g) (wrote-both u (wrote-both v w)),
       omega (
         arith,
         u.next,
         v.next,
         w.next,
         double-length right_word a.right,
-        double-length area_word a.unplaced-area,
+        double-length area_word a.unplaced_area,
         double-length offcut_word
             a.offcut,
       ),

@@ -137,7 +137,7 @@ returns c =
       unplaced_of = a.unplaced_of.now;
       look_counts = a.look_counts.now;
       right = a.right;
-      unplaced_area = a.unplaced-area;
+      unplaced_area = a.unplaced_area;
       offcut = a.offcut;
     } in
     let u : Wrote a.out.now 0 (line plan_word (decimal a.placed ∷ decimal a.unplaced ∷ decimal a.improvements ∷ [])) c22.triple-line.new.0

@@ -21,14 +21,14 @@ module _ (h : Header) (s c : ℕ) (bytes rows : List ℕ) (areas : List Float) (
   abbrev J : Job
   J = job_in h s c bytes rows areas places
 
-  pub kinds-few : h.kinds ≤ 64
-  kinds-few = let a = kinds_in h s c bytes rows areas places in let b = (sized bytes J e).kinds in omega arith
+  pub kinds_few : h.kinds ≤ 64
+  kinds_few = let a = kinds_in h s c bytes rows areas places in let b = (sized bytes J e).kinds in omega arith
 
   pub told : 256 ≤ length rows → 64 ≤ length areas → Tabled J rows areas × (length J.kinds ≡ h.kinds)
   told r a = (tabled h s c bytes rows areas places e r a, kinds_in h s c bytes rows areas places)
 
-  pub turns-few : 256 ≤ length rows → 64 ≤ length areas → (k : ℕ) → k < h.kinds → get_or rows (4 * k + 3) 0 ≤ 16
-  turns-few r a k l =
+  pub turns_few : 256 ≤ length rows → 64 ≤ length areas → (k : ℕ) → k < h.kinds → get_or rows (4 * k + 3) 0 ≤ 16
+  turns_few r a k l =
       let n = kinds_in h s c bytes rows areas places in
       subst (λ (m : ℕ). m ≤ 16) ((tabled h s c bytes rows areas places e r a).orientations k (omega arith)) (sixteen_get (sized bytes J e).turns k)
 

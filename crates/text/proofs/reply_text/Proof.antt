@@ -39,7 +39,7 @@ returns c =
             unplaced_of = a.unplaced_of.now;
             look_counts = a.look_counts.now;
             right = a.right;
-            unplaced_area = a.unplaced-area;
+            unplaced_area = a.unplaced_area;
             offcut = a.offcut;
           }) l (take c2.plan-text.result c2.plan-text.new.0) a.room.now e f (c2.plan-text.ensures.1 j areas t.0 t.1),
     )
@@ -63,7 +63,7 @@ returns-2 c =
             unplaced_of = a.unplaced_of.now;
             look_counts = a.look_counts.now;
             right = a.right;
-            unplaced_area = a.unplaced-area;
+            unplaced_area = a.unplaced_area;
             offcut = a.offcut;
           }) l
           (take c2.refusal-text.result c2.refusal-text.new.0) c5.verdict.given.0.0 c5.verdict.given.1 c2.refusal-text.ensures.1,

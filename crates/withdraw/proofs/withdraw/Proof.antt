@@ -53,7 +53,7 @@ returns c =
     let a = c24.args in
     let t = c15.read in
     let e = read_as _ t.result t.ensures.0 c12.answer.given.1 in
-    let w = rooms_of a.shapes.now a.sheet.now a.placed.now a.sheet-entries.now a.placed-entries.now a.sheet_firsts.now
+    let w = rooms_of a.shapes.now a.sheet.now a.placed.now a.sheet_entries.now a.placed_entries.now a.sheet_firsts.now
     a.placed_firsts.now in
     let o = opened _ _ _ a.bytes.now t.result.rows t.result.areas t.result.places e (le_of_eq (sym t.ensures.1))
     (le_of_eq (sym t.ensures.2)) in
@@ -64,7 +64,7 @@ returns-2 c =
     let c5 = c.before.before.before.before.before in
     let c14 = c5.before.before.before.before.before.before.before.before.before in
     let a = c14.args in
-    let w = rooms_of a.shapes.now a.sheet.now a.placed.now a.sheet-entries.now a.placed-entries.now a.sheet_firsts.now
+    let w = rooms_of a.shapes.now a.sheet.now a.placed.now a.sheet_entries.now a.placed_entries.now a.sheet_firsts.now
     a.placed_firsts.now in
     let e = read_as _ c5.read.result c5.read.ensures.0 c.before.before.answer2.given.1 in
     c.refuse.ensures w ∙ read-refused a.bytes.now _ a.state w a.place e

@@ -116,24 +116,24 @@ module _ {j : Job} {s : State} {w : Rooms} {n copies : ℕ} {placed : List Float
   pub few-copies : copies ≤ 4096
   few-copies = subst (λ (c : ℕ). c ≤ 4096) L.copies_are L.few
 
-  lie : numbers_lie (entries_for s.tables.sheet_bounds (placed_strips_of s w)) w.placed-entries ≡ true
+  lie : numbers_lie (entries_for s.tables.sheet_bounds (placed_strips_of s w)) w.placed_entries ≡ true
   unfolding entries_fit planner_at
-  lie = both_second (numbers_lie (entries_for s.tables.sheet_bounds P.sheet) w.sheet-entries) _ (tests_of j s w L.passes).entries
+  lie = both_second (numbers_lie (entries_for s.tables.sheet_bounds P.sheet) w.sheet_entries) _ (tests_of j s w L.passes).entries
 
   many : capacity (placed_strips_of s w) ≡ s.placed_strips
   unfolding capacity placed_strips_of
   many = let e = length-take-le (6 * s.placed_strips) w.placed (strips-within j s w L.passes).placed in omega arith
 
   -- the entries of all placed strips lie in their room
-  pub entries_fit : (ix : Index) → ix ≡ index_of s.tables.sheet_bounds.left s.tables.sheet_bounds.right
+  pub entries_fit_lem : (ix : Index) → ix ≡ index_of s.tables.sheet_bounds.left s.tables.sheet_bounds.right
       → length (entries_of ix (take (6 * s.placed_strips) placed) s.placed_strips) ≤ length entries
   unfolding entries_for sheet_index placed_strips_of
-  entries_fit ix e =
+  entries_fit_lem ix e =
       subst (λ (l : List ℕ). length (entries_of ix (take (6 * s.placed_strips) placed) s.placed_strips) ≤ length l) L.entries_is
-      (subst (λ (l : List Float). length (entries_of ix (take (6 * s.placed_strips) l) s.placed_strips) ≤ length w.placed-entries) L.placed_is
-      (subst (λ (i : Index). length (entries_of i (placed_strips_of s w) s.placed_strips) ≤ length w.placed-entries) (sym e)
+      (subst (λ (l : List Float). length (entries_of ix (take (6 * s.placed_strips) l) s.placed_strips) ≤ length w.placed_entries) L.placed_is
+      (subst (λ (i : Index). length (entries_of i (placed_strips_of s w) s.placed_strips) ≤ length w.placed_entries) (sym e)
       (subst (λ (m : ℕ). length (entries_of (index_of s.tables.sheet_bounds.left s.tables.sheet_bounds.right) (placed_strips_of s w) m)
-      ≤ length w.placed-entries) many (lies-long (entries_for s.tables.sheet_bounds (placed_strips_of s w)) w.placed-entries lie))))
+      ≤ length w.placed_entries) many (lies-long (entries_for s.tables.sheet_bounds (placed_strips_of s w)) w.placed_entries lie))))
 
   -- ---- the copy that goes
 
@@ -209,7 +209,7 @@ module _ {j : Job} {s : State} {w : Rooms} {n copies : ℕ} {placed : List Float
       rooms_same : (placed' : List Float) (entries' firsts' : List ℕ) → placed' ≡ laid (In placed) (zeros pos_zero placed)
           → entries' ≡ laid (entries_of ix (In placed) (capacity (In placed))) (zeros 0 entries)
           → firsts' ≡ laid (firsts_of ix (In placed) (capacity (In placed))) (zeros 0 firsts)
-          → rooms_of w.shapes w.sheet placed' w.sheet-entries entries' w.sheet_firsts firsts' ≡ rooms_without P w Left
+          → rooms_of w.shapes w.sheet placed' w.sheet_entries entries' w.sheet_firsts firsts' ≡ rooms_without P w Left
       unfolding rooms_without entries_for firsts_for sheet_index planner_at
       rooms_same placed' entries' firsts' p e f =
           let x = strips-left a k ea ek in
@@ -217,18 +217,18 @@ module _ {j : Job} {s : State} {w : Rooms} {n copies : ℕ} {placed : List Float
           x in
           let E1 = e ∙ ap₂ (λ (l : List Float) (r : List ℕ). laid (entries_of ix (In l) (capacity (In l))) (zeros 0 r)) (sym L.placed_is)
           (sym L.entries_is)
-          ∙ ap₂ (λ (i : Index) (l : List Float). laid (entries_of i l (capacity l)) (zeros 0 w.placed-entries)) ei x in
+          ∙ ap₂ (λ (i : Index) (l : List Float). laid (entries_of i l (capacity l)) (zeros 0 w.placed_entries)) ei x in
           let F1 = f ∙ ap₂ (λ (l : List Float) (r : List ℕ). laid (firsts_of ix (In l) (capacity (In l))) (zeros 0 r)) (sym L.placed_is) (sym L.firsts_is)
           ∙ ap₂ (λ (i : Index) (l : List Float). laid (firsts_of i l (capacity l)) (zeros 0 w.placed_firsts)) ei x in
-          ap₂ (λ (l : List Float) (m : List ℕ). rooms_of w.shapes w.sheet l w.sheet-entries m w.sheet_firsts firsts') P1 E1
-          ∙ ap (rooms_of w.shapes w.sheet _ w.sheet-entries _ w.sheet_firsts) F1
+          ap₂ (λ (l : List Float) (m : List ℕ). rooms_of w.shapes w.sheet l w.sheet_entries m w.sheet_firsts firsts') P1 E1
+          ∙ ap (rooms_of w.shapes w.sheet _ w.sheet_entries _ w.sheet_firsts) F1
 
       -- the reply is the definition's
       pub leaves : (r : State) (right : Float) (placed' : List Float) (entries' firsts' : List ℕ) → right ≡ right_found s n → r ≡ state_left s n copies k right
           → placed' ≡ laid (In placed) (zeros pos_zero placed)
           → entries' ≡ laid (entries_of ix (In placed) (capacity (In placed))) (zeros 0 entries)
           → firsts' ≡ laid (firsts_of ix (In placed) (capacity (In placed))) (zeros 0 firsts)
-          → taken r (rooms_of w.shapes w.sheet placed' w.sheet-entries entries' w.sheet_firsts firsts') ≡ withdrawn j P s w n (standing_here s n)
+          → taken r (rooms_of w.shapes w.sheet placed' w.sheet_entries entries' w.sheet_firsts firsts') ≡ withdrawn j P s w n (standing_here s n)
       unfolding withdrawn
       leaves r right placed' entries' firsts' er es p e f =
           ap₂ taken (es ∙ state-same right er) (rooms_same placed' entries' firsts' p e f) ∙ sym (ap (withdrawn j P s w n) here)

@@ -106,13 +106,13 @@ module _ (j : Job) (s : State) (w : Rooms) (sized : (k : ℕ) → k < length (or
 
   -- ---- their strips
 
-  apart-count : (k o : ℕ) → o < get_or (orientation_counts j) k 0 → capacity (shape_at s.tables w.shapes (16 * k + o)).apart ≡ strips_at s.tables.parts k
+  apart_count : (k o : ℕ) → o < get_or (orientation_counts j) k 0 → capacity (shape_at s.tables w.shapes (16 * k + o)).apart ≡ strips_at s.tables.parts k
       (suc o)
   unfolding shape_at strips_at States.part_at part_at part_fits
-  apart-count k o h =
+  apart_count k o h =
       let q = States.part_at s.tables.parts (16 * k + o) in
-      part-capacity (apart_room s.tables w.shapes) q.apart-start q.apart-count
-      (both_first (leb (q.apart-start + q.apart-count) (capacity (apart_room s.tables w.shapes))) _
+      part-capacity (apart_room s.tables w.shapes) q.apart_start q.apart_count
+      (both_first (leb (q.apart_start + q.apart_count) (capacity (apart_room s.tables w.shapes))) _
       (slots-every (part_fits (capacity (apart_room s.tables w.shapes)) (capacity (inset_room s.tables w.shapes))) (States.part_at s.tables.parts)
       (orientation_counts j) (unfold parts_fit in parted) k (row_exists (orientation_counts j) k o h) o h))
 
@@ -122,7 +122,7 @@ module _ (j : Job) (s : State) (w : Rooms) (sized : (k : ℕ) → k < length (or
   unfolding copy_at copy_strips
   here-count i h o e x y g =
       let t = turn i o h e in
-      moved-capacity (shape_of P (Kind i) o).apart x y ∙ ap (λ (p : Shape). capacity p.apart) (shape_is j s w (Kind i) o t) ∙ apart-count (Kind i) o t
+      moved-capacity (shape_of P (Kind i) o).apart x y ∙ ap (λ (p : Shape). capacity p.apart) (shape_is j s w (Kind i) o t) ∙ apart_count (Kind i) o t
 
   place-count : (i : ℕ) → i < s.taken → (n : ℕ) → Number i ≡ n → capacity (standing_strips P (stands_at s i n)) ≡ strips_at s.tables.parts (Kind i) n
   unfolding stands_at standing_strips flat_map strips_at capacity

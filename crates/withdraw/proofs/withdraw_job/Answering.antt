@@ -76,7 +76,7 @@ module _ (j : Job) (s : State) (w : Rooms) (n : ℕ) where
   stands-none e f = withdraw-consistent j s w n e ∙ none_is (standing_here s n) f
 
   pub leaving : {rows : List ℕ} {areas : List Float} {kinds copies : ℕ} → Opened j rows areas kinds copies → consistent j s w ≡ true
-      → not (none_stands (standing_here s n)) ≡ true → Leaving j s w n copies w.placed w.placed-entries w.placed_firsts
+      → not (none_stands (standing_here s n)) ≡ true → Leaving j s w n copies w.placed w.placed_entries w.placed_firsts
   leaving O e f =
       let t = standing s n f in
       record {

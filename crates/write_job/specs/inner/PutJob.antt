@@ -36,6 +36,6 @@ pub record Fielded (g : Header) (counts : List ℕ) (coordinates : List Float) (
 
 -- the job's fields are put, or their refusal is answered
 pub data PutJob (t : Taken Job) (g : Header) (counts : List ℕ) (coordinates : List Float) (out : List ℕ) : JobPut → List ℕ → Type 0 where
-  went-job : {p : BitWriter} {copies : ℕ} {after : List ℕ} (j : Job) (c x : ℕ) → t ≡ ok j c x → Fielded g counts coordinates out p copies after j
+  went_job : {p : BitWriter} {copies : ℕ} {after : List ℕ} (j : Job) (c x : ℕ) → t ≡ ok j c x → Fielded g counts coordinates out p copies after j
       → PutJob t g counts coordinates out (Fields p copies) after
-  stopped-job : {k : Refusal} {after : List ℕ} → t ≡ bad k → length after ≡ length out → PutJob t g counts coordinates out (NoFields k) after
+  stopped_job : {k : Refusal} {after : List ℕ} → t ≡ bad k → length after ≡ length out → PutJob t g counts coordinates out (NoFields k) after

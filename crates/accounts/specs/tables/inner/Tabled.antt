@@ -10,7 +10,7 @@ use Rattle.filling.specs.State.{orientation_counts}
 pub record Tabled (j : Job) (rows : List ℕ) (areas : List Float) : Type 0 where
   pub few : length j.kinds ≤ 64
   pub rows_long : 256 ≤ length rows
-  pub areas-long : 64 ≤ length areas
+  pub areas_long : 64 ≤ length areas
   pub quantity : (k : ℕ) → k < length j.kinds → slice_index (map (λ a. a.quantity) j.kinds) k ≡ slice_index rows (4 * k)
   pub fill : (k : ℕ) → k < length j.kinds → slice_index_or (map (λ a. a.fill) j.kinds) k false ≡ (slice_index rows (4 * k + 1) == 1)
   pub priority : (k : ℕ) → k < length j.kinds → slice_index_or (map (λ a. a.priority) j.kinds) k (pos 0) ≡ signed (slice_index rows (4 * k + 2))

@@ -12,7 +12,7 @@ mul-end : tie.Need-overflow-mul-end
 mul-end c = search rules
 
 slice-aggregate-slots-fit : tie.Need-slice-aggregate-slots-fit
-slice-aggregate-slots-fit c = sym (length-take-le (6 * c.before.before.before.before.before.before.before.args.apart-strips) c.before.before.before.before.before.before.before.args.shapes.now c.before.before.before.before.before.before.before.requires.1)
+slice-aggregate-slots-fit c = sym (length-take-le (6 * c.before.before.before.before.before.before.before.args.apart_strips) c.before.before.before.before.before.before.before.args.shapes.now c.before.before.before.before.before.before.before.requires.1)
 
 mul-slots-fit : tie.Need-overflow-mul-slots-fit
 mul-slots-fit c = search rules
@@ -31,7 +31,7 @@ slots-fit-requires c κs = search rules
 
 returns : tie.Need-returns
 returns c = let a = c.before.before.before.before.before.before.before.before.before.args in
-    slots-rest a.bounds a.resolution a.taken a.inset-bounds.now a.parts.now (take (6 * a.apart-strips) a.shapes.now) (6 * a.apart-strips) a.shapes.now a.next-column.now a.look_counts.now a.rows.now a.kinds c.slots-fit.ensures
+    slots-rest a.bounds a.resolution a.taken a.inset_bounds.now a.parts.now (take (6 * a.apart_strips) a.shapes.now) (6 * a.apart_strips) a.shapes.now a.next_column.now a.look_counts.now a.rows.now a.kinds c.slots-fit.ensures
 
 pub shapes-fit-spec : {M : Type 1} → statement M
 shapes-fit-spec =

@@ -19,7 +19,7 @@ returns : tie.Need-returns
 returns c =
     let c13 = c.before.before.before.before.before.before.before.before.before.before.before.before.before in
     let a = c13.args in (
-      sym (standing-sheet a.bounds a.sheet.now a.placed.now a.sheet-entries.now a.placed-entries.now a.sheet_firsts.now
+      sym (standing-sheet a.bounds a.sheet.now a.placed.now a.sheet_entries.now a.placed_entries.now a.sheet_firsts.now
           a.placed_firsts.now (failed c.before.before.before.strip-room-fits.ensures.0 c.if1.true)),
       never,
     )
@@ -43,7 +43,7 @@ returns-2 c =
     let s = c7.strip-room-fits.ensures in
     let n = c.before.before.before.before.if1.false in
     let p = c.before.before.strip-room-fits2.ensures in (
-      p.0 ∙ standing-placed a.bounds a.sheet.now a.placed.now a.sheet-entries.now a.placed-entries.now a.sheet_firsts.now
+      p.0 ∙ standing-placed a.bounds a.sheet.now a.placed.now a.sheet_entries.now a.placed_entries.now a.sheet_firsts.now
           a.placed_firsts.now (passed s.0 n),
       λ e. ((s.1 (not-false _ n)).0, (p.1 e).0, (s.1 (not-false _ n)).1, (p.1 e).1),
     )

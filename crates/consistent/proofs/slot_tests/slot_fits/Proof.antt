@@ -24,10 +24,10 @@ part-fits-requires c κs = search rules
 returns : tie.Need-returns
 returns c =
     let c11 = c.before.before.before.before.before.before.before.before.before.before.before in
-    sym (slot_part (slots c11.args.bounds c11.args.resolution c11.args.taken c11.args.inset-bounds.now c11.args.parts.now
-    c11.args.apart.now c11.args.inset.now c11.args.next-column.now c11.args.look_counts.now) c11.args.slot
-    (failed (told_part (slots c11.args.bounds c11.args.resolution c11.args.taken c11.args.inset-bounds.now c11.args.parts.now
-    c11.args.apart.now c11.args.inset.now c11.args.next-column.now c11.args.look_counts.now) c11.args.slot
+    sym (slot_part (slots c11.args.bounds c11.args.resolution c11.args.taken c11.args.inset_bounds.now c11.args.parts.now
+    c11.args.apart.now c11.args.inset.now c11.args.next_column.now c11.args.look_counts.now) c11.args.slot
+    (failed (told_part (slots c11.args.bounds c11.args.resolution c11.args.taken c11.args.inset_bounds.now c11.args.parts.now
+    c11.args.apart.now c11.args.inset.now c11.args.next_column.now c11.args.look_counts.now) c11.args.slot
     c.before.before.before.capacity.ensures c.before.before.capacity2.ensures c.before.before.before.before.part_at.ensures
     c.before.part-fits.ensures) c.if1.true))
 
@@ -41,14 +41,14 @@ returns-2 : tie.Need-returns-2
 returns-2 c =
     let c7 = c.before.before.before.before.before.before.before in
     let c14 = c7.before.before.before.before.before.before.before in
-    sym (slot_shape_lem (slots c14.args.bounds c14.args.resolution c14.args.taken c14.args.inset-bounds.now c14.args.parts.now
-    c14.args.apart.now c14.args.inset.now c14.args.next-column.now c14.args.look_counts.now) c14.args.slot
-    (passed (told_part (slots c14.args.bounds c14.args.resolution c14.args.taken c14.args.inset-bounds.now c14.args.parts.now
-    c14.args.apart.now c14.args.inset.now c14.args.next-column.now c14.args.look_counts.now) c14.args.slot
+    sym (slot_shape_lem (slots c14.args.bounds c14.args.resolution c14.args.taken c14.args.inset_bounds.now c14.args.parts.now
+    c14.args.apart.now c14.args.inset.now c14.args.next_column.now c14.args.look_counts.now) c14.args.slot
+    (passed (told_part (slots c14.args.bounds c14.args.resolution c14.args.taken c14.args.inset_bounds.now c14.args.parts.now
+    c14.args.apart.now c14.args.inset.now c14.args.next_column.now c14.args.look_counts.now) c14.args.slot
     c.before.before.before.before.before.before.capacity.ensures c.before.before.before.before.before.capacity2.ensures
     c7.part_at.ensures c.before.before.before.before.part-fits.ensures) c.before.before.before.if1.false)
-    (failed (told_shape (slots c14.args.bounds c14.args.resolution c14.args.taken c14.args.inset-bounds.now c14.args.parts.now
-    c14.args.apart.now c14.args.inset.now c14.args.next-column.now c14.args.look_counts.now) c14.args.slot c7.part_at.ensures
+    (failed (told_shape (slots c14.args.bounds c14.args.resolution c14.args.taken c14.args.inset_bounds.now c14.args.parts.now
+    c14.args.apart.now c14.args.inset.now c14.args.next_column.now c14.args.look_counts.now) c14.args.slot c7.part_at.ensures
     c.before.before.bounds_at_lem.ensures c.before.shape_fits_lem.ensures.0) c.if2.true))
 
 new-requires : tie.Need-new-requires
@@ -60,7 +60,7 @@ mul-track-fits c = search rules
 shared-slice-read-track-fits : tie.Need-shared-slice-read-track-fits
 shared-slice-read-track-fits c =
     let c16 = c.before.before.before.before.before.before.before.before.before.before.before.before.before.before.before.before in
-    let z = c16.requires.0.next-long in let y = c16.requires.1 in omega arith
+    let z = c16.requires.0.next_long in let y = c16.requires.1 in omega arith
 
 mul-track-fits-2 : tie.Need-overflow-mul-track-fits-2
 mul-track-fits-2 c = search rules
@@ -69,14 +69,14 @@ shared-slice-read-track-fits-2 : tie.Need-shared-slice-read-track-fits-2
 shared-slice-read-track-fits-2 c =
     let c16 = c.before.before.before.before.before.before.before.before.before.before.before.before.before.before.before.before in
     let c17 = c16.before in
-    let z = c17.requires.0.looks-long in let y = c17.requires.1 in omega arith
+    let z = c17.requires.0.looks_long in let y = c17.requires.1 in omega arith
 
 track-fits-requires : tie.Need-track-fits-requires
 track-fits-requires c κs =
     let c16 = c.before.before.before.before.before.before.before.before.before.before.before.before.before.before.before.before in
     let c17 = c16.before in (
-      told-few (slots c17.args.bounds c17.args.resolution c17.args.taken c17.args.inset-bounds.now c17.args.parts.now
-          c17.args.apart.now c17.args.inset.now c17.args.next-column.now c17.args.look_counts.now) c17.args.slot
+      told-few (slots c17.args.bounds c17.args.resolution c17.args.taken c17.args.inset_bounds.now c17.args.parts.now
+          c17.args.apart.now c17.args.inset.now c17.args.next_column.now c17.args.look_counts.now) c17.args.slot
           c.before.before.before.before.before.bounds_at_lem.ensures c.before.before.new.ensures c17.requires.0
           (c.before.before.before.before.shape_fits_lem.ensures.1 (not-false _ c.before.before.before.if2.false)),
       c17.requires.0.few,
@@ -91,16 +91,16 @@ returns-3 c =
     let c10 = c9.before in
     let c11 = c10.before in
     let c18 = c11.before.before.before.before.before.before.before in
-    told_track (slots c18.args.bounds c18.args.resolution c18.args.taken c18.args.inset-bounds.now c18.args.parts.now
-    c18.args.apart.now c18.args.inset.now c18.args.next-column.now c18.args.look_counts.now) c18.args.slot c6.bounds_at_lem.ensures
+    told_track (slots c18.args.bounds c18.args.resolution c18.args.taken c18.args.inset_bounds.now c18.args.parts.now
+    c18.args.apart.now c18.args.inset.now c18.args.next_column.now c18.args.look_counts.now) c18.args.slot c6.bounds_at_lem.ensures
     c.before.before.before.new.ensures c.track-fits.ensures ∙ slot_track
-    (slots c18.args.bounds c18.args.resolution c18.args.taken c18.args.inset-bounds.now c18.args.parts.now c18.args.apart.now
-    c18.args.inset.now c18.args.next-column.now c18.args.look_counts.now) c18.args.slot
-    (passed (told_part (slots c18.args.bounds c18.args.resolution c18.args.taken c18.args.inset-bounds.now c18.args.parts.now
-    c18.args.apart.now c18.args.inset.now c18.args.next-column.now c18.args.look_counts.now) c18.args.slot c10.capacity.ensures
+    (slots c18.args.bounds c18.args.resolution c18.args.taken c18.args.inset_bounds.now c18.args.parts.now c18.args.apart.now
+    c18.args.inset.now c18.args.next_column.now c18.args.look_counts.now) c18.args.slot
+    (passed (told_part (slots c18.args.bounds c18.args.resolution c18.args.taken c18.args.inset_bounds.now c18.args.parts.now
+    c18.args.apart.now c18.args.inset.now c18.args.next_column.now c18.args.look_counts.now) c18.args.slot c10.capacity.ensures
     c9.capacity2.ensures c11.part_at.ensures c8.part-fits.ensures) c7.if1.false)
-    (passed (told_shape (slots c18.args.bounds c18.args.resolution c18.args.taken c18.args.inset-bounds.now c18.args.parts.now
-    c18.args.apart.now c18.args.inset.now c18.args.next-column.now c18.args.look_counts.now) c18.args.slot c11.part_at.ensures
+    (passed (told_shape (slots c18.args.bounds c18.args.resolution c18.args.taken c18.args.inset_bounds.now c18.args.parts.now
+    c18.args.apart.now c18.args.inset.now c18.args.next_column.now c18.args.look_counts.now) c18.args.slot c11.part_at.ensures
     c6.bounds_at_lem.ensures c.before.before.before.before.before.shape_fits_lem.ensures.0) c.before.before.before.before.if2.false)
 
 pub slot-fits-spec : {M : Type 1} → statement M

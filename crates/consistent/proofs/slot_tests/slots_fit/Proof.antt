@@ -12,19 +12,19 @@ use Rattle.consistent.proofs.slot_tests.slots_fit.Statement.{statement}
 use Rattle.consistent.proofs.slot_tests.slots_fit.Tie as tie
 
 abbrev invariant-loop : tie.invariant-loop
-invariant-loop bounds resolution taken rows kinds inset-bounds parts apart inset next-column look_counts k₀ k = every
-    (λ q. kind_test (slots bounds resolution taken inset-bounds parts apart inset next-column look_counts) (16 * q) (get_or (rows) (4 * q + 3) 0))
-    (up_from (kinds - k) k) ≡ every (λ q. kind_test (slots bounds resolution taken inset-bounds parts apart inset next-column look_counts) (16 * q)
+invariant-loop bounds resolution taken rows kinds inset_bounds parts apart inset next_column look_counts k₀ k = every
+    (λ q. kind_test (slots bounds resolution taken inset_bounds parts apart inset next_column look_counts) (16 * q) (get_or (rows) (4 * q + 3) 0))
+    (up_from (kinds - k) k) ≡ every (λ q. kind_test (slots bounds resolution taken inset_bounds parts apart inset next_column look_counts) (16 * q)
     (get_or (rows) (4 * q + 3) 0)) (up_from kinds 0)
 
 abbrev decreases-loop : tie.decreases-loop
-decreases-loop bounds resolution taken rows kinds inset-bounds parts apart inset next-column look_counts k₀ k = kinds - k
+decreases-loop bounds resolution taken rows kinds inset_bounds parts apart inset next_column look_counts k₀ k = kinds - k
 
 loop-holds : tie.Need-loop-init invariant-loop decreases-loop
 loop-holds c =
     let c7 = c.before.before.before.before.before.before.before in
-    ap (λ m. every (λ q. kind_test (slots c7.args.bounds c7.args.resolution c7.args.taken c7.args.inset-bounds.now c7.args.parts.now
-    c7.args.apart.now c7.args.inset.now c7.args.next-column.now c7.args.look_counts.now) (16 * q)
+    ap (λ m. every (λ q. kind_test (slots c7.args.bounds c7.args.resolution c7.args.taken c7.args.inset_bounds.now c7.args.parts.now
+    c7.args.apart.now c7.args.inset.now c7.args.next_column.now c7.args.look_counts.now) (16 * q)
     (get_or c7.args.rows.now (4 * q + 3) 0)) (up_from m 0)) (sub-zero c7.args.kinds)
 
 mul-n : tie.Need-overflow-mul-n invariant-loop decreases-loop
@@ -57,8 +57,8 @@ loop-again : tie.Need-loop-preserved invariant-loop decreases-loop
 loop-again c =
     let c4 = c.before.before.before.before in
     let c12 = c4.before.before.before.before.before.before.before.before in
-    sym (every_on (λ q. kind_test (slots c12.args.bounds c12.args.resolution c12.args.taken c12.args.inset-bounds.now c12.args.parts.now
-    c12.args.apart.now c12.args.inset.now c12.args.next-column.now c12.args.look_counts.now) (16 * q)
+    sym (every_on (λ q. kind_test (slots c12.args.bounds c12.args.resolution c12.args.taken c12.args.inset_bounds.now c12.args.parts.now
+    c12.args.apart.now c12.args.inset.now c12.args.next_column.now c12.args.look_counts.now) (16 * q)
     (get_or c12.args.rows.now (4 * q + 3) 0)) c12.args.kinds c4.loop.k c.before.before.before.loop-test.true
     (sym c.before.kind-fits.ensures ∙ c.if1.true)) ∙ c4.loop.invariant
 
@@ -67,8 +67,8 @@ unfolding slots_test
 returns c =
     let c4 = c.before.before.before.before in
     let c12 = c4.before.before.before.before.before.before.before.before in
-    sym (sym c4.loop.invariant ∙ every-not (λ q. kind_test (slots c12.args.bounds c12.args.resolution c12.args.taken c12.args.inset-bounds.now
-    c12.args.parts.now c12.args.apart.now c12.args.inset.now c12.args.next-column.now c12.args.look_counts.now) (16 * q)
+    sym (sym c4.loop.invariant ∙ every-not (λ q. kind_test (slots c12.args.bounds c12.args.resolution c12.args.taken c12.args.inset_bounds.now
+    c12.args.parts.now c12.args.apart.now c12.args.inset.now c12.args.next_column.now c12.args.look_counts.now) (16 * q)
     (get_or c12.args.rows.now (4 * q + 3) 0)) c12.args.kinds c4.loop.k c.before.before.before.loop-test.true
     (sym c.before.kind-fits.ensures ∙ c.if1.false))
 
@@ -77,8 +77,8 @@ unfolding slots_test
 returns-2 c =
     let c1 = c.before in
     let c9 = c1.before.before.before.before.before.before.before.before in
-    sym (sym c1.loop.invariant ∙ every-end (λ q. kind_test (slots c9.args.bounds c9.args.resolution c9.args.taken c9.args.inset-bounds.now
-    c9.args.parts.now c9.args.apart.now c9.args.inset.now c9.args.next-column.now c9.args.look_counts.now) (16 * q)
+    sym (sym c1.loop.invariant ∙ every-end (λ q. kind_test (slots c9.args.bounds c9.args.resolution c9.args.taken c9.args.inset_bounds.now
+    c9.args.parts.now c9.args.apart.now c9.args.inset.now c9.args.next_column.now c9.args.look_counts.now) (16 * q)
     (get_or c9.args.rows.now (4 * q + 3) 0)) c9.args.kinds c1.loop.k c.loop-test.false)
 
 pub slots-fit-spec : {M : Type 1} → statement M

@@ -16,7 +16,7 @@ pub record Slots : Type 0 where
   pub bounds : Rect
   pub resolution : Float
   pub taken : ℕ
-  pub inset-bounds : List Float
+  pub inset_bounds : List Float
   pub parts : List ℕ
   pub apart : List Float
   pub inset : List Float
@@ -24,12 +24,12 @@ pub record Slots : Type 0 where
   pub looks : List ℕ
 
 abbrev pub slots : Rect → Float → ℕ → List Float → List ℕ → List Float → List Float → List ℕ → List ℕ → Slots
-slots bounds resolution taken inset-bounds parts apart inset next looks =
+slots bounds resolution taken inset_bounds parts apart inset next looks =
     record {
       bounds = bounds;
       resolution = resolution;
       taken = taken;
-      inset-bounds = inset-bounds;
+      inset_bounds = inset_bounds;
       parts = parts;
       apart = apart;
       inset = inset;
@@ -54,7 +54,7 @@ shape_test q b apart inset = strips_fit (apart_part q apart) && (strips_fit (ins
 unfoldable pub slot_test : Slots → ℕ → Bool
 slot_test w i =
     let q = part_at w.parts i in
-    let b = bounds_at w.inset-bounds i in
+    let b = bounds_at w.inset_bounds i in
     part_test (capacity w.apart) (capacity w.inset) q
     && (shape_test q b w.apart w.inset
     && track_test w.taken (last_for (columns_of w.bounds b w.resolution)) (get_or w.next i 0) (get_or w.looks i 0))
@@ -73,7 +73,7 @@ pub record Given (w : Slots) : Type 0 where
   pub bounded : BoundedRect w.bounds
   pub resolving : Resolving w.resolution
   pub few : w.taken ≤ 4096
-  pub bounds-long : 4096 ≤ length w.inset-bounds
-  pub parts-long : 4096 ≤ length w.parts
-  pub next-long : 1024 ≤ length w.next
-  pub looks-long : 1024 ≤ length w.looks
+  pub bounds_long : 4096 ≤ length w.inset_bounds
+  pub parts_long : 4096 ≤ length w.parts
+  pub next_long : 1024 ≤ length w.next
+  pub looks_long : 1024 ≤ length w.looks

@@ -29,36 +29,36 @@ pub record Given : Type 0 where
   pub resolution : Float
   pub rows : List ℕ
   pub areas : List Float
-  pub inset-bounds : List Float
+  pub inset_bounds : List Float
   pub parts : List ℕ
   pub apart : List Float
   pub inset : List Float
   pub sheet : List Float
-  pub sheet-entries : List ℕ
-  pub sheet-starts : List ℕ
+  pub sheet_entries : List ℕ
+  pub sheet_starts : List ℕ
 
 abbrev pub given : Index → Rect → Float → List ℕ → List Float → List Float → List ℕ → List Float → List Float → List Float → List ℕ → List ℕ → Given
-given ix bounds resolution rows areas inset-bounds parts apart inset sheet sheet-entries sheet-starts =
+given ix bounds resolution rows areas inset_bounds parts apart inset sheet sheet_entries sheet_starts =
     record {
       index = ix;
       bounds = bounds;
       resolution = resolution;
       rows = rows;
       areas = areas;
-      inset-bounds = inset-bounds;
+      inset_bounds = inset_bounds;
       parts = parts;
       apart = apart;
       inset = inset;
       sheet = sheet;
-      sheet-entries = sheet-entries;
-      sheet-starts = sheet-starts;
+      sheet_entries = sheet_entries;
+      sheet_starts = sheet_starts;
     }
 
 -- the same with the apart strips at the beginning of the shapes room and the inset strips after them
 abbrev pub given_in : Grid → List ℕ → List Float → List Float → List ℕ → List Float → List Float → List ℕ → List ℕ → Given
-given_in g rows areas inset-bounds parts shapes sheet sheet-entries sheet-starts =
-    given g.index g.bounds g.resolution rows areas inset-bounds parts (take (6 * g.apart_strips) shapes) (drop (6 * g.apart_strips) shapes)
-    sheet sheet-entries sheet-starts
+given_in g rows areas inset_bounds parts shapes sheet sheet_entries sheet_starts =
+    given g.index g.bounds g.resolution rows areas inset_bounds parts (take (6 * g.apart_strips) shapes) (drop (6 * g.apart_strips) shapes)
+    sheet sheet_entries sheet_starts
 
 -- it is the job's, in rooms as a start leaves them
 pub record Prepared (j : Job) (g : Given) : Type 0 where
@@ -70,13 +70,13 @@ pub record Prepared (j : Job) (g : Given) : Type 0 where
   pub index : g.index ≡ sheet_index (planner_of j).bounds
   pub bounds : g.bounds ≡ (planner_of j).bounds
   pub resolution : g.resolution ≡ (planner_of j).resolution
-  pub inset-bounds : g.inset-bounds ≡ (tables_of (planner_of j)).inset_bounds
+  pub inset_bounds : g.inset_bounds ≡ (tables_of (planner_of j)).inset_bounds
   pub parts : g.parts ≡ (tables_of (planner_of j)).parts
   pub apart : g.apart ≡ apart_room (tables_of (planner_of j)) (first_rooms (planner_of j) lent).shapes
   pub inset : g.inset ≡ inset_room (tables_of (planner_of j)) (first_rooms (planner_of j) lent).shapes
   pub sheet : g.sheet ≡ take (6 * (tables_of (planner_of j)).sheet_strips) (first_rooms (planner_of j) lent).sheet
-  pub sheet-entries : g.sheet-entries ≡ (first_rooms (planner_of j) lent).sheet-entries
-  pub sheet-laid : Laid g.index g.sheet (capacity g.sheet) g.sheet-entries g.sheet-starts
+  pub sheet_entries : g.sheet_entries ≡ (first_rooms (planner_of j) lent).sheet_entries
+  pub sheet_laid : Laid g.index g.sheet (capacity g.sheet) g.sheet_entries g.sheet_starts
 
 -- the sheet's numbers are its strips' first buckets
 abbrev pub SheetFirsts : Given → List ℕ → Type 0
@@ -109,8 +109,8 @@ rooms_by p lent placed entries firsts =
       shapes = (first_rooms p lent).shapes;
       sheet = (first_rooms p lent).sheet;
       placed = placed;
-      sheet-entries = (first_rooms p lent).sheet-entries;
-      placed-entries = entries;
+      sheet_entries = (first_rooms p lent).sheet_entries;
+      placed_entries = entries;
       sheet_firsts = (first_rooms p lent).sheet_firsts;
       placed_firsts = firsts;
     }

@@ -123,12 +123,12 @@ same-length-3 c =
 same-length-4 : tie.Need-same-length-4
 same-length-4 c =
     let c12 = c.before.before.before.before.before.before.before.before.before.before.before.before in
-    search c12.sheet-entries.given
+    search c12.sheet_entries.given
 
 same-length-5 : tie.Need-same-length-5
 same-length-5 c =
     let c10 = c.before.before.before.before.before.before.before.before.before.before in
-    search c10.placed-entries.given
+    search c10.placed_entries.given
 
 same-length-6 : tie.Need-same-length-6
 same-length-6 c =

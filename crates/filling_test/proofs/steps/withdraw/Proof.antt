@@ -72,7 +72,7 @@ same_length : tie.Need-same-length
 same_length c = search c.before.before.before.before.before.before.placed.given
 
 same-length-2 : tie.Need-same-length-2
-same-length-2 c = search c.before.before.before.before.placed-entries.given
+same-length-2 c = search c.before.before.before.before.placed_entries.given
 
 same-length-3 : tie.Need-same-length-3
 same-length-3 c = search c.before.before.placed_firsts.given

@@ -23,7 +23,7 @@ agree-requires c κs =
     let a = c15.args in
     let p = c15.requires.0 in
     let n = numbers p.0 a.rows.now a.areas.now a.kinds a.copies p.1 in
-    (n.kinds-few, n.rows_long, n.turns-few, n.copies-few, length-replicate {A = ℕ} 513 0, length-replicate {A = ℕ} 513 0)
+    (n.kinds_few, n.rows_long, n.turns_few, n.copies_few, length-replicate {A = ℕ} 513 0, length-replicate {A = ℕ} 513 0)
 
 sub-fewer : tie.Need-overflow-sub-fewer
 sub-fewer c =
@@ -31,7 +31,7 @@ sub-fewer c =
     let c20 = c16.before.before.before.before in
     let a = c20.args in
     let p = c20.requires.0 in
-    let w = rooms a.shapes.now a.sheet.now a.placed.now a.sheet-entries.now a.entries.now a.sheet_firsts.now a.firsts.now in
+    let w = rooms a.shapes.now a.sheet.now a.placed.now a.sheet_entries.now a.entries.now a.sheet_firsts.now a.firsts.now in
     let e = sym (c.before.before.before.before.agree.ensures.0 p.0 a.areas.now p.1.tabled p.1.kinds_are p.1.copies_are) ∙
     c.before.if1.true in
     taken-within p.0 a.state w a.rows.now a.areas.now a.kinds a.copies p.1 e
@@ -57,7 +57,7 @@ take-all-requires c κs =
     let p = c27.requires.0 in
     let g = c11.agree in
     let h = c8.if1.true in
-    let w = rooms a.shapes.now a.sheet.now a.placed.now a.sheet-entries.now a.entries.now a.sheet_firsts.now a.firsts.now in
+    let w = rooms a.shapes.now a.sheet.now a.placed.now a.sheet_entries.now a.entries.now a.sheet_firsts.now a.firsts.now in
     let e = sym (g.ensures.0 p.0 a.areas.now p.1.tabled p.1.kinds_are p.1.copies_are) ∙ h in
     let L = g.ensures.1 h in (
       p.0,
@@ -96,7 +96,7 @@ returns c =
     let a = c37.args in
     let g = c21.agree in
     let h = c18.if1.true in
-    let w = rooms a.shapes.now a.sheet.now a.placed.now a.sheet-entries.now a.entries.now a.sheet_firsts.now a.firsts.now in
+    let w = rooms a.shapes.now a.sheet.now a.placed.now a.sheet_entries.now a.entries.now a.sheet_firsts.now a.firsts.now in
     let L = g.ensures.1 h in
     let f = c16.fewer in
     λ j O z.
@@ -127,7 +127,7 @@ returns-2 c =
     let c7 = c.before.before.before.before.before.before.before in
     let c23 = c7.before.before.before.before.before.before.before.before.before.before.before.before.before.before.before.before in
     let a = c23.args in
-    let w = rooms a.shapes.now a.sheet.now a.placed.now a.sheet-entries.now a.entries.now a.sheet_firsts.now a.firsts.now in
+    let w = rooms a.shapes.now a.sheet.now a.placed.now a.sheet_entries.now a.entries.now a.sheet_firsts.now a.firsts.now in
     λ j O z. c.before.before.none-taken.ensures w ∙ none-taken-31 j a.state w a.intervals.now a.n c23.requires.1 _
     (sym (c7.agree.ensures.0 j a.areas.now O.tabled O.kinds_are O.copies_are) ∙ c.before.before.before.before.if1.false)
 

@@ -23,11 +23,11 @@ last_verdict Accepted fits took n = ended_by (eqb took n) fits
 last_verdict (Refused k) fits took n = Refused k
 
 -- an accepted job, a state and rooms that 31 lets pass, and so many copies to come at the least; if there is one, it can be placed
-pub record Starting (j : Job) (s : State) (w : Rooms) (rows : List ℕ) (areas : List Float) (sheet-starts starts : List ℕ) (most : ℕ) : Type 0 where
+pub record Starting (j : Job) (s : State) (w : Rooms) (rows : List ℕ) (areas : List Float) (sheet_starts starts : List ℕ) (most : ℕ) : Type 0 where
   pub tabled : Tabled j rows areas
   pub good : GoodJob j
   pub sized : Sized j
   pub few : j.copies ≤ 4096
   pub left : s.taken + most ≤ j.copies
   pub passes : consistent j s w ≡ true
-  pub going : 0 < most → Going j s w rows areas sheet-starts starts
+  pub going : 0 < most → Going j s w rows areas sheet_starts starts

@@ -205,7 +205,7 @@ returns c =
     let t = a.tracks.now in
     let f = s.new.1.1.1.1.1.1.1.1.1.1.1.1.1.1.0 in
     let v = c3.number_of.result in
-    let w = surroundings_in (length a.room.now / 2) a.g a.inset-bounds.now a.parts.now a.shapes.now a.sheet.now
+    let w = surroundings_in (length a.room.now / 2) a.g a.inset_bounds.now a.parts.now a.shapes.now a.sheet.now
     (take (6 * a.t.placed_strips) a.placed.now) in (
       ap₂ (λ (q m : List ℕ). done s.result l.0 l.1.0 l.1.1.0 q m) (looks-kept t f p.6 k a.at v) (nexts_kept t f p.6 k a.at v)
           ∙ (s.ensures.0

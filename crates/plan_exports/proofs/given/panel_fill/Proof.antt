@@ -72,7 +72,7 @@ returns c =
     let c40 = c35.before.before.before.before.before in
     let a = c40.args in
     let t = c19.fill in
-    numbered_as a.bytes.now a.order.now (lent_of a.shapes.now a.sheet.now a.placed.now a.sheet-entries.now a.placed-entries.now
+    numbered_as a.bytes.now a.order.now (lent_of a.shapes.now a.sheet.now a.placed.now a.sheet_entries.now a.placed_entries.now
     a.sheet_firsts.now a.placed_firsts.now a.intervals.now a.positions.now)
     (lent_of t.new.1.1.0 t.new.1.1.1.0 t.new.1.1.1.1.0 t.new.1.1.1.1.1.0 t.new.1.1.1.1.1.1.0
     t.new.1.1.1.1.1.1.1.0 t.new.1.1.1.1.1.1.1.1.0 t.new.1.1.1.1.1.1.1.1.1.0 t.new.1.1.1.1.1.1.1.1.1.1.0)

@@ -67,7 +67,7 @@ returns c =
     let a = c37.args in
     let t = c19.judge-layout in
     lined_as a.bytes.now a.given.now a.line.now c3.put_first.new.0
-    (rooms_of a.shapes.now a.sheet.now a.placed.now a.sheet-entries.now a.placed-entries.now a.sheet_firsts.now a.placed_firsts.now)
+    (rooms_of a.shapes.now a.sheet.now a.placed.now a.sheet_entries.now a.placed_entries.now a.sheet_firsts.now a.placed_firsts.now)
     (rooms_of t.new.1.1.0 t.new.1.1.1.0 t.new.1.1.1.1.0 t.new.1.1.1.1.1.0 t.new.1.1.1.1.1.1.0
     t.new.1.1.1.1.1.1.1.0 t.new.1.1.1.1.1.1.1.1.0)
     t.result c.verdict-number.result c.verdict-number.ensures c3.put_first.ensures t.ensures

@@ -14,7 +14,7 @@ returns : tie.Need-returns
 returns c =
     let c16 = c.before.before.before.before.before.before.before.before.before.before.before.before.before.before.before.before in
     let a = c16.args in
-    λ j l r z n. no_positions j l a.order.now a.copies n a.positions.now z.positions-zero
+    λ j l r z n. no_positions j l a.order.now a.copies n a.positions.now z.positions_zero
     c.refused.result c.before.if1.true c.refused.ensures
 
 rearranged-requires : tie.Need-rearranged-requires
@@ -102,7 +102,7 @@ returns-2 c =
     let a = c45.args in
     λ j l r z n.
     let o = sym (c29.rearranged.ensures j a.areas.now r.tabled r.number n) ∙ c28.if2.true in
-    then-prepared j l a.order.now a.copies n a.positions.now z.positions-zero
+    then-prepared j l a.order.now a.copies n a.positions.now z.positions_zero
     c18.fill-tables.result _ c30.if1.false o (c18.fill-tables.ensures j l r z o)
 
 refused-requires-2 : tie.Need-refused-requires-2
@@ -115,7 +115,7 @@ returns-3 c =
     let a = c18.args in
     λ j l r z n.
     let o = sym (c.before.before.rearranged.ensures j a.areas.now r.tabled r.number n) ∙ c.before.if2.false in
-    wrong_order j l a.order.now a.copies n a.positions.now z.positions-zero
+    wrong_order j l a.order.now a.copies n a.positions.now z.positions_zero
     c.refused2.result c.before.before.before.if1.false o c.refused2.ensures
 
 pub fill-job-spec : {M : Type 1} → statement M

@@ -20,7 +20,7 @@ reach_moved part x a = reach_up_to part x a (capacity part)
 unfoldable pub apart_at : List ℕ → List Float → ℕ → ℕ → List Float
 apart_at parts shapes k o =
     let q = part_at parts (16 * k + o) in
-    cond (ltb k 64 && ltb o 16) (part_of shapes q.apart-start q.apart-count) []
+    cond (ltb k 64 && ltb o 16) (part_of shapes q.apart_start q.apart_count) []
 
 -- of a copy: its orientation's number is 1 + orientation, 0 for none
 unfoldable pub reach_copy : List ℕ → List Float → ℕ → ℕ → Float → Float → Float

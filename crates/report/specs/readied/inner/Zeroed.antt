@@ -8,15 +8,15 @@ use Rattle.accounts.specs.tables.inner.Tabled.{Tabled}
 use Rattle.prepare.specs.inner.Ready.{FromTables}
 
 -- the rooms are those that were lent, all zero
-pub record Zeroed (l : Lent) (shapes sheet placed : List Float) (sheet-entries placed-entries : List ℕ) (intervals positions : List Float)
+pub record Zeroed (l : Lent) (shapes sheet placed : List Float) (sheet_entries placed_entries : List ℕ) (intervals positions : List Float)
     (sheet_firsts placed_firsts : List ℕ) : Type 0 where
-  pub shapes-zero : shapes ≡ zeros pos_zero l.rooms.shapes
-  pub sheet-zero : sheet ≡ zeros pos_zero l.rooms.sheet
-  pub placed-zero : placed ≡ zeros pos_zero l.rooms.placed
-  pub sheet-entries-zero : sheet-entries ≡ zeros 0 l.rooms.sheet-entries
-  pub placed-entries-zero : placed-entries ≡ zeros 0 l.rooms.placed-entries
-  pub intervals-zero : intervals ≡ zeros pos_zero l.intervals
-  pub positions-zero : positions ≡ zeros pos_zero l.positions
+  pub shapes_zero : shapes ≡ zeros pos_zero l.rooms.shapes
+  pub sheet_zero : sheet ≡ zeros pos_zero l.rooms.sheet
+  pub placed_zero : placed ≡ zeros pos_zero l.rooms.placed
+  pub sheet_entries_zero : sheet_entries ≡ zeros 0 l.rooms.sheet_entries
+  pub placed_entries_zero : placed_entries ≡ zeros 0 l.rooms.placed_entries
+  pub intervals_zero : intervals ≡ zeros pos_zero l.intervals
+  pub positions_zero : positions ≡ zeros pos_zero l.positions
   pub sheet_firsts_zero : sheet_firsts ≡ zeros 0 l.rooms.sheet_firsts
   pub placed_firsts_zero : placed_firsts ≡ zeros 0 l.rooms.placed_firsts
 

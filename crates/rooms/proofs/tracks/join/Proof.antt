@@ -9,12 +9,12 @@ use Rattle.rooms.proofs.tracks.join.Statement.{statement}
 use Rattle.rooms.proofs.tracks.join.Tie as tie
 
 abbrev invariant-loop : tie.invariant-loop
-invariant-loop next-column look_counts tracks₀ i₀ tracks i =
+invariant-loop next_column look_counts tracks₀ i₀ tracks i =
     (i ≤ 1024) × (length tracks ≡ length tracks₀) × (slot_numbers ≤ length tracks)
-    × Laid (λ p. get_or next-column p 0) (λ p. get_or look_counts p 0) i tracks
+    × Laid (λ p. get_or next_column p 0) (λ p. get_or look_counts p 0) i tracks
 
 abbrev decreases-loop : tie.decreases-loop
-decreases-loop next-column look_counts tracks₀ i₀ tracks i = 1024 - i
+decreases-loop next_column look_counts tracks₀ i₀ tracks i = 1024 - i
 
 loop-holds : tie.Need-loop-init invariant-loop decreases-loop
 loop-holds c = (omega arith, refl, c.requires.2, laid_none _ _ c.args.tracks.now)
@@ -65,7 +65,7 @@ loop-again c =
       omega arith,
       simp length-set l.invariant.1,
       simp length-set l.invariant.2,
-      laid_on (λ p. get_or a.next-column.now p 0) (λ p. get_or a.look_counts.now p 0) l.tracks l.i _ _ (omega arith) refl refl l.invariant.3,
+      laid_on (λ p. get_or a.next_column.now p 0) (λ p. get_or a.look_counts.now p 0) l.tracks l.i _ _ (omega arith) refl refl l.invariant.3,
     )
 
 same_length : tie.Need-same-length invariant-loop decreases-loop
@@ -76,10 +76,10 @@ returns c =
     let l = c.before.loop in
     let a = c.before.before.args in
     let e = c.before.before.requires in
-    let f : ℕ → ℕ = λ p. get_or a.next-column.now p 0 in
+    let f : ℕ → ℕ = λ p. get_or a.next_column.now p 0 in
     let g : ℕ → ℕ = λ p. get_or a.look_counts.now p 0 in
     let all : Laid f g 1024 l.tracks = λ p b. l.invariant.3 p (omega arith) in (
-      laid_firsts f g l.tracks a.next-column.now 1024 e.0 (λ p b. refl) all,
+      laid_firsts f g l.tracks a.next_column.now 1024 e.0 (λ p b. refl) all,
       laid_seconds f g l.tracks a.look_counts.now 1024 e.1 (λ p b. refl) all,
     )
 

@@ -31,7 +31,7 @@ shorten-requires c κs =
     let S = set_in_lem c20.args.f c20.args.bytes.now c20.args.at c9.read_set.new.1.1.1.0 c9.read_set.new.1.1.1.1.0
     (omega (arith, c9.read_set.auto.1.1.1.0, c20.requires.0)) (omega (arith, c9.read_set.auto.1.1.1.1.0, c20.requires.1)) _ _ _ _ c9.read_set.result
     c9.read_set.ensures.0 c9.read_set.ensures.1 c.before.before.before.n.given.1 in
-    (omega (arith, S.loops, c9.read_set.auto.1.1.1.1.0, c20.requires.1), omega (arith, S.loops, c20.requires.2), S.ends-few)
+    (omega (arith, S.loops, c9.read_set.auto.1.1.1.1.0, c20.requires.1), omega (arith, S.loops, c20.requires.2), S.ends_few)
 
 mul-end : tie.Need-overflow-mul-end
 mul-end c =

@@ -69,7 +69,7 @@ returns c =
     let c27 = c14.before.before.before.before.before.before.before.before.before.before.before.before.before in
     let a = c27.args in
     let p = c14.prepare in
-    λ j l T H C v. ready j a.order.now l a.shapes.now a.sheet.now a.sheet-entries.now a.sheet_firsts.now C v p.result _ _ _ _
+    λ j l T H C v. ready j a.order.now l a.shapes.now a.sheet.now a.sheet_entries.now a.sheet_firsts.now C v p.result _ _ _ _
     (p.ensures j T H)
     c.before.before.before.before.enum_told.given.1 c2.copy-order.new.1.0 c2.copy-order.ensures
     c.accepted.result c.accepted.ensures
@@ -111,7 +111,7 @@ returns-2 c =
     let c41 = c28.before.before.before.before.before.before.before.before.before.before.before.before.before in
     let a = c41.args in
     let p = c28.prepare in
-    λ j l T H C v. not-ready j a.order.now l a.shapes.now a.sheet.now a.sheet-entries.now a.sheet_firsts.now C v p.result _ _ _ _
+    λ j l T H C v. not-ready j a.order.now l a.shapes.now a.sheet.now a.sheet_entries.now a.sheet_firsts.now C v p.result _ _ _ _
     (p.ensures j T H)
     _ c.refused.result c15.zero.new.0 c11.zero2.new.0 c7.zero-numbers.new.0 c3.zero-numbers2.new.0
     c18.verdict.given.1 c.refused.ensures

@@ -7,9 +7,9 @@ use Rattle.start.specs.declared.replies.Started.{Started}
 
 -- the rooms of l that a start writes, zeroed
 pub record Cleared (l : Lent) (shapes sheet : List Float) (entries firsts : List ℕ) : Type 0 where
-  pub shapes-zero : shapes ≡ zeros pos_zero l.rooms.shapes
-  pub sheet-zero : sheet ≡ zeros pos_zero l.rooms.sheet
-  pub entries-zero : entries ≡ zeros 0 l.rooms.sheet-entries
+  pub shapes_zero : shapes ≡ zeros pos_zero l.rooms.shapes
+  pub sheet_zero : sheet ≡ zeros pos_zero l.rooms.sheet
+  pub entries_zero : entries ≡ zeros 0 l.rooms.sheet_entries
   pub firsts_zero : firsts ≡ zeros 0 l.rooms.sheet_firsts
 
 -- the answer and those rooms are the start's
@@ -18,5 +18,5 @@ pub record Begun (r : Started) (s : Start) (shapes sheet : List Float) (entries 
   pub state_is : r.state ≡ s.state
   pub shapes_are : shapes ≡ s.lent.rooms.shapes
   pub sheet_is : sheet ≡ s.lent.rooms.sheet
-  pub entries_are : entries ≡ s.lent.rooms.sheet-entries
+  pub entries_are : entries ≡ s.lent.rooms.sheet_entries
   pub firsts_are : firsts ≡ s.lent.rooms.sheet_firsts

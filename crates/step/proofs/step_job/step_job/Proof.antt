@@ -23,9 +23,9 @@ agree-requires c κs =
     let c15 = c.before.before.before.before.before.before.before.before.before.before.before.before.before.before.before in
     let a = c15.args in
     let p = c15.requires in
-    let w = rooms a.shapes.now a.sheet.now a.placed.now a.sheet-entries.now a.entries.now a.sheet_firsts.now a.firsts.now in
+    let w = rooms a.shapes.now a.sheet.now a.placed.now a.sheet_entries.now a.entries.now a.sheet_firsts.now a.firsts.now in
     let n = numbers p.0 a.rows.now a.areas.now a.kinds a.copies p.1 in
-    (n.kinds-few, n.rows_long, n.turns-few, n.copies-few, length-replicate {A = ℕ} 513 0, length-replicate {A = ℕ} 513 0)
+    (n.kinds_few, n.rows_long, n.turns_few, n.copies_few, length-replicate {A = ℕ} 513 0, length-replicate {A = ℕ} 513 0)
 
 slice-aggregate-step-copy : tie.Need-slice-aggregate-step-copy
 slice-aggregate-step-copy c = sym (c.before.before.before.before.before.before.agree.auto.1.1.1.1.1.1.1.1.1.0 ∙ length-replicate {A = ℕ} 513
@@ -43,7 +43,7 @@ step-copy-requires c κs =
     let c27 = c11.before.before.before.before.before.before.before.before.before.before.before.before.before.before.before.before in
     let a = c27.args in
     let p = c27.requires in
-    let w = rooms a.shapes.now a.sheet.now a.placed.now a.sheet-entries.now a.entries.now a.sheet_firsts.now a.firsts.now in (
+    let w = rooms a.shapes.now a.sheet.now a.placed.now a.sheet_entries.now a.entries.now a.sheet_firsts.now a.firsts.now in (
       p.0,
       going p.0 a.state w a.rows.now a.areas.now a.kinds a.copies c11.agree.new.1.1.1.1.1.1.1.1.1.0
           c11.agree.new.1.1.1.1.1.1.1.1.1.1.0 p.1 (sym (c11.agree.ensures.0 p.0 a.areas.now p.1.tabled p.1.kinds_are
@@ -80,7 +80,7 @@ returns c =
     let c37 = c21.before.before.before.before.before.before.before.before.before.before.before.before.before.before.before.before in
     let a = c37.args in
     let p = c37.requires in
-    let w = rooms a.shapes.now a.sheet.now a.placed.now a.sheet-entries.now a.entries.now a.sheet_firsts.now a.firsts.now in
+    let w = rooms a.shapes.now a.sheet.now a.placed.now a.sheet_entries.now a.entries.now a.sheet_firsts.now a.firsts.now in
     λ j O. c9.step-copy.ensures j (going j a.state w a.rows.now a.areas.now a.kinds a.copies c21.agree.new.1.1.1.1.1.1.1.1.1.0
     c21.agree.new.1.1.1.1.1.1.1.1.1.1.0 O (sym (c21.agree.ensures.0 j a.areas.now O.tabled O.kinds_are O.copies_are) ∙
     c18.if1.true) c16.if2.true (c21.agree.ensures.1 c18.if1.true).0 (c21.agree.ensures.1 c18.if1.true).1
@@ -108,7 +108,7 @@ returns-2 c =
     let c25 = c9.before.before.before.before.before.before.before.before.before.before.before.before.before.before.before.before in
     let a = c25.args in
     let p = c25.requires in
-    let w = rooms a.shapes.now a.sheet.now a.placed.now a.sheet-entries.now a.entries.now a.sheet_firsts.now a.firsts.now in
+    let w = rooms a.shapes.now a.sheet.now a.placed.now a.sheet_entries.now a.entries.now a.sheet_firsts.now a.firsts.now in
     λ j O. c.before.before.refuse.ensures w ∙ step_used_up j a.state w a.intervals.now
     (sym (c9.agree.ensures.0 j a.areas.now O.tabled O.kinds_are O.copies_are) ∙
     c.before.before.before.before.before.before.if1.true) (subst⁻¹ (λ (n : ℕ). n ≤ a.state.taken) O.copies_are
@@ -135,7 +135,7 @@ returns-3 c =
     let c23 = c7.before.before.before.before.before.before.before.before.before.before.before.before.before.before.before.before in
     let a = c23.args in
     let p = c23.requires in
-    let w = rooms a.shapes.now a.sheet.now a.placed.now a.sheet-entries.now a.entries.now a.sheet_firsts.now a.firsts.now in
+    let w = rooms a.shapes.now a.sheet.now a.placed.now a.sheet_entries.now a.entries.now a.sheet_firsts.now a.firsts.now in
     λ j O. c.before.before.refuse2.ensures w ∙ sym (step_inconsistent j a.state w a.intervals.now
     (sym (c7.agree.ensures.0 j a.areas.now O.tabled O.kinds_are O.copies_are) ∙ c.before.before.before.before.if1.false))
 

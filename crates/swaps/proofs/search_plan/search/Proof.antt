@@ -49,7 +49,7 @@ rounds-requires c κs =
     let p = c28.requires in (
       (
         p.0.0,
-        gridded a.tables a.rows.now a.areas.now a.shapes.now a.sheet.now a.sheet-entries.now a.sheet-starts.now
+        gridded a.tables a.rows.now a.areas.now a.shapes.now a.sheet.now a.sheet_entries.now a.sheet_starts.now
             c13.grid-of.result c13.grid-of.ensures p.0.0 p.0.1,
         p.0.2,
       ),
@@ -57,7 +57,7 @@ rounds-requires c κs =
       p.3,
       p.4,
       p.5,
-      gridded_firsts a.tables a.rows.now a.areas.now a.shapes.now a.sheet.now a.sheet-entries.now a.sheet-starts.now
+      gridded_firsts a.tables a.rows.now a.areas.now a.shapes.now a.sheet.now a.sheet_entries.now a.sheet_starts.now
           a.sheet_firsts.now c13.grid-of.result c13.grid-of.ensures p.6,
     )
 
@@ -105,7 +105,7 @@ returns c =
     let q = c14.rounds.ensures in (
       λ (j : Job) P.
           q.0 j
-          (gridded a.tables a.rows.now a.areas.now a.shapes.now a.sheet.now a.sheet-entries.now a.sheet-starts.now
+          (gridded a.tables a.rows.now a.areas.now a.shapes.now a.sheet.now a.sheet_entries.now a.sheet_starts.now
           c28.grid-of.result c28.grid-of.ensures j P),
       q.1,
       q.2,

@@ -31,8 +31,8 @@ returns : tie.Need-returns
 returns c =
     let c8 = c.before.before.before.before.before.before.before.before in
     let a = c8.args in
-    sym (copy-strips a.g a.copy a.taken a.strips a.step a.inset-bounds.now a.placed.now a.tracks.now
-    (failed (told-strips a.g a.copy a.taken a.strips a.step a.inset-bounds.now a.placed.now a.tracks.now
+    sym (copy-strips a.g a.copy a.taken a.strips a.step a.inset_bounds.now a.placed.now a.tracks.now
+    (failed (told-strips a.g a.copy a.taken a.strips a.step a.inset_bounds.now a.placed.now a.tracks.now
     c.before.strips-fit.ensures)
     c.if1.true))
 
@@ -43,8 +43,8 @@ returns-2 : tie.Need-returns-2
 returns-2 c =
     let c10 = c.before.before.before.before.before.before.before.before.before.before in
     let a = c10.args in
-    sym (copy-layout a.g a.copy a.taken a.strips a.step a.inset-bounds.now a.placed.now a.tracks.now
-    (passed (told-strips a.g a.copy a.taken a.strips a.step a.inset-bounds.now a.placed.now a.tracks.now
+    sym (copy-layout a.g a.copy a.taken a.strips a.step a.inset_bounds.now a.placed.now a.tracks.now
+    (passed (told-strips a.g a.copy a.taken a.strips a.step a.inset_bounds.now a.placed.now a.tracks.now
     c.before.before.before.strips-fit.ensures)
     c.before.before.if1.false) (failed c.before.layout-fits.ensures c.if2.true))
 
@@ -57,8 +57,8 @@ returns-3 : tie.Need-returns-3
 returns-3 c =
     let c12 = c.before.before.before.before.before.before.before.before.before.before.before.before in
     let a = c12.args in
-    sym (copy_tracks a.g a.copy a.taken a.strips a.step a.inset-bounds.now a.placed.now a.tracks.now
-    (passed (told-strips a.g a.copy a.taken a.strips a.step a.inset-bounds.now a.placed.now a.tracks.now
+    sym (copy_tracks a.g a.copy a.taken a.strips a.step a.inset_bounds.now a.placed.now a.tracks.now
+    (passed (told-strips a.g a.copy a.taken a.strips a.step a.inset_bounds.now a.placed.now a.tracks.now
     c.before.before.before.before.before.strips-fit.ensures)
     c.before.before.before.before.if1.false) (passed c.before.before.before.layout-fits.ensures c.before.before.if2.false)
     (failed c.before.tracks-fit.ensures c.if3.true))
@@ -70,8 +70,8 @@ returns-4 : tie.Need-returns-4
 returns-4 c =
     let c13 = c.before.before.before.before.before.before.before.before.before.before.before.before.before in
     let a = c13.args in
-    c.outcome-fits.ensures ∙ copy_outcome a.g a.copy a.taken a.strips a.step a.inset-bounds.now a.placed.now a.tracks.now
-    (passed (told-strips a.g a.copy a.taken a.strips a.step a.inset-bounds.now a.placed.now a.tracks.now
+    c.outcome-fits.ensures ∙ copy_outcome a.g a.copy a.taken a.strips a.step a.inset_bounds.now a.placed.now a.tracks.now
+    (passed (told-strips a.g a.copy a.taken a.strips a.step a.inset_bounds.now a.placed.now a.tracks.now
     c.before.before.before.before.before.before.strips-fit.ensures)
     c.before.before.before.before.before.if1.false) (passed c.before.before.before.before.layout-fits.ensures
     c.before.before.before.if2.false) (passed c.before.before.tracks-fit.ensures c.before.if3.false)

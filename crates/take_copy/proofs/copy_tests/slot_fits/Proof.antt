@@ -52,7 +52,7 @@ track-fits-requires c κs =
     let c6 = c.before.before.before.before.before.before in
     let a = c6.args in
     let p = c6.requires in (
-      told-few a.bounds a.resolution a.inset-bounds.now a.slot c.before.before.before.bounds_at_lem.ensures c.before.before.new.ensures
+      told-few a.bounds a.resolution a.inset_bounds.now a.slot c.before.before.before.bounds_at_lem.ensures c.before.before.new.ensures
           p.0 p.1 p.6,
       let t = p.2 in let s = p.3 in omega arith,
     )
@@ -61,7 +61,7 @@ returns : tie.Need-returns
 returns c =
     let c7 = c.before.before.before.before.before.before.before in
     let a = c7.args in
-    told_slot a.bounds a.resolution a.inset-bounds.now a.slot c.before.before.before.before.bounds_at_lem.ensures
+    told_slot a.bounds a.resolution a.inset_bounds.now a.slot c.before.before.before.before.bounds_at_lem.ensures
     c.before.before.before.new.ensures a.taken a.tracks.now c7.requires.3
     c.track-fits.ensures
 

@@ -12,16 +12,16 @@ use Rattle.take_copy.proofs.copy_tests.tracks_fit.Statement.{statement}
 use Rattle.take_copy.proofs.copy_tests.tracks_fit.Tie as tie
 
 abbrev invariant-loop : tie.invariant-loop
-invariant-loop bounds resolution taken slot n inset-bounds tracks o₀ o = every
-    (λ q. slot_track_test bounds resolution taken inset-bounds (next_columns tracks) (look_counts_from tracks) (slot + q)) (up_from (n - o) o) ≡ every
-    (λ q. slot_track_test bounds resolution taken inset-bounds (next_columns tracks) (look_counts_from tracks) (slot + q)) (up_from n 0)
+invariant-loop bounds resolution taken slot n inset_bounds tracks o₀ o = every
+    (λ q. slot_track_test bounds resolution taken inset_bounds (next_columns tracks) (look_counts_from tracks) (slot + q)) (up_from (n - o) o) ≡ every
+    (λ q. slot_track_test bounds resolution taken inset_bounds (next_columns tracks) (look_counts_from tracks) (slot + q)) (up_from n 0)
 
 abbrev decreases-loop : tie.decreases-loop
-decreases-loop bounds resolution taken slot n inset-bounds tracks o₀ o = n - o
+decreases-loop bounds resolution taken slot n inset_bounds tracks o₀ o = n - o
 
 loop-holds : tie.Need-loop-init invariant-loop decreases-loop
 loop-holds c = let a = c.before.before.args in
-    ap (λ m. every (λ q. slot_track_test a.bounds a.resolution a.taken a.inset-bounds.now (next_columns a.tracks.now)
+    ap (λ m. every (λ q. slot_track_test a.bounds a.resolution a.taken a.inset_bounds.now (next_columns a.tracks.now)
     (look_counts_from a.tracks.now)
     (a.slot + q)) (up_from m 0)) (sub-zero a.n)
 
@@ -43,7 +43,7 @@ loop-again : tie.Need-loop-preserved invariant-loop decreases-loop
 loop-again c =
     let c3 = c.before.before.before in
     let a = c.before.before.before.before.before.before.args in
-    sym (every_on (λ q. slot_track_test a.bounds a.resolution a.taken a.inset-bounds.now (next_columns a.tracks.now) (look_counts_from a.tracks.now)
+    sym (every_on (λ q. slot_track_test a.bounds a.resolution a.taken a.inset_bounds.now (next_columns a.tracks.now) (look_counts_from a.tracks.now)
     (a.slot + q)) a.n c3.loop.o (omega arith) (sym c.before.slot_fits_lem.ensures ∙ c.if1.true)) ∙ c3.loop.invariant
 
 returns : tie.Need-returns invariant-loop decreases-loop
@@ -51,7 +51,7 @@ unfolding tracks_test
 returns c =
     let c3 = c.before.before.before in
     let a = c.before.before.before.before.before.before.args in
-    sym (sym c3.loop.invariant ∙ every-not (λ q. slot_track_test a.bounds a.resolution a.taken a.inset-bounds.now (next_columns a.tracks.now)
+    sym (sym c3.loop.invariant ∙ every-not (λ q. slot_track_test a.bounds a.resolution a.taken a.inset_bounds.now (next_columns a.tracks.now)
     (look_counts_from a.tracks.now) (a.slot + q)) a.n c3.loop.o (omega arith) (sym c.before.slot_fits_lem.ensures ∙ c.if1.false))
 
 returns-2 : tie.Need-returns-2 invariant-loop decreases-loop
@@ -59,7 +59,7 @@ unfolding tracks_test
 returns-2 c =
     let c1 = c.before in
     let a = c.before.before.before.before.args in
-    sym (sym c1.loop.invariant ∙ every-end (λ q. slot_track_test a.bounds a.resolution a.taken a.inset-bounds.now (next_columns a.tracks.now)
+    sym (sym c1.loop.invariant ∙ every-end (λ q. slot_track_test a.bounds a.resolution a.taken a.inset_bounds.now (next_columns a.tracks.now)
     (look_counts_from a.tracks.now) (a.slot + q)) a.n c1.loop.o (omega arith))
 
 pub tracks-fit-spec : {M : Type 1} → statement M

@@ -17,13 +17,13 @@ use Rattle.consistent.specs.slot_tests.inner.Slots.{last_for, track_test}
 
 -- remembered column and look count of slot i
 unfoldable pub slot_track_test : Rect → Float → ℕ → List Float → List ℕ → List ℕ → ℕ → Bool
-slot_track_test bounds resolution taken inset-bounds next looks i =
-    track_test taken (last_for (columns_of bounds (bounds_at inset-bounds i) resolution)) (get_or next i 0) (get_or looks i 0)
+slot_track_test bounds resolution taken inset_bounds next looks i =
+    track_test taken (last_for (columns_of bounds (bounds_at inset_bounds i) resolution)) (get_or next i 0) (get_or looks i 0)
 
 -- of the n slots from `slot` on
 unfoldable pub tracks_test : Rect → Float → ℕ → ℕ → ℕ → List Float → List ℕ → List ℕ → Bool
-tracks_test bounds resolution taken slot n inset-bounds next looks =
-    every (λ o. slot_track_test bounds resolution taken inset-bounds next looks (slot + o)) (up_from n 0)
+tracks_test bounds resolution taken slot n inset_bounds next looks =
+    every (λ o. slot_track_test bounds resolution taken inset_bounds next looks (slot + o)) (up_from n 0)
 
 -- position and gap
 unfoldable pub choice_test : Choice → Bool
@@ -37,8 +37,8 @@ outcome_test (Refused k) = true
 
 -- what a copy wrote: r's totals are those after it, before it `strips` strips were placed
 unfoldable pub copy_test : Grid → Copy → ℕ → ℕ → Step → List Float → List Float → List ℕ → Bool
-copy_test g copy taken strips r inset-bounds placed tracks =
+copy_test g copy taken strips r inset_bounds placed tracks =
     strips_fit (drop (6 * strips) (take (6 * r.totals.placed_strips) placed))
     && (layout_fits r.totals.right r.totals.unplaced_area
-    && (tracks_test g.bounds g.resolution taken copy.slot copy.orientations inset-bounds (next_columns tracks) (look_counts_from tracks)
+    && (tracks_test g.bounds g.resolution taken copy.slot copy.orientations inset_bounds (next_columns tracks) (look_counts_from tracks)
     && outcome_test r.outcome))

@@ -47,17 +47,17 @@ abbrev pub step_in : Verdict → State → Rooms → List Float → Step
 step_in v s w intervals = record { verdict = v; state = s; rooms = w; intervals = zeros pos_zero intervals }
 
 -- tables and sheet are what the state's tables say; the sheet's room is `whole`
-pub record Tabling (b : Tables) (g : Grid) (inset-bounds : List Float) (parts : List ℕ) (whole sheet : List Float) : Type 0 where
+pub record Tabling (b : Tables) (g : Grid) (inset_bounds : List Float) (parts : List ℕ) (whole sheet : List Float) : Type 0 where
   pub grid : g ≡ grid_of b
-  pub inset-bounds_are : inset-bounds ≡ b.inset_bounds
+  pub inset_bounds_are : inset_bounds ≡ b.inset_bounds
   pub parts_are : parts ≡ b.parts
   pub sheet_is : sheet ≡ take (6 * b.sheet_strips) whole
-  pub bounds-long : length b.inset_bounds ≡ 4096
-  pub parts-long : length b.parts ≡ 4096
+  pub bounds_long : length b.inset_bounds ≡ 4096
+  pub parts_long : length b.parts ≡ 4096
   pub resolution-fits : T (fits binary64 b.resolution)
   pub bounds-fit : RectFits b.sheet_bounds
-  pub insets-fit : AllFit b.inset_bounds
-  pub whole-fits : AllFit whole
+  pub insets_fit : AllFit b.inset_bounds
+  pub whole_fits : AllFit whole
 
 -- a layout's four lists are as long as the code's arrays
 pub record Sizes (orientation : List ℕ) (x y gap : List Float) : Type 0 where

@@ -6,7 +6,7 @@ use mathlib.Core.Path.{◌≡◌, sym, ◌∙◌}
 use lib.ListN.{length}
 use borrow.Author.Rules.{rules, length_unmapped}
 use Rattle.job.proofs.Whole.{read_as}
-use Rattle.text.proofs.printed.Printing.{kinds-few, turns-few, told, of_plan, of_refusal}
+use Rattle.text.proofs.printed.Printing.{kinds_few, turns_few, told, of_plan, of_refusal}
 use Rattle.text.proofs.printed.print_reply.Statement.{statement}
 use Rattle.text.proofs.printed.print_reply.Tie as tie
 
@@ -44,14 +44,14 @@ reply-text-requires c κs =
     let j = c9.read in
     let r : 256 ≤ length j.result.rows = le_of_eq (sym j.ensures.1) in
     let e = read_as _ j.result j.ensures.0 c.before.before.before.before.before.before.answer.given.1 in
-    let f = kinds-few _ _ _ _ _ _ _ e in
+    let f = kinds_few _ _ _ _ _ _ _ e in
     let u = length_unmapped _ a.plan.placed_of 64 g.1.1.1.0.1.0.1 in
     let v = length_unmapped _ a.plan.unplaced_of 64 g.1.1.1.1.0.1.0.1 in
     let w = length_unmapped _ a.plan.look_counts 1024 g.1.1.1.1.1.0.1.0.1 in (
       p.2,
       f,
       omega (arith, f, r),
-      turns-few _ _ _ _ _ _ _ e r (le_of_eq (sym j.ensures.2)),
+      turns_few _ _ _ _ _ _ _ e r (le_of_eq (sym j.ensures.2)),
       p.0,
       p.1,
       omega (arith, f, u),

@@ -11,17 +11,17 @@ use Rattle.withdraw.proofs.standing.right_over.Statement.{statement}
 use Rattle.withdraw.proofs.standing.right_over.Tie as tie
 
 abbrev invariant-loop : tie.invariant-loop
-invariant-loop inset-bounds order orientation x right from to reach₀ i₀ reach i =
-    (from ≤ i) × (i ≤ to) × (reach ≡ right_over inset-bounds order orientation x right from (i - from))
+invariant-loop inset_bounds order orientation x right from to reach₀ i₀ reach i =
+    (from ≤ i) × (i ≤ to) × (reach ≡ right_over inset_bounds order orientation x right from (i - from))
 
 abbrev decreases-loop : tie.decreases-loop
-decreases-loop inset-bounds order orientation x right from to reach₀ i₀ reach i = to - i
+decreases-loop inset_bounds order orientation x right from to reach₀ i₀ reach i = to - i
 
 loop-holds : tie.Need-loop-init invariant-loop decreases-loop
 loop-holds c =
     let c4 = c.before.before.before.before in
     let a = c4.args in
-    (omega arith, c4.requires.1, right-none a.inset-bounds.now a.order.now a.orientation.now a.x.now a.right a.from a.from refl)
+    (omega arith, c4.requires.1, right-none a.inset_bounds.now a.order.now a.orientation.now a.x.now a.right a.from a.from refl)
 
 mul-right-with : tie.Need-overflow-mul-right-with invariant-loop decreases-loop
 mul-right-with c = search rules
@@ -65,9 +65,9 @@ loop-again c =
     let l = c.before.before.before.before.before.loop in (
       omega (arith, l.invariant.0),
       omega (arith, c.before.before.before.before.loop-test.true),
-      c.right-with.ensures ∙ (ap (λ r. right_with a.inset-bounds.now r (get_or a.x.now l.i nan) (get_or a.order.now l.i 0)
+      c.right-with.ensures ∙ (ap (λ r. right_with a.inset_bounds.now r (get_or a.x.now l.i nan) (get_or a.order.now l.i 0)
           (get_or a.orientation.now l.i 0)) l.invariant.2
-          ∙ right_more a.inset-bounds.now a.order.now a.orientation.now a.x.now a.right a.from l.i l.invariant.0),
+          ∙ right_more a.inset_bounds.now a.order.now a.orientation.now a.x.now a.right a.from l.i l.invariant.0),
     )
 
 returns : tie.Need-returns invariant-loop decreases-loop
@@ -75,7 +75,7 @@ returns c =
     let c1 = c.before in
     let a = c.before.before.before.before.before.before.args in
     let e : c1.loop.i ≡ a.to = omega (arith, c1.loop.invariant.1, c.loop-test.false) in
-    c1.loop.invariant.2 ∙ ap (λ (i : ℕ). right_over a.inset-bounds.now a.order.now a.orientation.now a.x.now a.right a.from (i - a.from)) e
+    c1.loop.invariant.2 ∙ ap (λ (i : ℕ). right_over a.inset_bounds.now a.order.now a.orientation.now a.x.now a.right a.from (i - a.from)) e
 
 pub right-over-spec : {M : Type 1} → statement M
 right-over-spec =

@@ -38,7 +38,7 @@ close-rooms-requires c κs =
       Leaves.long-placed L,
       Leaves.numbered L,
       Leaves.long_firsts L,
-      Leaves.entries_fit L c3.new.result c3.new.ensures,
+      Leaves.entries_fit_lem L c3.new.result c3.new.ensures,
     )
 
 state-without-requires : tie.Need-state-without-requires

@@ -24,7 +24,7 @@ agree-requires c κs =
     let a = c13.args in
     let p = c13.requires in
     let n = numbers p.0 a.rows.now p.1 a.kinds a.copies p.2 in
-    (n.kinds-few, n.rows_long, n.turns-few, n.copies-few, length-replicate {A = ℕ} 513 0, length-replicate {A = ℕ} 513 0)
+    (n.kinds_few, n.rows_long, n.turns_few, n.copies_few, length-replicate {A = ℕ} 513 0, length-replicate {A = ℕ} 513 0)
 
 stands-requires : tie.Need-stands-requires
 stands-requires c κs =
@@ -32,7 +32,7 @@ stands-requires c κs =
     let c17 = c16.before in
     let a = c17.args in
     let p = c17.requires in
-    let w = rooms_of a.shapes.now a.sheet.now a.placed.now a.sheet-entries.now a.entries.now a.sheet_firsts.now a.firsts.now in
+    let w = rooms_of a.shapes.now a.sheet.now a.placed.now a.sheet_entries.now a.entries.now a.sheet_firsts.now a.firsts.now in
     le_trans (taken_upto p.0 a.state w (sym (c.before.before.before.agree.ensures.0 p.0 p.1 p.2.tabled p.2.kinds_are
     p.2.copies_are) ∙ c.if1.true)) p.2.few
 
@@ -42,7 +42,7 @@ withdraw-copy-requires c κs =
     let c22 = c8.before.before.before.before.before.before.before.before.before.before.before.before.before.before in
     let a = c22.args in
     let p = c22.requires in
-    let w = rooms_of a.shapes.now a.sheet.now a.placed.now a.sheet-entries.now a.entries.now a.sheet_firsts.now a.firsts.now in (
+    let w = rooms_of a.shapes.now a.sheet.now a.placed.now a.sheet_entries.now a.entries.now a.sheet_firsts.now a.firsts.now in (
       p.0,
       w,
       leaving p.0 a.state w a.place p.2 (sym (c8.agree.ensures.0 p.0 p.1 p.2.tabled p.2.kinds_are p.2.copies_are) ∙
@@ -67,7 +67,7 @@ returns c =
     let c15 = c12.before.before.before in
     let c29 = c15.before.before.before.before.before.before.before.before.before.before.before.before.before.before in
     let a = c29.args in
-    let w = rooms_of a.shapes.now a.sheet.now a.placed.now a.sheet-entries.now a.entries.now a.sheet_firsts.now a.firsts.now in
+    let w = rooms_of a.shapes.now a.sheet.now a.placed.now a.sheet_entries.now a.entries.now a.sheet_firsts.now a.firsts.now in
     λ j areas O.
     let e = sym (c15.agree.ensures.0 j areas O.tabled O.kinds_are O.copies_are) ∙ c12.if1.true in
     c.before.before.before.before.before.before.withdraw-copy.ensures j w
@@ -90,7 +90,7 @@ returns-2 c =
     let c16 = c.before.before.before.before.before.before.before.before.before.before.before.before.before.before.before.before in
     let c20 = c16.before.before.before.before in
     let a = c20.args in
-    let w = rooms_of a.shapes.now a.sheet.now a.placed.now a.sheet-entries.now a.entries.now a.sheet_firsts.now a.firsts.now in
+    let w = rooms_of a.shapes.now a.sheet.now a.placed.now a.sheet_entries.now a.entries.now a.sheet_firsts.now a.firsts.now in
     λ j areas O.
     let e = sym (c.before.before.before.before.before.before.agree.ensures.0 j areas O.tabled O.kinds_are O.copies_are) ∙
     c.before.before.before.if1.true in
@@ -113,7 +113,7 @@ returns-3 c =
     let c16 = c.before.before.before.before.before.before.before.before.before.before.before.before.before.before.before.before in
     let c18 = c16.before.before in
     let a = c18.args in
-    let w = rooms_of a.shapes.now a.sheet.now a.placed.now a.sheet-entries.now a.entries.now a.sheet_firsts.now a.firsts.now in
+    let w = rooms_of a.shapes.now a.sheet.now a.placed.now a.sheet_entries.now a.entries.now a.sheet_firsts.now a.firsts.now in
     λ j areas O.
     c.refuse2.ensures w ∙ sym (withdraw_inconsistent j a.state w a.place
     (sym (c.before.before.before.before.agree.ensures.0 j areas O.tabled O.kinds_are O.copies_are) ∙ c.before.if1.false))

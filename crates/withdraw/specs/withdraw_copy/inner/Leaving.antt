@@ -47,7 +47,7 @@ pub record Leaving (j : Job) (s : State) (w : Rooms) (n copies : ℕ) (placed : 
   pub under : n < s.taken
   pub stands : (o : ℕ) × (get_or s.layout.orientation n 0 ≡ suc o)
   pub placed_is : w.placed ≡ placed
-  pub entries_is : w.placed-entries ≡ entries
+  pub entries_is : w.placed_entries ≡ entries
   pub firsts_is : w.placed_firsts ≡ firsts
 
 -- the reply of a withdrawal that is not refused
