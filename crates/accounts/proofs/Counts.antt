@@ -2,9 +2,7 @@
 use Rattle.std.proofs.Common.{◌≡◌, ℕ, zero, suc, ◌+◌, ◌-◌, ◌<◌, ◌≤◌, true, false, ltb, ◌⊎◌, List, length, get_or, set, replicate, sym, refl, ap, ◌∙◌, inl, inr, add-one, arith, length-set, get_or-set_other, get_or-set_same, le-ltb, lt-ltb, eq-eqb, ne_eqb}
 use lib.ListN.{length-replicate, get_or-replicate}
 use Rattle.numbers.proofs.Truth.{either, below_or_not, same_or_not}
-use Rattle.index.specs.Buckets.{up_from}
 use Rattle.index.proofs.Flat.{get_d_up_from}
-use Rattle.filling.specs.State.{by_slot}
 use Rattle.filling.proofs.Reading.{up_from_list}
 use Rattle.accounts.specs.inner.Counting.{stands, misses, sum_to, count_if, kind_to, by_kind, starts_by}
 

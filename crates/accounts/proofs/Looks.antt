@@ -5,7 +5,6 @@ use lib.Ieee.{Float}
 use Rattle.numbers.proofs.Truth.{below_or_not, same_or_not}
 use Rattle.index.specs.Buckets.{up_from}
 use Rattle.index.proofs.Flat.{length-up_from, get_d_up_from}
-use Rattle.kinds.specs.Kinds.{Kind}
 use Rattle.job.specs.Jobs.{Job}
 use Rattle.filling.specs.declared.State.{State}
 use Rattle.filling.specs.Search.{Track}

@@ -2,7 +2,6 @@
 use Rattle.std.proofs.Common.{◌≡◌, ℕ, zero, suc, ◌+◌, ◌-◌, ◌*◌, ◌≤◌, List, [], ◌∷◌, ◌++◌, length, get_or, take, drop, set, refl, ap, ◌∙◌, subst, append_assoc, arith, length-take-le, drop-drop, drop-set-lt, take-add, drop_at}
 use lib.Seq.{sets, sets-eq, length-sets, take-set-le, drop-set-add, set-get_or}
 use lib.Ieee.{Float}
-use Rattle.numbers.specs.Numbers.{from_int}
 use Rattle.filling.specs.Accounts.{Position, flat_positions}
 use Rattle.accounts.specs.inner.Counting.{stands}
 use Rattle.accounts.specs.inner.Laying.{set_position, put_position}

@@ -1,5 +1,5 @@
 -- The tables of an accepted job say what the job says. Assumes nothing.
-use Rattle.std.proofs.Common.{◌≡◌, ℕ, ◌+◌, ◌*◌, ◌<◌, ◌≤◌, false, eqb, List, [], map, length, get_or, pos, refl, ap, ◌∙◌, arith}
+use Rattle.std.proofs.Common.{◌≡◌, ℕ, ◌+◌, ◌*◌, ◌<◌, ◌≤◌, false, eqb, List, map, length, get_or, pos, refl, ap, ◌∙◌, arith}
 use lib.Ieee.{Float, nan}
 use Rattle.numbers.specs.Numbers.{pos_zero}
 use Rattle.job.specs.declared.Header.{Header}
