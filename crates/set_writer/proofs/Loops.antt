@@ -70,7 +70,7 @@ module _ (cs : List ℕ) (xs : List Float) (w : Walk) (out o o' : List ℕ) (n m
     near_more w r _ _ _ n (1024 * n) (65546 * n)
         (near-then w (record { counts = w.counts + 1; coordinates = w.coordinates; writer = writer }) r 1 0 10 _ _ _
         (omega arith, omega arith, omega (arith, P.count, binary-length 10 p))
-        (near-then _ u r _ _ _ _ _ _ (near_at _ (On u) 0 (2 * p) (128 * p) F.1 k) H.1))
+        (near-then (record { counts = w.counts + 1; coordinates = w.coordinates; writer = writer }) u r _ _ _ _ _ _ (near_at (record { counts = w.counts + 1; coordinates = w.coordinates; writer = writer }) (On u) 0 (2 * p) (128 * p) F.1 k) H.1))
         (omega arith)
         (omega (arith, points-few before v p t b g h))
         (omega (arith, points-few before v p t b g h)),
