@@ -1,7 +1,7 @@
 -- Both passes and the bounds together are the shapes by slot. Assumes nothing.
 use mathlib.Core.Path.{◌≡◌, refl, sym, ap, ap₂, subst, ◌∙◌}
 use mathlib.Core.List.{List, [], ◌∷◌, ◌++◌, map, flat_map, append-nil, append_assoc}
-use Prim.Native.Nat.{ℕ, zero, suc, ◌+◌, ◌-◌, ◌*◌, ◌/◌, ◌%◌, ◌≤◌, ◌<◌}
+use Prim.Native.Nat.{ℕ, zero, suc, ◌+◌, ◌*◌, ◌/◌, ◌%◌, ◌≤◌, ◌<◌}
 use native.Mathlib.Omega.{arith}
 use lib.ListN.{length, get_or, length-append, length-map}
 use lib.Seq.{ext_get_or}
@@ -11,7 +11,6 @@ use Rattle.trapezoid.specs.Strip.{flat, capacity}
 use Rattle.index.specs.Buckets.{up_from}
 use Rattle.strips.specs.declared.Rect.{Rect}
 use Rattle.strips.specs.declared.Stored.{Stored}
-use Rattle.strips.specs.declared.Stored.TheVariants as Stored
 use Rattle.strips.specs.inner.Tables as Tables
 use Rattle.filling.specs.Shapes.{Shape, no_shape}
 use Rattle.filling.specs.Rooms.{laid}

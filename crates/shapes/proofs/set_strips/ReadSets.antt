@@ -3,11 +3,10 @@ use mathlib.Core.Path.{◌≡◌, refl, sym, ap, subst, ◌∙◌}
 use mathlib.Core.Logic.{◌⊎◌, inl, inr}
 use mathlib.Core.Bool.{Bool, true, false}
 use mathlib.Core.List.{List, [], ◌∷◌, ◌++◌}
-use Prim.Native.Nat.{ℕ, zero, suc, ◌+◌, ◌-◌, ◌*◌, ◌/◌, ◌≤◌, ◌<◌}
+use Prim.Native.Nat.{ℕ, zero, suc, ◌+◌, ◌*◌, ◌/◌, ◌≤◌, ◌<◌}
 use native.Mathlib.Omega.{arith}
-use native.Mathlib.Numerals.{add-one}
-use lib.ListN.{length, get_or, set, take, drop, take-append-drop}
-use lib.Seq.{length-take-le, take-suc, take-suc-set, get_or-take}
+use lib.ListN.{length, get_or, take, drop, take-append-drop}
+use lib.Seq.{length-take-le, get_or-take}
 use lib.Ieee.{Float, nan, binary64, of_bits, div}
 use Rattle.numbers.proofs.Truth.{below_or_not}
 use Rattle.trapezoid.specs.declared.Trapezoid.{Trapezoid}
@@ -19,7 +18,7 @@ use Rattle.strips.specs.declared.Stored.{Stored}
 use Rattle.strips.proofs.Laying.{stored-fits, stored-count}
 use Rattle.strips.specs.inner.Tables.{Loops, strips_laid, Stowed, strips_stored}
 use Rattle.bits.specs.declared.Refusal.{Refusal}
-use Rattle.bits.specs.Reading.{Read, ok, bad}
+use Rattle.bits.specs.Reading.{Read, bad}
 use Rattle.kinds.specs.declared.sets.SetRead.{SetRead}
 use Rattle.kinds.specs.declared.sets.SetRead.TheVariants as Sets
 use Rattle.kinds.specs.sets.inner.Answers.{set_read, set_fits, found, set_at}

@@ -1,12 +1,12 @@
 -- One slot, and one turn of each pass over the slots. Assumes nothing.
 use mathlib.Core.Path.{◌≡◌, refl, sym, ap, ap₂, subst, ◌∙◌}
 use mathlib.Core.Logic.{◌⊎◌, inl, inr, ◌≢◌}
-use mathlib.Core.Bool.{Bool, true, false, ◌&&◌}
+use mathlib.Core.Bool.{true, false}
 use mathlib.Core.List.{List, [], ◌∷◌, ◌++◌, append_assoc}
 use Prim.Native.Nat.{ℕ, zero, suc, ◌+◌, ◌-◌, ◌*◌, ◌/◌, ◌%◌, ◌≤◌, ◌<◌}
 use native.Mathlib.Omega.{arith}
 use native.Mathlib.Numerals.{add-one}
-use lib.ListN.{length, get_or, set, take, drop, length-set, length-append, length-drop, take-append-drop}
+use lib.ListN.{length, get_or, set, take, drop, length-set, length-append, length-drop}
 use lib.Seq.{sets, length-sets, length-take-le, get_or-set_same, get_or-set_other, take_at, drop-drop, drop-append-add}
 use lib.Dec.{ltb}
 use lib.Ieee.{Float, nan}
@@ -17,7 +17,7 @@ use Rattle.trapezoid.specs.Strip.{flat, capacity}
 use Rattle.strips.specs.declared.Rect.{Rect}
 use Rattle.strips.specs.declared.Stored.{Stored}
 use Rattle.strips.specs.declared.Stored.TheVariants.{Count, NoRoom}
-use Rattle.strips.specs.inner.Tables.{strips_laid, Stowed, strips_stored}
+use Rattle.strips.specs.inner.Tables.{strips_laid, strips_stored}
 use Rattle.filling.specs.Shapes.{set_bounds, no_bounds}
 use Rattle.filling.specs.State.{bounds_at}
 use Rattle.filling.proofs.Reading.{length-flat, flat_append, get_d_sets_other, get_d_sets_here}
