@@ -1,9 +1,9 @@
 -- The placed room after a copy's strips are stored, strip by strip and as a list. Assumes nothing.
 use Prim.{⊥}
-use Prim.Native.Nat.{ℕ, zero, suc, ◌+◌, ◌-◌, ◌*◌, ◌/◌, ◌<◌, ◌≤◌}
+use Prim.Native.Nat.{ℕ, zero, suc, ◌+◌, ◌*◌, ◌/◌, ◌<◌, ◌≤◌}
 use native.Mathlib.Omega.{arith}
 use mathlib.Core.Path.{◌≡◌, refl, sym, ap, ◌∙◌, subst}
-use mathlib.Core.List.{List, [], ◌∷◌, ◌++◌, map, append_assoc, append-nil}
+use mathlib.Core.List.{List, ◌∷◌, ◌++◌, map, append_assoc, append-nil}
 use lib.ListN.{length, get_or, set, take, drop, length-set, length-append, take-append-drop}
 use lib.Seq.{get_or-set_same, get_or-set_other, get_or-take, length-take-le}
 use lib.Dec.{ltb}

@@ -7,7 +7,7 @@ use mathlib.Core.Path.{◌≡◌, refl, sym, ap, ◌∙◌, subst, subst⁻¹}
 use mathlib.Core.Bool.{Bool, true, false}
 use mathlib.Core.Logic.{inl, inr}
 use mathlib.Core.List.{List, ◌++◌}
-use lib.ListN.{length, get_or, take, drop}
+use lib.ListN.{length, get_or, drop}
 use lib.Dec.{ltb, leb}
 use lib.Ieee.{Float}
 use borrow.Author.Tests.{lt-ltb, le-ltb, le-leb, lt-leb, leb-true, leb-false}
@@ -22,15 +22,14 @@ use Rattle.index.proofs.Standing.{standing-within, standing-few, standing-long}
 use Rattle.index.proofs.Steps.{bucket_top}
 use Rattle.index.specs.inner.Listing.{Laid, FirstBuckets}
 use Rattle.index.proofs.NewIndex.{laid-after}
-use Rattle.enter.specs.inner.EntryRoom.{entries_in, starts_of, Rooms, Entering, enter_of, FirstsWritten}
+use Rattle.enter.specs.inner.EntryRoom.{entries_in, starts_of, Entering, enter_of, FirstsWritten}
 use Rattle.enter.specs.inner.Gaps.{rooms, entering}
 use Rattle.enter.proofs.Starts.{enter_fits}
 use Rattle.filling.specs.Rooms.{laid}
-use Rattle.store.specs.declared.Stored.{Stored}
 use Rattle.store.specs.declared.Stored.TheVariants.{NoStrips, NoEntries, Done}
 use Rattle.store.specs.declared.Rest.{Rest}
 use Rattle.store.specs.declared.Rest.TheVariants.{Enough, Short}
-use Rattle.store.specs.inner.Storing.{moved_to, width_at, widths_to, rest_of, Left, left, together, store_of, FirstsLaid}
+use Rattle.store.specs.inner.Storing.{moved_to, width_at, widths_to, rest_of, left, together, store_of, FirstsLaid}
 use Rattle.store.proofs.Strips.{after-length, after-before, after-strip, strips-count, after-laid, strips-same}
 use Rattle.store.proofs.Widths.{entries-same, starts-same, entries_more}
 use Rattle.store.proofs.Firsts.{firsts_stored}

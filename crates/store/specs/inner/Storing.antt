@@ -1,5 +1,5 @@
 -- For inner functions' contracts only: storing a copy in the code's order, and what it leaves. Definitions only. Assumes nothing.
-use Rattle.std.specs.Prelude.{ℕ, zero, suc, ◌+◌, ◌-◌, ◌*◌, ◌≡◌, Bool, true, false, List, ◌++◌, length, take, ltb, leb, Float}
+use Rattle.std.specs.Prelude.{ℕ, zero, suc, ◌+◌, ◌-◌, ◌*◌, ◌≡◌, true, false, List, ◌++◌, length, take, ltb, leb, Float}
 use Rattle.numbers.specs.Numbers.{◌⊕◌}
 use Rattle.trapezoid.specs.declared.Trapezoid.{Trapezoid}
 use Rattle.trapezoid.specs.Strip.{strip_at, capacity, moved_by}
