@@ -1,4 +1,4 @@
-// The planner's inner functions under plain names (`rt staticlib bench_exports`), for this project's
+// The planner's inner functions under plain names (to C by bench_exports_c), for this project's
 // comparisons with the Rust and its benchmarks alone. What a function requires its caller owes, and
 // nothing here tests it. A shop links plan_exports.
 #![tactic(auto)]
