@@ -1,21 +1,17 @@
 -- A search's looks are the list of columns from its start to the one yielded; the look count goes up by their number; 22 exactly where one of them has too many intervals. Assumes nothing.
-use Prim.{⊥}
-use Prim.Native.Nat.{ℕ, zero, suc, ◌+◌, ◌-◌, ◌*◌, ◌/◌, ◌<◌, ◌≤◌}
+use Prim.Native.Nat.{ℕ, zero, suc, ◌+◌, ◌<◌}
 use native.Mathlib.Omega.{arith}
-use mathlib.Core.Path.{◌≡◌, refl, sym, ap, ◌∙◌, subst, subst⁻¹}
-use mathlib.Core.List.{List, [], ◌∷◌, Memᴰ}
-use mathlib.Core.Logic.{◌⊎◌, inl, inr}
-use mathlib.Core.Bool.{Bool, true, false, ◌||◌, true≢false}
+use mathlib.Core.Path.{◌≡◌, refl, sym, ap, ◌∙◌, subst}
+use mathlib.Core.List.{List, [], ◌∷◌}
+use mathlib.Core.Bool.{Bool, true, false, ◌||◌}
 use lib.ListN.{length, get_or, set, length-set}
 use lib.Seq.{get_or-set_same, set-set, set-get_or}
-use lib.Ieee.{Float}
-use Rattle.look.specs.declared.height.Look.{Look}
 use Rattle.look.specs.declared.height.Look.TheVariants.{Free, Full}
 use Rattle.look.specs.declared.Answer.{Answer}
 use Rattle.look.specs.declared.Answer.TheVariants.{NoRoom, Seen}
 use Rattle.search.specs.declared.Found.{Found}
 use Rattle.search.specs.declared.Found.TheVariants.{At, Nowhere, Overflow}
-use Rattle.search.specs.inner.Searching.{Looked, looked, after_look, after_answer, counted, search_from}
+use Rattle.search.specs.inner.Searching.{after_look, after_answer, counted, search_from}
 
 -- the columns after one with this answer are looked at only if it is full
 abbrev pub onward : Answer → List ℕ → List ℕ

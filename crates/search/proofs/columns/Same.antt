@@ -4,7 +4,6 @@ use mathlib.Core.Path.{◌≡◌, refl}
 use lib.Ieee.{Float}
 use Rattle.strips.specs.declared.Rect.{Rect}
 use Rattle.filling.specs.Columns.{ranges, reversed, columns, regular_column, last_column, column_at}
-use Rattle.search.specs.declared.columns.Columns.{Columns}
 use Rattle.search.specs.columns.inner.Stands.{columns_of, reversed_of, regular_of, column_x, last_of}
 
 module _ (s b : Rect) (resolution : Float) where

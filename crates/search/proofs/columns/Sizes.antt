@@ -1,13 +1,12 @@
 -- Where bounds and resolution lie within refusal 31's ranges, there are at most 4,000,000,000 columns, and the ranges are finite. Assumes nothing.
-use Prim.Native.Nat.{ℕ, ◌+◌, ◌-◌, ◌*◌, ◌^◌, ◌≤◌, ◌<◌}
+use Prim.Native.Nat.{◌-◌, ◌*◌, ◌≤◌, ◌<◌}
 use lib.Dec.{lit≤}
-use lib.Ieee.{Float, binary64, to_unsigned}
+use lib.Ieee.{Float, binary64}
 use Rattle.numbers.specs.Numbers.{◌⊖◌, ◌⊘◌}
-use Rattle.numbers.proofs.Doubles.{k, o, u, Finite, Upto, sub_upto}
+use Rattle.numbers.proofs.Doubles.{k, o, u, Finite, sub_upto}
 use Rattle.numbers.proofs.Ranges.{div-within, floor_within}
 use Rattle.strips.specs.declared.Rect.{Rect}
 use Rattle.index.specs.inner.Listing.{Bounded}
-use Rattle.search.specs.declared.columns.Columns.{Columns}
 use Rattle.search.specs.columns.inner.Stands.{columns_of}
 
 -- "bound .. not finite or beyond ±1,000,000"

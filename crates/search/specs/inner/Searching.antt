@@ -1,6 +1,6 @@
 -- For inner functions' contracts only: one search in the code's order, with the look counts and the remembered columns by slot. That it is
 -- the search of the definition of filling is proved in proofs/. Definitions only. Assumes nothing.
-use Rattle.std.specs.Prelude.{ℕ, zero, suc, ◌+◌, ◌-◌, ◌*◌, ◌/◌, ◌<◌, ◌≤◌, ◌≡◌, refl, List, length, get_or, set, Float}
+use Rattle.std.specs.Prelude.{ℕ, zero, suc, ◌+◌, ◌-◌, ◌≤◌, List, get_or, set, Float}
 use Rattle.look.specs.declared.height.Look.{Look}
 use Rattle.look.specs.declared.height.Look.TheVariants.{Free, Full}
 use Rattle.look.specs.declared.Answer.{Answer}
