@@ -1,8 +1,8 @@
 /* panel.h: the panel planner for C (x86-64 Linux).
 
-   LINK     rt staticlib plan_exports                       makes target/staticlib/libplan_exports.a
+   LINK     tools/build.sh plan_exports                     makes target/staticlib/libplan_exports.a
             cc -Iinclude program.c target/staticlib/libplan_exports.a
-            panel_tables and panel_write are in target/staticlib/libjob_exports.a (rt staticlib job_exports); both may be linked.
+            panel_tables and panel_write are in target/staticlib/libjob_exports.a (tools/build.sh job_exports); both may be linked.
    EXAMPLES examples/c/panel.c is a whole program; the call at the end of this file is its heart. examples/c/edit.c edits a job.
 
    A job (the sheet, the kinds of panels, their quantities) goes in as bytes, a plan comes out as text and as a table of
