@@ -1,0 +1,41 @@
+-- `close_up::close_numbers` meets its contract. Assumes nothing.
+use native.Mathlib.Omega.{arith}
+use lib.ListN.{length-set}
+use Rattle.close_up.proofs.Moving.{moved_none, moved-one, closed_is}
+use Rattle.close_up.proofs.close_numbers.Goals as goal
+
+pub overflow_sub-last : goal.overflow_sub-last
+overflow_sub-last c = omega (arith, c.requires.0)
+
+pub loop-i-init : goal.loop-i-init
+loop-i-init c = (omega arith, omega (arith, c.requires.0), moved_none 0 1 c.args.n c.args.l.now)
+
+pub bounds-l-i : goal.bounds-l-i
+bounds-l-i c = let k = c.loop-i.invariant.2.long in omega (arith, c.loop-i-test.true, c.requires.1)
+
+pub bounds-l-i-in-loop-i : goal.bounds-l-i-in-loop-i
+bounds-l-i-in-loop-i c = let k = c.loop-i.invariant.2.long in omega (arith, c.loop-i-test.true, c.requires.1)
+
+pub loop-i-smaller : goal.loop-i-smaller
+loop-i-smaller c = omega (arith, c.loop-i-test.true)
+
+pub loop-i-preserved : goal.loop-i-preserved
+loop-i-preserved c = let l = c.loop-i in
+    let a = c.args in (
+      omega (arith, l.invariant.0),
+      omega (arith, c.loop-i-test.true),
+      moved-one 0 1 a.n l.i a.l.now l.l l.invariant.0
+          (omega (arith, c.loop-i-test.true, c.requires.1)) l.invariant.2,
+    )
+
+pub bounds-l-last : goal.bounds-l-last
+bounds-l-last c = let k = c.loop-i.invariant.2.long in omega (arith, c.requires.0, c.requires.1)
+
+pub shape_of-l : goal.shape_of-l
+shape_of-l c = simp length-set c.loop-i.invariant.2.long
+
+pub returns : goal.returns
+returns c = let l = c.loop-i in
+    let a = c.args in
+    closed_is 0 a.v a.n a.m a.l.now c.requires.0 c.requires.1 l.i l.l
+    (omega (arith, l.invariant.1, c.loop-i-test.false)) l.invariant.2
