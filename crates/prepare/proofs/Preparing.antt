@@ -1,16 +1,13 @@
 -- What is prepared, from what the sheet and the shapes leave. Assumes nothing.
 use mathlib.Core.Path.{◌≡◌, sym, ap, subst, ◌∙◌}
-use mathlib.Core.Bool.{Bool, true, false}
-use mathlib.Core.List.{List, [], ◌∷◌, ◌++◌, map, flat_map}
-use Prim.Native.Nat.{ℕ, ◌+◌, ◌*◌, ◌≤◌, ◌<◌}
-use native.Mathlib.Omega.{arith}
+use mathlib.Core.Bool.{true}
+use mathlib.Core.List.{List, ◌++◌}
+use Prim.Native.Nat.{ℕ, ◌≤◌, ◌<◌}
 use lib.ListN.{length}
-use lib.Dec.{ltb}
 use lib.Ieee.{Float}
 use borrow.Author.Tests.{lt-ltb, le-ltb}
 use Rattle.trapezoid.specs.Strip.{capacity}
 use Rattle.index.specs.Buckets.{standing_capacity}
-use Rattle.index.specs.inner.Listing.{Laid}
 use Rattle.strips.specs.declared.Rect.{Rect}
 use Rattle.job.specs.declared.Header.{Header}
 use Rattle.frames.specs.declared.Frame.{Frame}
@@ -22,7 +19,7 @@ use Rattle.filling.specs.declared.Tables.{Tables}
 use Rattle.filling.specs.declared.Verdict.TheVariants.{Accepted, Refused}
 use Rattle.filling.specs.Refusals.{refuse_if}
 use Rattle.filling.specs.Shapes.{Shape, Planner, planner_of, set_strips, set_bounds}
-use Rattle.filling.specs.Rooms.{Rooms, laid}
+use Rattle.filling.specs.Rooms.{Rooms}
 use Rattle.filling.specs.State.{by_slot, slot_shape}
 use Rattle.filling.specs.Consistent.{entries_for}
 use Rattle.filling.specs.Start.{apart_strips_of, inset_strips, tables_of, prepare_verdict}
@@ -33,7 +30,7 @@ use Rattle.shapes.specs.slots.inner.Slots.{slot_of}
 use Rattle.shapes.specs.inner.ShapeRooms.{ShapesAre}
 use Rattle.prepare.specs.declared.sheet.SheetLaid.{SheetLaid}
 use Rattle.prepare.specs.declared.sheet.SheetLaid.TheVariants as Sheet
-use Rattle.prepare.specs.sheet.inner.SheetRoom.{SheetIn, SheetIs}
+use Rattle.prepare.specs.sheet.inner.SheetRoom.{SheetIs}
 use Rattle.prepare.specs.declared.Prepared.{Prepared}
 use Rattle.prepare.specs.inner.Ready.{FromTables, given, PreparedIs}
 use Rattle.prepare.proofs.Tabled.{slots_are, sheet-bounds_are, sheet-strips_are}

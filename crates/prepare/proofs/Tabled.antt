@@ -1,19 +1,17 @@
 -- The shapes by slot of a job in its tables are those of its planner. Assumes nothing.
-use mathlib.Core.Path.{◌≡◌, refl, sym, ap, ap₂, subst, ◌∙◌}
+use mathlib.Core.Path.{◌≡◌, refl, sym, ap, ◌∙◌}
 use mathlib.Core.Logic.{◌⊎◌, inl, inr}
-use mathlib.Core.Bool.{Bool, true, false, ◌&&◌}
-use mathlib.Core.List.{List, [], ◌∷◌, ◌++◌, map}
-use Prim.Native.Nat.{ℕ, zero, suc, ◌+◌, ◌-◌, ◌*◌, ◌/◌, ◌%◌, ◌≤◌, ◌<◌}
+use mathlib.Core.Bool.{true, false}
+use mathlib.Core.List.{List, [], ◌∷◌, map}
+use Prim.Native.Nat.{ℕ, zero, suc, ◌+◌, ◌*◌, ◌/◌, ◌%◌, ◌≤◌, ◌<◌}
 use native.Mathlib.Omega.{arith}
 use lib.ListN.{length, get_or}
-use lib.Dec.{ltb}
 use lib.Ieee.{Float}
 use borrow.Author.Tests.{lt-ltb, le-ltb}
 use Rattle.numbers.proofs.Truth.{below_or_not}
 use Rattle.trapezoid.specs.Strip.{flat}
-use Rattle.index.specs.Buckets.{up_from}
 use Rattle.index.proofs.Flat.{map_at}
-use Rattle.kinds.specs.Kinds.{Orientation, Kind, kind_of, head_at}
+use Rattle.kinds.specs.Kinds.{Kind, kind_of, head_at}
 use Rattle.kinds.specs.inner.Tables.{tabulate, orientation_at, orientations_of, kind_with, kind_at}
 use Rattle.kinds.proofs.Tables.{length-tabulate, tabulate_at}
 use Rattle.job.specs.declared.Header.{Header}
@@ -21,9 +19,9 @@ use Rattle.job.specs.declared.JobRead.TheVariants.{Good}
 use Rattle.frames.specs.declared.Frame.{Frame}
 use Rattle.frames.specs.Frames.{framed}
 use Rattle.kinds.specs.sets.Sets.{Set}
-use Rattle.job.specs.Jobs.{Job, frame_of, Answer, accepted}
+use Rattle.job.specs.Jobs.{Job, frame_of, accepted}
 use Rattle.job.specs.inner.Meaning.{job_read}
-use Rattle.filling.specs.Shapes.{Shape, Planner, planner_of, set_strips, set_bounds, shape_for, no_bounds, no_shape, shape_of}
+use Rattle.filling.specs.Shapes.{Shape, planner_of, set_strips, set_bounds, shape_for, no_shape, shape_of}
 use Rattle.filling.specs.State.{by_slot, slot_shape}
 use Rattle.filling.proofs.Reading.{up_from-same}
 use Rattle.shapes.specs.set_strips.inner.SetStrips.{strips_of, strips_at}
