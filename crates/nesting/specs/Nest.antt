@@ -9,7 +9,7 @@ use Rattle.filling.specs.Shapes.{planner_of}
 use Rattle.filling.specs.Rooms.{Lent, position_capacity}
 use Rattle.filling.specs.Start.{prepare_verdict}
 use Rattle.filling.specs.Fill.{Planned, not_planned, planned_with}
-use Rattle.nesting.specs.Rounds.{Kept, Swaps, kept, ended, swap_search}
+use Rattle.nesting.specs.Rounds.{Swaps, kept, ended, swap_search}
 
 -- "30 is tested as soon as the job is accepted", then "the sheet's strips (20) and entries (21), the shapes' strips (20), and the filling"
 unfoldable pub nest_verdict : Job → Lent → Verdict

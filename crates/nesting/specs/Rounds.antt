@@ -1,5 +1,5 @@
 -- Document 01, "Order and swaps": the rounds and their swaps. Definitions only. Assumes nothing.
-use Rattle.std.specs.Prelude.{ℕ, zero, suc, ◌%◌, Bool, true, false, not, ◌&&◌, ◌||◌, List, [], ◌∷◌, length, get_or, set, leb, eqb, pos}
+use Rattle.std.specs.Prelude.{ℕ, zero, suc, ◌%◌, Bool, true, false, not, ◌&&◌, ◌||◌, List, [], length, get_or, set, leb, eqb, pos}
 use Rattle.std.specs.Bool.{beq}
 use Rattle.std.specs.Float.Ieee.{lt, eq}
 use Rattle.numbers.specs.Numbers.{pos_zero}

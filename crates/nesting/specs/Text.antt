@@ -1,10 +1,9 @@
 -- Document 01, "The printed plan": the lines as bytes. Definitions only. Assumes nothing.
-use Rattle.std.specs.Prelude.{ℕ, zero, suc, ◌+◌, ◌-◌, ◌*◌, ◌/◌, ◌%◌, ◌^◌, Bool, true, false, length, get_or, take, ltb, eqb, Float}
-use mathlib.Core.List.{List, [], ◌∷◌, ◌++◌, map, flat_map}
+use Rattle.std.specs.Prelude.{ℕ, zero, suc, ◌+◌, ◌*◌, ◌/◌, ◌%◌, Bool, true, false, length, get_or, ltb, eqb, Float}
+use mathlib.Core.List.{List, [], ◌∷◌, ◌++◌, flat_map}
 use Rattle.std.specs.Float.{nan, binary64}
 use Rattle.std.specs.Float.Ieee.{to_bits, to_unsigned}
 use Rattle.index.specs.Buckets.{up_from}
-use Rattle.kinds.specs.Kinds.{Kind}
 use Rattle.job.specs.Jobs.{Job, Answer, accepted, refused, read_job}
 use Rattle.filling.specs.declared.Plan.{Plan}
 use Rattle.filling.specs.declared.Refusal.{Refusal}
@@ -15,7 +14,7 @@ use Rattle.filling.specs.Refusals.{number_of}
 use Rattle.filling.specs.Rooms.{Lent}
 use Rattle.filling.specs.Accounts.{Position}
 use Rattle.filling.specs.Fill.{Planned}
-use Rattle.nesting.specs.CopyOrder.{Numbered, numbered}
+use Rattle.nesting.specs.CopyOrder.{numbered}
 use Rattle.nesting.specs.Nest.{nest_of}
 
 -- "Counts are decimal": n has at most so many digits
