@@ -1,7 +1,7 @@
 -- For inner functions' contracts only: what the tables of a job's kinds say of the order of its copies. Definitions only. Assumes nothing.
 use Rattle.std.specs.Prelude.{ℕ, zero, suc, ◌+◌, ◌*◌, List, [], get_or, replicate, eqb, Float}
 use Rattle.std.specs.Float.{nan}
-use Rattle.kinds.specs.Kinds.{Kind, signed}
+use Rattle.kinds.specs.Kinds.{signed}
 use Rattle.nesting.specs.CopyOrder.{Numbered}
 
 -- kind k with its number, as the tables have it; its sets lie elsewhere
