@@ -1,10 +1,10 @@
 -- Placing a copy. Assumes nothing.
-use Prim.Native.Nat.{ℕ, zero, suc, ◌+◌, ◌-◌, ◌*◌, ◌/◌, ◌<◌, ◌≤◌}
+use Prim.Native.Nat.{ℕ, zero, suc, ◌+◌, ◌*◌, ◌<◌, ◌≤◌}
 use native.Mathlib.Omega.{arith}
-use mathlib.Core.Path.{◌≡◌, refl, sym, ap, ◌∙◌, subst, subst⁻¹}
+use mathlib.Core.Path.{◌≡◌, sym, ap, ◌∙◌, subst, subst⁻¹}
 use mathlib.Core.Bool.{Bool, true, false}
 use mathlib.Core.List.{List}
-use lib.ListN.{length, get_or, set, take}
+use lib.ListN.{length, take}
 use lib.Seq.{length-take-le}
 use lib.Ieee.{Float}
 use Rattle.trapezoid.specs.Strip.{capacity}
@@ -22,13 +22,11 @@ use Rattle.choose.specs.declared.Winner.TheVariants as Winners
 use Rattle.choose.specs.inner.Choosing.{bounds_at, part_at, apart_part, wins_of, first_of, winner_of, against_of, better_of, Surroundings, columns_at, looks_at, Chosen, chosen, won, orientation_of, bettered, choose_from}
 use Rattle.store.specs.declared.Stored.{Stored}
 use Rattle.store.specs.declared.Stored.TheVariants.{NoStrips, NoEntries, Done}
-use Rattle.store.specs.inner.Storing.{Left, left, store_of, Entered, FirstsLaid, FirstsEntered}
+use Rattle.store.specs.inner.Storing.{left, store_of, Entered, FirstsLaid, FirstsEntered}
 use Rattle.store.proofs.Firsts.{firsts_same}
 use Rattle.place.specs.declared.Totals.{Totals}
-use Rattle.place.specs.declared.Outcome.{Outcome}
-use Rattle.place.specs.declared.Outcome.TheVariants.{At, Nowhere, Refused}
 use Rattle.place.specs.declared.Step.{Step}
-use Rattle.place.specs.inner.Placing.{step, after_of, without_of, PutLeft, put, put_left, put_of, settle_of, Among, Under, Placed, done, place_with, place_of}
+use Rattle.place.specs.inner.Placing.{after_of, without_of, PutLeft, put, put_left, put_of, settle_of, Among, Under, done, place_with, place_of}
 
 -- ---- the winner is stored
 module _ (ix : Index) (p : Choice) (q : Part) (t : Totals) (apart placed : List Float) (e s f : List ℕ) (part : List Float) (k : ℕ) (stored : Stored) (p' : List Float) (e' s' : List ℕ) (r : Step)

@@ -1,17 +1,17 @@
 -- What stands and what the job fixes make every slot ready to be searched. Assumes nothing.
-use Prim.Native.Nat.{ℕ, zero, suc, ◌+◌, ◌-◌, ◌*◌, ◌/◌, ◌<◌, ◌≤◌}
+use Prim.Native.Nat.{ℕ, ◌*◌, ◌/◌, ◌<◌}
 use native.Mathlib.Omega.{arith}
-use mathlib.Core.Path.{◌≡◌, refl, sym, ap, ◌∙◌, subst, subst⁻¹}
+use mathlib.Core.Path.{◌≡◌, sym, subst, subst⁻¹}
 use mathlib.Core.List.{List}
 use lib.ListN.{length, take}
 use lib.Seq.{length-take-le}
 use lib.Ieee.{Float}
-use Rattle.trapezoid.specs.Strip.{strip_at, capacity}
+use Rattle.trapezoid.specs.Strip.{capacity}
 use Rattle.index.specs.declared.Index.{Index}
 use Rattle.index.specs.inner.Listing.{Laid, FirstBuckets}
 use Rattle.index.proofs.NewIndex.{laid-after}
 use Rattle.index.proofs.FirstBuckets.{firsts_moved}
-use Rattle.look.specs.inner.Ready.{BoundedStrip, BoundedStrips, Lookable}
+use Rattle.look.specs.inner.Ready.{BoundedStrip, BoundedStrips}
 use Rattle.choose.specs.inner.Choosing.{Surroundings, Ready}
 use Rattle.store.proofs.Strips.{prefix_strip}
 use Rattle.place.specs.inner.Standing.{Standing, Fixed}

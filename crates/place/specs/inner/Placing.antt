@@ -1,12 +1,11 @@
 -- For inner functions' contracts only: the winner stands, or the copy has no place; 22, 20 and 21. That it is the step of the definition of
 -- filling is proved in the crate filling_laws. Definitions only. Assumes nothing.
-use Rattle.std.specs.Prelude.{ℕ, zero, suc, ◌+◌, ◌-◌, ◌*◌, ◌<◌, ◌≤◌, List, get_or, Float}
+use Rattle.std.specs.Prelude.{ℕ, ◌+◌, ◌*◌, ◌<◌, List, get_or, Float}
 use Rattle.std.specs.Float.{nan}
 use Rattle.numbers.specs.Numbers.{◌⊕◌, larger, pos_zero}
 use Rattle.trapezoid.specs.Strip.{capacity}
 use Rattle.index.specs.declared.Index.{Index}
 use Rattle.filling.specs.declared.State.{State}
-use Rattle.filling.specs.declared.Refusal.{Refusal}
 use Rattle.filling.specs.declared.Verdict.{Verdict}
 use Rattle.filling.specs.declared.Verdict.TheVariants as Verdicts
 use Rattle.filling.specs.declared.Refusal.TheVariants.{StripRoom, EntryRoom, IntervalRoom}
