@@ -1,17 +1,15 @@
 -- A state and rooms that refusal 31 lets pass hold what placing the next copy requires. Assumes nothing.
-use Prim.Native.Nat.{ℕ, zero, suc, ◌+◌, ◌-◌, ◌*◌, ◌/◌, ◌^◌, ◌<◌, ◌≤◌}
-use native.Mathlib.Nat.{le_trans}
+use Prim.Native.Nat.{ℕ, suc, ◌+◌, ◌*◌, ◌/◌, ◌^◌, ◌<◌, ◌≤◌}
 use native.Mathlib.Omega.{arith}
-use mathlib.Core.Path.{◌≡◌, refl, sym, ap, subst, subst⁻¹, ◌∙◌}
-use mathlib.Core.Logic.{inl, inr}
+use mathlib.Core.Path.{◌≡◌, subst, subst⁻¹}
 use mathlib.Core.Bool.{Bool, true, false}
 use mathlib.Core.List.{List}
 use lib.ListN.{length, get_or, take}
 use lib.Seq.{length-take-le}
 use lib.Dec.{T, leb}
-use lib.Ieee.{Float, nan, binary64, fits}
+use lib.Ieee.{Float, binary64, fits}
 use borrow.Author.Tests.{leb-true}
-use Rattle.numbers.proofs.Truth.{either, both_first, both_second}
+use Rattle.numbers.proofs.Truth.{both_first, both_second}
 use Rattle.numbers.proofs.Doubles.{k, o, u}
 use Rattle.numbers.proofs.Literals.{milli}
 use Rattle.trapezoid.specs.Strip.{strip_at, capacity}
@@ -35,11 +33,11 @@ use Rattle.filling.specs.Order.{rearranged}
 use Rattle.filling.specs.State as States
 use Rattle.filling.specs.State.{orientation_counts, apart_room, inset_room, shape_at, planner_at, order_of, track_at, tracks_of, standing_of}
 use Rattle.filling.specs.Consistent.{every, strips_fit, bounds_fit, taken_fits, strip_counts_fit, parts_fit, column_fits, track_fits, track_table_fits, resolution_fits, shape_fits, planner_fits, layout_fits, gaps_fit, copies_fit, entries_fit, firsts_fit, sheet_index, placed_strips_of, consistent}
-use Rattle.search.specs.columns.inner.Stands.{columns_of, column_x, last_of}
+use Rattle.search.specs.columns.inner.Stands.{columns_of}
 use Rattle.search.proofs.columns.Same as Same
 use Rattle.search.proofs.columns.Steps.{last-bound}
 use Rattle.search.proofs.columns.Sizes.{BoundedRect, y_low-bounded, y_high-bounded, few-columns}
-use Rattle.choose.specs.inner.Choosing.{part_at, bounds_at, inset_part, apart_part, Surroundings, surroundings, columns_at}
+use Rattle.choose.specs.inner.Choosing.{part_at, bounds_at, inset_part, apart_part, surroundings}
 use Rattle.store.proofs.Strips.{prefix_strip}
 use Rattle.place.specs.inner.Standing.{Standing, Fixed}
 use Rattle.filling_laws.proofs.ReadyNumbers.{RectFits, bounds_are, resolution_is, resolving}

@@ -1,8 +1,7 @@
 -- What refusal 31's tests say of strips, and of what stands by kind and orientation. Assumes nothing.
-use Prim.Native.Nat.{ℕ, zero, suc, ◌+◌, ◌*◌, ◌<◌, ◌≤◌}
+use Prim.Native.Nat.{ℕ, zero, suc, ◌+◌, ◌*◌, ◌<◌}
 use native.Mathlib.Omega.{arith}
-use mathlib.Core.Path.{◌≡◌, refl, sym, ap, subst, ◌∙◌}
-use mathlib.Core.Logic.{◌⊎◌, inl, inr}
+use mathlib.Core.Path.{◌≡◌, sym, ap, ◌∙◌}
 use mathlib.Core.Bool.{Bool, true, false, not, cond}
 use mathlib.Core.List.{List, [], ◌∷◌, map}
 use lib.ListN.{length, get_or, take, drop}
@@ -10,7 +9,6 @@ use lib.Dec.{T, leb}
 use lib.Ieee.{Float, nan, binary64, fits, lt}
 use Rattle.numbers.proofs.Patterns.{nan-fits}
 use Rattle.numbers.proofs.Truth.{both_first, both_second}
-use Rattle.trapezoid.specs.declared.Trapezoid.{Trapezoid}
 use Rattle.trapezoid.specs.Strip.{strip_at, capacity, part_of}
 use Rattle.index.specs.Buckets.{up_from}
 use Rattle.look.specs.inner.Ready.{BoundedStrip, BoundedStrips}

@@ -1,10 +1,10 @@
 -- The choice in the code's order is the choice of the definition of filling, over every orientation of a kind: its winner, its look counts, what
 -- it remembers, and 22 exactly where a look that is made lacks room. Assumes nothing.
 use Prim.{⊥}
-use Prim.Native.Nat.{ℕ, zero, suc, ◌+◌, ◌-◌, ◌*◌, ◌<◌, ◌≤◌}
+use Prim.Native.Nat.{ℕ, zero, suc, ◌+◌, ◌<◌, ◌≤◌}
 use native.Mathlib.Omega.{arith}
 use native.Mathlib.Numerals.{add-one}
-use mathlib.Core.Path.{◌≡◌, refl, sym, ap, ◌∙◌, subst}
+use mathlib.Core.Path.{◌≡◌, refl, sym, ap, ◌∙◌}
 use mathlib.Core.Logic.{◌⊎◌, inl, inr}
 use mathlib.Core.Bool.{Bool, true, false, ◌||◌, true≢false}
 use mathlib.Core.List.{List, [], ◌∷◌, ◌++◌, map, append_assoc, append-nil}
@@ -14,7 +14,6 @@ use lib.Ieee.{Float}
 use Rattle.numbers.specs.Numbers.{◌⊕◌}
 use Rattle.numbers.proofs.Truth.{either}
 use Rattle.index.specs.Buckets.{up_from}
-use Rattle.filling.specs.Columns.{column_at}
 use Rattle.filling.specs.Shapes.{Planner, Shape}
 use Rattle.filling.specs.Search as Filling
 use Rattle.filling.specs.Search.{Track, ranges_of, remembered, search_all, searched_all}
@@ -22,18 +21,15 @@ use Rattle.filling.specs.Choice as Definition
 use Rattle.filling.specs.Choice.{choice_of, choices, best}
 use Rattle.filling.specs.State.{remembered_number, track_at}
 use Rattle.filling.specs.NextCopy.{any_above, interval_counts}
-use Rattle.search.specs.declared.columns.Columns.{Columns}
-use Rattle.search.specs.columns.inner.Stands.{columns_of, column_x}
 use Rattle.search.proofs.columns.Same as Same
 use Rattle.search.specs.declared.Found.{Found}
-use Rattle.search.specs.declared.Found.TheVariants as Founds
-use Rattle.search.specs.inner.Searching.{Tracked, tracked, search_of}
+use Rattle.search.specs.inner.Searching.{Tracked}
 use Rattle.choose.specs.declared.Choice.{Choice}
 use Rattle.choose.specs.declared.Winner.{Winner}
 use Rattle.choose.specs.declared.Winner.TheVariants.{At, Nowhere, Overflow}
-use Rattle.choose.specs.inner.Choosing.{bounds_at, part_at, inset_part, apart_part, winner_of, wins_of, against_of, better_of, Surroundings, surroundings, columns_at, looks_at, Chosen, chosen, won, orientation_of, bettered, choose_from}
+use Rattle.choose.specs.inner.Choosing.{bounds_at, part_at, inset_part, apart_part, winner_of, wins_of, better_of, Surroundings, surroundings, columns_at, Chosen, chosen, won, orientation_of, bettered, choose_from}
 use Rattle.choose.proofs.Turns.{first-true, first-false}
-use Rattle.filling_laws.proofs.SameSearch.{found_of, count_for, found_for, looks_for, TrackedFor, same_over, same-fine}
+use Rattle.filling_laws.proofs.SameSearch.{found_of, count_for, found_for, looks_for, same_over, same-fine}
 
 -- ---- the winner
 abbrev pub choice_in : Definition.Choice → Choice

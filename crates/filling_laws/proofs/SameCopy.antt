@@ -1,17 +1,17 @@
 -- Placing a copy in code is the step of the definition of filling: 22, then 20, then 21, else what it leaves. Assumes nothing.
 use Prim.{⊥}
-use Prim.Native.Nat.{ℕ, zero, suc, ◌+◌, ◌-◌, ◌*◌, ◌<◌, ◌≤◌}
+use Prim.Native.Nat.{ℕ, zero, suc, ◌+◌, ◌*◌, ◌<◌, ◌≤◌}
 use native.Mathlib.Omega.{arith}
 use native.Mathlib.Numerals.{add-one}
 use mathlib.Core.Path.{◌≡◌, refl, sym, ap, ap₂, ◌∙◌, subst}
 use mathlib.Core.Logic.{◌⊎◌, inl, inr}
-use mathlib.Core.Bool.{Bool, true, false, ◌||◌, true≢false}
+use mathlib.Core.Bool.{Bool, true, false}
 use mathlib.Core.List.{List, [], ◌∷◌, ◌++◌, map}
 use lib.ListN.{length, get_or, take}
 use lib.Seq.{sets}
 use lib.Dec.{ltb}
 use lib.Ieee.{Float}
-use Rattle.numbers.specs.Numbers.{◌⊕◌, larger, pos_zero}
+use Rattle.numbers.specs.Numbers.{larger, pos_zero}
 use Rattle.numbers.proofs.Truth.{either}
 use Rattle.trapezoid.specs.Strip.{capacity}
 use Rattle.index.specs.declared.Index.{Index}
@@ -34,22 +34,19 @@ use Rattle.filling.specs.Consistent.{sheet_index, entries_for, firsts_for}
 use Rattle.filling.specs.NextCopy as Next
 use Rattle.filling.specs.NextCopy.{any_above, interval_counts, new_strips, store_verdict, winner_verdict, copy_verdict, entered, state_with, layout_after, state_after, stored, rooms_after, no_step, place_found, place_copy}
 use Rattle.filling.proofs.Steps.{refuse_yes, refuse_no}
-use Rattle.choose.specs.declared.Choice.{Choice}
 use Rattle.choose.specs.declared.Winner.{Winner}
 use Rattle.choose.specs.declared.Winner.TheVariants as Winners
 use Rattle.choose.specs.inner.Choosing.{part_at, apart_part, Chosen, chosen, choose_from}
-use Rattle.store.specs.declared.Stored.{Stored}
 use Rattle.store.specs.declared.Stored.TheVariants as Answers
 use Rattle.store.specs.inner.Storing.{Left, left, together, store_of, FirstsLaid}
 use Rattle.store.proofs.Strips.{strips-count}
 use Rattle.place.specs.declared.Totals.{Totals}
 use Rattle.place.specs.declared.Outcome.{Outcome}
 use Rattle.place.specs.declared.Outcome.TheVariants.{At, Nowhere, Refused}
-use Rattle.place.specs.declared.Step.{Step}
-use Rattle.place.specs.inner.Placing.{totals_of, step, after_of, without_of, PutLeft, put, put_left, put_of, settle_of, Among, Placed, place_with, place_of, orientation_number, outcome_x, y_of, gap_of}
+use Rattle.place.specs.inner.Placing.{totals_of, step, without_of, put, put_left, put_of, settle_of, Placed, place_with, place_of, orientation_number, outcome_x, y_of, gap_of}
 use Rattle.place.proofs.Putting.{chosen_among}
 use Rattle.filling_laws.proofs.Firsts.{firsts_stay, firsts_front}
-use Rattle.filling_laws.proofs.SameChoice.{choice_in, best_of, world_of, shape_in, shapes_from, tracks_from, founds_from, tracked_from, above_from, choose_over, choose_fine}
+use Rattle.filling_laws.proofs.SameChoice.{choice_in, best_of, world_of, shape_in, shapes_from, tracks_from, choose_over, choose_fine}
 
 -- ---- the definition's step, from what the code leaves: firsts are the placed strips' bucket numbers after it
 

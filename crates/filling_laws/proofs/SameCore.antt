@@ -10,7 +10,7 @@ use Rattle.index.specs.Buckets.{up_from}
 use Rattle.index.specs.inner.Listing.{FirstBuckets}
 use Rattle.job.specs.Jobs.{Job}
 use Rattle.filling.specs.declared.State.{State}
-use Rattle.filling.specs.Shapes.{Planner, Shape}
+use Rattle.filling.specs.Shapes.{Planner}
 use Rattle.filling.specs.Search.{Track}
 use Rattle.filling.specs.Rooms.{Rooms}
 use Rattle.filling.specs.State as States
@@ -20,7 +20,7 @@ use Rattle.filling.specs.NextCopy.{place_copy, place_next, core_step}
 use Rattle.choose.specs.inner.Choosing.{part_at, bounds_at}
 use Rattle.store.specs.inner.Storing.{FirstsLaid}
 use Rattle.place.specs.inner.Placing.{Placed}
-use Rattle.filling_laws.proofs.SameCopy.{step_from, standing, ss, ts, code_of, same_step}
+use Rattle.filling_laws.proofs.SameCopy.{step_from, ss, ts, code_of, same_step}
 
 -- row i of a table by kind and orientation
 rows_at : {A : Type 0} (f : ℕ → A) (k : ℕ) (ns : List ℕ) (i : ℕ) → i < length ns → get_or (slot_rows f k ns) i [] ≡ map (λ o. f (16 * (k + i) + o)) (up_from (get_or ns i 0) 0)

@@ -20,7 +20,7 @@ use Rattle.look.specs.declared.height.Look.TheVariants.{Free, Full}
 use Rattle.look.specs.declared.Answer.{Answer}
 use Rattle.look.specs.declared.Answer.TheVariants.{NoRoom, Seen}
 use Rattle.look.specs.inner.Ready.{answer_of, look_of}
-use Rattle.filling.specs.Columns.{ranges, reversed, columns, regular_column, last_column, column_at}
+use Rattle.filling.specs.Columns.{ranges, columns, regular_column, column_at}
 use Rattle.filling.specs.Shapes.{Planner, Shape}
 use Rattle.filling.specs.Search as Filling
 use Rattle.filling.specs.Search.{ranges_of, reversed_for, intervals_at, look_at, first_free, Remembered, column, none, remembered, columns_from}
@@ -29,7 +29,7 @@ use Rattle.filling.specs.NextCopy.{any_above}
 use Rattle.filling.proofs.Searches.{looks_open}
 use Rattle.filling.proofs.FirstFree.{first_free_lem, first_full}
 use Rattle.search.specs.declared.columns.Columns.{Columns}
-use Rattle.search.specs.columns.inner.Stands.{columns_of, reversed_of, regular_of, column_x, last_of, start_from, start_of}
+use Rattle.search.specs.columns.inner.Stands.{columns_of, reversed_of, regular_of, column_x, last_of, start_of}
 use Rattle.search.proofs.columns.Steps.{start-reversed, start_none, start_at}
 use Rattle.search.proofs.columns.Same as Same
 use Rattle.search.specs.declared.Found.{Found}

@@ -1,10 +1,10 @@
 -- Before the first copy: what holds of any placed rooms, and that the filling is the definition's. Assumes nothing.
-use Prim.Native.Nat.{ℕ, zero, suc, ◌+◌, ◌-◌, ◌*◌, ◌/◌, ◌≤◌, ◌<◌, min}
+use Prim.Native.Nat.{ℕ, ◌+◌, ◌*◌, ◌≤◌, ◌<◌, min}
 use native.Mathlib.Omega.{arith}
 use mathlib.Core.Path.{◌≡◌, refl, sym, ap, ap₂, ◌∙◌}
 use mathlib.Core.Bool.{Bool, true, false, not, ◌&&◌}
 use mathlib.Core.List.{List, [], ◌∷◌, ◌++◌}
-use lib.ListN.{length, get_or, take, drop, replicate, length-replicate, get_or-replicate}
+use lib.ListN.{length, get_or, replicate, length-replicate, get_or-replicate}
 use lib.Seq.{slice_empty}
 use lib.Dec.{ltb, leb}
 use borrow.Author.Tests.{le-ltb, le-leb}
@@ -12,7 +12,7 @@ use lib.Ieee.{Float}
 use Rattle.numbers.specs.Numbers.{pos_zero}
 use Rattle.trapezoid.specs.Strip.{capacity}
 use Rattle.index.specs.declared.Index.{Index}
-use Rattle.index.specs.Buckets.{buckets, up_from, keep, strip_numbers, standing_capacity}
+use Rattle.index.specs.Buckets.{up_from, keep, strip_numbers, standing_capacity}
 use Rattle.index.specs.inner.Listing.{Laid, entered_from}
 use Rattle.job.specs.Jobs.{Job, accepted, read_job}
 use Rattle.filling.specs.declared.State.{State}
@@ -21,8 +21,8 @@ use Rattle.filling.specs.declared.Verdict.{Verdict}
 use Rattle.filling.specs.declared.Verdict.TheVariants.{Accepted}
 use Rattle.filling.specs.Refusals.{refuse_if}
 use Rattle.filling.specs.Shapes.{Planner, planner_of, standing_strips}
-use Rattle.filling.specs.Plain.{Plain, plain_start}
-use Rattle.filling.specs.Rooms.{Rooms, Lent, position_capacity, laid, zeros}
+use Rattle.filling.specs.Plain.{plain_start}
+use Rattle.filling.specs.Rooms.{Rooms, Lent, position_capacity}
 use Rattle.filling.specs.Order.{rearranged}
 use Rattle.filling.specs.State.{planner_at, standing_of, empty_layout}
 use Rattle.filling.specs.Consistent.{strip_counts_fit, parts_fit, entries_for, placed_strips_of}
@@ -32,14 +32,12 @@ use Rattle.filling.proofs.Reading.{length-zeros}
 use Rattle.filling.proofs.Sizes.{Sized, sized}
 use Rattle.filling.proofs.Steps.{Linked}
 use Rattle.filling.proofs.Begin.{first-order, first-parts, first-counts, first_linked, rearranged-length}
-use Rattle.filling.proofs.Demand3.{Kept, first-kept}
-use Rattle.filling.proofs.Numbers31.{WithinBounds}
+use Rattle.filling.proofs.Demand3.{first-kept}
 use Rattle.filling.proofs.WithinBounds.{jobs_within}
 use Rattle.filling.proofs.Stood.{Stands, Reaches}
 use Rattle.filling.proofs.OwnStates.{Own, first_fine, first-few, first-sheet, first-placed, first_passes}
 use Rattle.filling.proofs.FirstBuckets.{first_firsts}
-use Rattle.place.specs.declared.Totals.{Totals}
-use Rattle.filling_laws.specs.fill_laws.inner.Prepared.{state_by, rooms_by}
+use Rattle.filling_laws.specs.fill_laws.inner.Prepared.{rooms_by}
 use Rattle.filling_laws.proofs.fill_laws.Alike.{Alike, fill_alike}
 
 -- ---- no strip stands

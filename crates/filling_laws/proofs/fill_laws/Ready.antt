@@ -1,12 +1,12 @@
 -- Between the copies of a filling: what placing the next one requires. Assumes nothing.
-use Prim.Native.Nat.{ℕ, zero, suc, ◌+◌, ◌-◌, ◌*◌, ◌/◌, ◌^◌, ◌≤◌, ◌<◌}
+use Prim.Native.Nat.{ℕ, zero, suc, ◌+◌, ◌*◌, ◌/◌, ◌^◌, ◌<◌}
 use native.Mathlib.Omega.{arith}
 use mathlib.Core.Path.{◌≡◌, refl, sym, ap, subst, ◌∙◌}
 use mathlib.Core.Bool.{true}
 use mathlib.Core.List.{List, [], ◌∷◌, ◌++◌, map}
 use lib.ListN.{length, get_or, take, drop, replicate, length-map, take-append-drop}
 use lib.Dec.{T}
-use lib.Ieee.{Float, nan, binary64, fits, of_bits}
+use lib.Ieee.{Float, binary64, fits, of_bits}
 use Rattle.numbers.specs.Numbers.{pos_zero}
 use Rattle.numbers.proofs.Doubles.{finite}
 use Rattle.trapezoid.specs.Strip.{capacity}
@@ -15,7 +15,6 @@ use Rattle.index.specs.inner.Listing.{Laid}
 use Rattle.job.specs.Jobs.{Job}
 use Rattle.job.proofs.Accepted.{job_good}
 use Rattle.filling.specs.declared.State.{State}
-use Rattle.filling.specs.declared.Tables.{Tables}
 use Rattle.filling.specs.Shapes.{Planner, planner_of}
 use Rattle.filling.specs.Rooms.{Rooms, laid, zeros}
 use Rattle.filling.specs.Order.{rearranged}
@@ -33,8 +32,8 @@ use Rattle.place.specs.inner.Standing.{Standing, Fixed}
 use Rattle.filling_laws.proofs.ReadyNumbers.{RectFits}
 use Rattle.filling_laws.proofs.ReadyStrips.{AllFit, drop-fit}
 use Rattle.filling_laws.proofs.Ready.{InDoubles, ready_fixed, ready-counts, ready-standing}
-use Rattle.filling_laws.specs.fill_laws.inner.Prepared.{Given, given, Prepared, state_by, rooms_by}
-use Rattle.filling_laws.proofs.fill_laws.Between.{Held, Own', given_is, kind-below, slots-below}
+use Rattle.filling_laws.specs.fill_laws.inner.Prepared.{Given, Prepared, state_by, rooms_by}
+use Rattle.filling_laws.proofs.fill_laws.Between.{Held, given_is, kind-below, slots-below}
 
 -- ---- the tables' lengths
 
