@@ -1,5 +1,4 @@
 -- `leaf::lacks` meets its contract. Assumes nothing.
-use borrow.Author.Rules.{rules}
 use Rattle.leaf.proofs.ByKind.{no_kind, no_orientation, has}
 use Rattle.leaf.proofs.lacks.Goals as goal
 

@@ -1,9 +1,7 @@
 -- `leaf::number_at` meets its contract: past the table's end 0 is read. Assumes nothing.
-use Prim.Native.Nat.{ℕ, ◌+◌, ◌*◌, ◌≤◌}
 use mathlib.Core.Path.{sym}
 use native.Mathlib.Omega.{arith}
-use lib.ListN.{length, get_or-eq_default}
-use borrow.Author.Rules.{rules}
+use lib.ListN.{get_or-eq_default}
 use Rattle.leaf.proofs.ByKind.{place}
 use Rattle.leaf.proofs.number_at.Goals as goal
 

@@ -1,7 +1,6 @@
 -- `leaf::strips_by_kind` meets its contract: the flag picks the room and the numbers of its part. Assumes nothing.
 use mathlib.Core.Path.{sym, ◌∙◌}
 use Rattle.leaf.proofs.ByKind.{strips-refused, strips-inset, strips-apart}
-use borrow.Author.Rules.{rules}
 use Rattle.leaf.proofs.strips_by_kind.Goals as goal
 
 pub returns-in_default : goal.returns-in_default
