@@ -18,7 +18,7 @@ use Rattle.filling.specs.Search.{ranges_of, reversed_for}
 use Rattle.filling.specs.State.{Part, slot_rows, remembered_of, track_at, apart_room, inset_room, shape_at}
 use Rattle.filling.specs.State as States
 use Rattle.filling.specs.Consistent.{every, shape_fits, part_fits, column_fits, track_fits, tracks_fit, track_table_fits}
-use Rattle.search.specs.columns.inner.Stands.{columns_of, last_of}
+use Rattle.search.specs.columns.inner.Stands.{columns_of}
 use Rattle.search.proofs.columns.Same.{reversed-same, last-same}
 use Rattle.choose.specs.inner.Choosing.{bounds_at, part_at}
 use Rattle.consistent.specs.slot_tests.inner.Slots.{Slots, slots, part_test, last_for, track_test, shape_test, slot_test, kind_test, slots_test}
