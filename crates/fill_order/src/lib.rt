@@ -66,8 +66,8 @@ fn fill_copies(
         sheet_entries.now sheet_starts.now) sheet_firsts.now }
     ensures { (j : Job) → Prepared j (given_in g rows.now areas.now inset_bounds.now parts.now
         shapes.now sheet.now sheet_entries.now sheet_starts.now) → rearranged j order.now ≡ true
-        → (l : Lent) → length l.rooms.placed ≡ length placed.old → length l.rooms.placed-entries ≡ length entries.old
-        → length l.intervals ≡ length room.old → length l.rooms.placed-firsts ≡ length firsts.old
+        → (l : Lent) → length l.rooms.placed ≡ length placed.old → length l.rooms.placed_entries ≡ length entries.old
+        → length l.intervals ≡ length room.old → length l.rooms.placed_firsts ≡ length firsts.old
         → filling_in result.verdict (planner_of j) order.now tracks.new result.totals spots.new
         ≡ fill_order j l order.now }
 {
@@ -155,8 +155,8 @@ pub fn fill_order(
         sheet_entries.now sheet_starts.now) sheet_firsts.now }
     ensures { (j : Job) → Prepared j (given_in g rows.now areas.now inset_bounds.now parts.now
         shapes.now sheet.now sheet_entries.now sheet_starts.now) → rearranged j order.now ≡ true
-        → (l : Lent) → length l.rooms.placed ≡ length placed.old → length l.rooms.placed-entries ≡ length entries.old
-        → length l.intervals ≡ length room.old → length l.rooms.placed-firsts ≡ length firsts.old
+        → (l : Lent) → length l.rooms.placed ≡ length placed.old → length l.rooms.placed_entries ≡ length entries.old
+        → length l.intervals ≡ length room.old → length l.rooms.placed_firsts ≡ length firsts.old
         → filling_in result.verdict (planner_of j) order.now tracks.new result.totals spots.new
         ≡ fill_order j l order.now }
 {
