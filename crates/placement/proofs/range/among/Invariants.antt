@@ -1,0 +1,13 @@
+use native.Mathlib.Omega.{arith}
+use mathlib.Core.Path.{◌≡◌, sym, ap, ◌∙◌, refl}
+use lib.Ieee.{Float, eq}
+use Rattle.search.specs.columns.inner.Stands.{column_x}
+use Rattle.layouts.specs.Layouts.{among_columns}
+use Rattle.placement.proofs.range.Columned.{among_here, among_below, among_first}
+use Rattle.placement.proofs.range.among.Given as goal
+
+abbrev pub invariant-loop-c : goal.invariant-loop-c
+invariant-loop-c l = among_columns (column_x l.k) l.c l.x ≡ among_columns (column_x l.k) l.last l.x
+
+abbrev pub decreases-loop-c : goal.decreases-loop-c
+decreases-loop-c l = l.c
