@@ -17,7 +17,7 @@ put-p-requires c = let c7 = c in
 
 pub returns-then-fill-ge2 : goal.returns-then-fill-ge2
 returns-then-fill-ge2 c = let c8 = c in
-    head-not-2 _ _ _ _ [] [] [] [] _ _ c8.judge_count.ensures c.in-Count.is c.if-fill-ge2.true
+    head-not-2 _ _ _ _ [] [] [] [] _ _ c8.judge_count.ensures c.in-Count.is (omega (arith, c.if-fill-ge2.true))
     c.put-p.ensures.long
 
 pub put-p-requires-2 : goal.put-p-requires-2
@@ -30,7 +30,7 @@ pub returns-then-priority-ge4294967296 : goal.returns-then-priority-ge4294967296
 returns-then-priority-ge4294967296 c = let c8 = c in
     let c11 = c8 in
     let c13 = c11 in
-    head-not-3 _ _ _ [] _ [] [] [] _ _ c13.judge_count.ensures c11.in-Count.is c.if-fill-ge2.false c.if-priority-ge4294967296.true
+    head-not-3 _ _ _ [] _ [] [] [] _ _ c13.judge_count.ensures c11.in-Count.is (omega (arith, c.if-fill-ge2.false)) c.if-priority-ge4294967296.true
     (c.put-p-2.ensures.long ∙ c8.put-p.ensures.long)
 
 pub put-p-requires-3 : goal.put-p-requires-3
@@ -59,7 +59,7 @@ returns-in-NoValue c = let c7 = c in
     let c17 = c14 in
     let c20 = c17 in
     let c22 = c20 in
-    head-not-4 _ _ _ [] [] _ [] [] _ _ _ _ _ c22.judge_count.ensures c20.in-Count.is c14.if-fill-ge2.false c9.if-priority-ge4294967296.false
+    head-not-4 _ _ _ [] [] _ [] [] _ _ _ _ _ c22.judge_count.ensures c20.in-Count.is (omega (arith, c14.if-fill-ge2.false)) c9.if-priority-ge4294967296.false
     c.bits_of.ensures c.judge_number.ensures c.in-NoValue.is
     (c7.put-p-3.ensures.long ∙ c12.put-p-2.ensures.long ∙ c17.put-p.ensures.long)
 
@@ -129,7 +129,7 @@ returns-in-Count-judge_count c = let c7 = c in
     let c30 = c27 in
     let c33 = c30 in
     let c35 = c33 in
-    head-put _ _ _ _ _ _ _ _ _ _ _ _ _ _ _ _ _ _ _ _ _ c35.judge_count.ensures c33.in-Count.is c27.if-fill-ge2.false c22.if-priority-ge4294967296.false c17.bits_of.ensures
+    head-put _ _ _ _ _ _ _ _ _ _ _ _ _ _ _ _ _ _ _ _ _ c35.judge_count.ensures c33.in-Count.is (omega (arith, c27.if-fill-ge2.false)) c22.if-priority-ge4294967296.false c17.bits_of.ensures
     c16.judge_number.ensures c14.in-Value.is c7.judge_count-2.ensures c.in-Count-judge_count.is
     c11.bits_of-2.ensures c30.put-p.ensures c25.put-p-2.ensures c20.put-p-3.ensures c10.put-p-4.ensures c.put-writer.ensures
 
@@ -152,7 +152,7 @@ returns-in-NoCount-judge_count c = let c10 = c in
     let c26 = c23 in
     let c29 = c26 in
     let c31 = c29 in
-    head-not-5 _ _ _ [] [] [] _ [] _ _ _ _ _ _ _ c31.judge_count.ensures c29.in-Count.is c23.if-fill-ge2.false c18.if-priority-ge4294967296.false c13.bits_of.ensures
+    head-not-5 _ _ _ [] [] [] _ [] _ _ _ _ _ _ _ c31.judge_count.ensures c29.in-Count.is (omega (arith, c23.if-fill-ge2.false)) c18.if-priority-ge4294967296.false c13.bits_of.ensures
     c12.judge_number.ensures c10.in-Value.is c.judge_count-2.ensures c.in-NoCount-judge_count.is
     (c.put-p-4.ensures.long ∙ c16.put-p-3.ensures.long ∙ c21.put-p-2.ensures.long ∙
     c26.put-p.ensures.long)
