@@ -1,14 +1,12 @@
 -- `clear` meets its contract: moving strip by moving strip. Assumes nothing.
-use Prim.Native.Nat.{◌-◌}
 use native.Mathlib.Omega.{arith}
 use mathlib.Core.Path.{◌∙◌, ap}
 use mathlib.Core.List.{List}
-use borrow.Author.Tests.{not-true, not-false}
 use Rattle.trapezoid.specs.Strip.{capacity}
 use Rattle.trapezoid.proofs.Strips.{strip_in_room}
 use Rattle.index.specs.declared.Interval.{Interval}
 use Rattle.look.specs.height.Smallest.{outside}
-use Rattle.placement.proofs.Clearing.{Left, left-start, left-next, left-held, left_end, strip_intervals, strip-clear, forbidden_is}
+use Rattle.placement.proofs.Clearing.{left-start, left-next, left-held, left_end, strip_intervals, strip-clear, forbidden_is}
 use Rattle.placement.proofs.clear.Goals as goal
 
 pub loop-j-init : goal.loop-j-init

@@ -1,12 +1,11 @@
 -- `clear_of` meets its contract: standing strip by standing strip. Assumes nothing.
-use Prim.Native.Nat.{◌-◌}
 use native.Mathlib.Omega.{arith}
 use mathlib.Core.Path.{◌∙◌, ap}
 use mathlib.Core.Bool.{not}
 use Rattle.trapezoid.specs.Strip.{capacity}
 use Rattle.trapezoid.proofs.Strips.{strip_in_room}
 use Rattle.placement.specs.inner.Pairs.{pair_at, intervals_of}
-use Rattle.placement.proofs.Clearing.{Left, left-start, left-next, left-held, left_end, pair_clear}
+use Rattle.placement.proofs.Clearing.{left-start, left-next, left-held, left_end, pair_clear}
 use Rattle.placement.proofs.clear_of.Goals as goal
 
 pub loop-i-init : goal.loop-i-init

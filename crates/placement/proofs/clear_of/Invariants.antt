@@ -1,11 +1,7 @@
 use Prim.Native.Nat.{◌-◌}
-use native.Mathlib.Omega.{arith}
-use mathlib.Core.Path.{◌∙◌, ap}
-use mathlib.Core.Bool.{not}
 use Rattle.trapezoid.specs.Strip.{capacity}
-use Rattle.trapezoid.proofs.Strips.{strip_in_room}
-use Rattle.placement.specs.inner.Pairs.{pair_at, intervals_of}
-use Rattle.placement.proofs.Clearing.{Left, left-start, left-next, left-held, left_end, pair_clear}
+use Rattle.placement.specs.inner.Pairs.{pair_at}
+use Rattle.placement.proofs.Clearing.{Left}
 use Rattle.placement.proofs.clear_of.Given as goal
 
 abbrev pub invariant-loop-i : goal.invariant-loop-i

@@ -1,7 +1,6 @@
 -- `in_the_way` meets its contract: no meeting, or its interval. Assumes nothing.
 use mathlib.Core.Path.{sym, ap, ◌∙◌}
 use Rattle.placement.specs.inner.Pairs.{lies_in}
-use borrow.Author.Rules.{rules}
 use Rattle.placement.proofs.in_the_way.Goals as goal
 
 pub returns-in_default : goal.returns-in_default

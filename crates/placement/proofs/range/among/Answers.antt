@@ -1,9 +1,8 @@
 -- `among` meets its contract: from the last column on down. Assumes nothing.
 use native.Mathlib.Omega.{arith}
-use mathlib.Core.Path.{◌≡◌, sym, ap, ◌∙◌, refl}
+use mathlib.Core.Path.{sym, ap, ◌∙◌}
 use lib.Ieee.{Float, eq}
 use Rattle.search.specs.columns.inner.Stands.{column_x}
-use Rattle.layouts.specs.Layouts.{among_columns}
 use Rattle.placement.proofs.range.Columned.{among_here, among_below, among_first}
 use Rattle.placement.proofs.range.among.Goals as goal
 

@@ -1,9 +1,6 @@
-use native.Mathlib.Omega.{arith}
-use mathlib.Core.Path.{◌≡◌, sym, ap, ◌∙◌, refl}
-use lib.Ieee.{Float, eq}
+use mathlib.Core.Path.{◌≡◌}
 use Rattle.search.specs.columns.inner.Stands.{column_x}
 use Rattle.layouts.specs.Layouts.{among_columns}
-use Rattle.placement.proofs.range.Columned.{among_here, among_below, among_first}
 use Rattle.placement.proofs.range.among.Given as goal
 
 abbrev pub invariant-loop-c : goal.invariant-loop-c

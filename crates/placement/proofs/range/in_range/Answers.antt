@@ -1,7 +1,6 @@
 -- `in_range` meets its contract, case by case. Assumes nothing.
 use mathlib.Core.Path.{sym, ap, ◌∙◌}
 use Prim.Native.Nat.{ℕ}
-use borrow.Author.Tests.{not-true, not-false}
 use Rattle.search.specs.columns.inner.Stands.{column_x}
 use Rattle.layouts.specs.Layouts.{among_columns}
 use Rattle.placement.proofs.range.Columned.{range_reversed, range_height, range_in, range_column}
