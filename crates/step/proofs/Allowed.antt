@@ -31,15 +31,15 @@ use Rattle.filling_laws.proofs.ReadyOrder.{slots-within, next-kind}
 use Rattle.step.specs.inner.Going.{Going}
 
 -- ---- the numbers of an array of doubles
-each-fit : (xs : List Float) (us : List Val) → shadow (each Float (FloatOf binary64).own xs us) → AllFit xs
+pub each-fit : (xs : List Float) (us : List Val) → shadow (each Float (FloatOf binary64).own_val xs us) → AllFit xs
 each-fit [] us p i = nan-fits
 each-fit (x ∷ xs) [] p i = absurd p
 each-fit (x ∷ xs) (u ∷ us) p zero = subst T (sym p.0.1) tt
 each-fit (x ∷ xs) (u ∷ us) p (suc i) = each-fit xs us p.1 i
 
 -- of a field of a struct
-pub field_fit : (xs : List Float) (us : List Val) → shadow (each Float (FloatOf binary64).own (map (λ (v : Float). v) xs) us) → AllFit xs
-field_fit xs us p = each-fit xs us (subst (λ (ys : List Float). shadow (each Float (FloatOf binary64).own ys us)) (map-id xs) p)
+pub field_fit : (xs : List Float) (us : List Val) → shadow (each Float (FloatOf binary64).own_val (map (λ (v : Float). v) xs) us) → AllFit xs
+field_fit xs us p = each-fit xs us (subst (λ (ys : List Float). shadow (each Float (FloatOf binary64).own_val ys us)) (map-id xs) p)
 
 -- ---- numbers
 pub six : (a l : ℕ) → 6 * a ≤ l → l < 2 ^ 64 → 6 * a < 2 ^ 64

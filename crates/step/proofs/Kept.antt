@@ -1,8 +1,8 @@
 -- A copy that is refused leaves strips, entries and totals as they were. Assumes nothing.
 use Prim.{⊥}
-use Prim.Native.Nat.{ℕ, ◌+◌, ◌*◌}
+use Prim.Native.Nat.{ℕ, ◌+◌}
 use native.Mathlib.Omega.{arith}
-use mathlib.Core.Path.{◌≡◌, refl, sym, ap, subst, ◌∙◌}
+use mathlib.Core.Path.{◌≡◌, refl, sym, ap, ◌∙◌}
 use mathlib.Core.Logic.{◌⊎◌, inl, inr}
 use mathlib.Core.Bool.{Bool, true, false}
 use mathlib.Core.List.{List}
@@ -18,14 +18,13 @@ use Rattle.choose.specs.declared.Choice.{Choice}
 use Rattle.choose.specs.declared.Part.{Part}
 use Rattle.choose.specs.declared.Winner.{Winner}
 use Rattle.choose.specs.declared.Winner.TheVariants as Winners
-use Rattle.choose.specs.inner.Choosing.{part_at, apart_part, Surroundings, Chosen, chosen, choose_from}
+use Rattle.choose.specs.inner.Choosing.{part_at, apart_part, Surroundings, chosen, choose_from}
 use Rattle.store.specs.declared.Stored.{Stored}
 use Rattle.store.specs.declared.Stored.TheVariants.{NoStrips, NoEntries, Done}
 use Rattle.store.specs.inner.Storing.{Left, left, together, store_of}
 use Rattle.place.specs.declared.Totals.{Totals}
-use Rattle.place.specs.declared.Outcome.{Outcome}
 use Rattle.place.specs.declared.Outcome.TheVariants.{At, Nowhere, Refused}
-use Rattle.place.specs.inner.Placing.{after_of, without_of, PutLeft, put, put_left, put_of, settle_of, Placed, place_with, place_of}
+use Rattle.place.specs.inner.Placing.{after_of, without_of, PutLeft, put_left, put_of, settle_of, place_with, place_of}
 
 at_not : {c : Choice} {r : Refusal} → At c ≡ Refused r → ⊥
 at_not e = absurd (let z : ◌≡◌ {A = ℕ} 0 1 = cc in omega arith)

@@ -19,7 +19,6 @@ use Rattle.filling.specs.declared.Verdict.TheVariants as Verdicts
 use Rattle.filling.specs.Rooms.{Rooms, zeros}
 use Rattle.filling.specs.State.{orientation_counts, order_of}
 use Rattle.filling.specs.Consistent.{sheet_index, consistent}
-use Rattle.filling.specs.NextCopy as Next
 use Rattle.filling.specs.NextCopy.{no_step, place_next, core_step, step_job, step_given, next_copy_of}
 use Rattle.filling.proofs.Runs.{step-consistent}
 use Rattle.accounts.proofs.tables.Tabling.{job_in, kinds_in, tabled}
