@@ -1,8 +1,7 @@
 -- Document 02, W7: what is promised of a gap. Assumes nothing.
-use Prim.{⊥}
-use Prim.Native.Nat.{ℕ, ◌+◌, ◌*◌, ◌≤◌, ◌<◌, ◌^◌}
+use Prim.Native.Nat.{ℕ, ◌+◌, ◌*◌, ◌≤◌, ◌<◌}
 use native.Mathlib.Omega.{arith}
-use mathlib.Core.Path.{◌≡◌, refl, sym, ap, subst, ◌∙◌}
+use mathlib.Core.Path.{◌≡◌, refl, sym, ap, subst}
 use mathlib.Core.Logic.{◌⊎◌, inl, inr}
 use mathlib.Core.Bool.{Bool, true, false, ◌&&◌}
 use mathlib.Core.List.{List, [], ◌∷◌, map, Memᴰ}
@@ -29,16 +28,14 @@ use Rattle.job.specs.Jobs.{Job, accepted, read_job}
 use Rattle.filling.specs.declared.State.{State}
 use Rattle.filling.specs.declared.Refusal.TheVariants as Why
 use Rattle.filling.specs.declared.Verdict.TheVariants.{Accepted}
-use Rattle.filling.specs.Shapes.{planner_of}
 use Rattle.filling.specs.Rooms.{Rooms, Lent}
 use Rattle.filling.specs.Order.{rearranged}
 use Rattle.filling.specs.State.{planner_at, order_of, standing_of, tracks_of}
 use Rattle.filling.specs.Consistent.{every, bounded, taken_fits, strip_counts_fit, parts_fit, planner_fits, strips_fit, layout_fits, gaps_fit, track_table_fits}
 use Rattle.filling.specs.Consistent.{copies_fit, entries_fit, firsts_fit, placed_strips_of, consistent}
-use Rattle.filling.specs.Start.{first_state, first_rooms, start_verdict, start_of}
+use Rattle.filling.specs.Start.{start_verdict, start_of}
 use Rattle.filling.specs.NextCopy.{step_given, no_step, next_copy_of}
 use Rattle.filling.specs.Fill.{filled, fill_order}
-use Rattle.filling.specs.Plain.{plain_start}
 use Rattle.filling.specs.Calls.{Call, after_calls}
 use Rattle.filling.specs.promises.Doubles.{is_number}
 use Rattle.filling.proofs.Runs.{step_inconsistent}
@@ -55,6 +52,7 @@ is_finite_lem x e = record { fit = holds (both_first (fits binary64 x) _ e); is_
 
 ends_finite_lem : (is : List Interval) → every ends_finite is ≡ true → FiniteEnds is
 unfolding every ends_finite
+ends_finite_lem [] e i m = elim m [ ]
 ends_finite_lem (j ∷ is) e i (Memᴰ.head q) =
     let w = both_first (ends_finite j) _ e in
     subst (λ (i : Interval). FiniteEnd i) (sym q)

@@ -3,11 +3,9 @@
 use Rattle.std.specs.Prelude.{List, [], ◌∷◌, map, Float}
 use Rattle.kinds.specs.Kinds.{Orientation, Kind}
 use Rattle.frames.specs.declared.Frame.{Frame}
-use Rattle.frames.specs.declared.Point.{Point}
 use Rattle.frames.specs.Frames.{lower_left, from, framed}
 use Rattle.job.specs.declared.Header.{Header}
 use Rattle.job.specs.Jobs.{Job, frame_of}
-use Rattle.filling.specs.Rooms.{Lent}
 use Rattle.filling.specs.Fill.{Planned}
 
 -- "Loops go through `to`": both sets of an orientation
