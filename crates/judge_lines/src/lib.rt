@@ -208,7 +208,7 @@ fn place_line(
         × (64 ≤ length counts.old) × (6 * g.apart_strips ≤ length shapes.now) × (6 * room ≤ length placed.old) × (s.strips ≤ room) }
     ensures { Within room result × ((j : Job) (w : Rooms) (ks : List ℕ) (st : List Float) (l : PutLine)
         → TablesOf j g kinds rows.now inset_bounds.now parts.now shapes.now sheet.now
-        → standing_capacity w.placed w.placed-firsts ≡ room
+        → standing_capacity w.placed w.placed_firsts ≡ room
         → Kept j w ks st counts.old placed.old s
         → l.kind ≡ kind → l.orientation ≡ orientation → place_of (frame_of j.header) l ≡ at
         → LineIs j w ks st l (place_verdict j (planner_of j) w ks st l) counts.new placed.new result) }
@@ -257,7 +257,7 @@ fn judge_line(
         × (64 ≤ length counts.old) × (6 * g.apart_strips ≤ length shapes.now) × (6 * room ≤ length placed.old) × (s.strips ≤ room) }
     ensures { Within room result × ((j : Job) (w : Rooms) (ks : List ℕ) (st : List Float)
         → TablesOf j g kinds rows.now inset_bounds.now parts.now shapes.now sheet.now
-        → standing_capacity w.placed w.placed-firsts ≡ room → frame_of j.header ≡ f
+        → standing_capacity w.placed w.placed_firsts ≡ room → frame_of j.header ≡ f
         → Kept j w ks st counts.old placed.old s
         → LineIs j w ks st l (line_verdict j (planner_of j) w ks st l) counts.new placed.new result) }
 {
@@ -309,7 +309,7 @@ pub fn judge_lines(
         × (6 * g.apart_strips ≤ length shapes.now) × (6 * room ≤ length placed.old) }
     ensures { (j : Job) (w : Rooms)
         → TablesOf j g kinds rows.now inset_bounds.now parts.now shapes.now sheet.now
-        → standing_capacity w.placed w.placed-firsts ≡ room → length w.placed-entries ≡ entries → frame_of j.header ≡ f
+        → standing_capacity w.placed w.placed_firsts ≡ room → length w.placed_entries ≡ entries → frame_of j.header ≡ f
         → result ≡ layout_from j (planner_of j) w [] [] (lines_of given.now) }
 {
     let mut counts = [0usize; 64];
