@@ -7,7 +7,7 @@ use mathlib.Core.List.{List}
 use lib.ListN.{length, get_or}
 use lib.Ieee.{Float}
 use Rattle.numbers.proofs.Truth.{either}
-use Rattle.random.specs.SplitMix64.{next_state, mixed}
+use Rattle.random.specs.SplitMix64.{next_state}
 use Rattle.job.specs.Jobs.{Job}
 use Rattle.filling.specs.declared.Verdict.{Verdict}
 use Rattle.filling.specs.Shapes.{Planner, planner_of}
