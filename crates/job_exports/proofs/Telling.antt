@@ -1,14 +1,12 @@
 -- Laws of what C is told. Assumes nothing.
-use mathlib.Core.Path.{◌≡◌, refl, sym, ap, ap₂, ◌∙◌}
+use mathlib.Core.Path.{◌≡◌, sym, ap, ◌∙◌}
 use Prim.Native.Nat.{ℕ}
 use mathlib.Core.List.{List, [], ◌∷◌}
-use lib.ListN.{length, get_or, set}
+use lib.ListN.{get_or, set}
 use lib.Seq.{sets}
 use lib.Ieee.{Float}
-use Rattle.job.specs.declared.Header.{Header}
 use Rattle.read_tables.specs.declared.Reply as Read
 use Rattle.read_tables.specs.Tabled as tabling
-use Rattle.write_job.specs.declared.Reply as Write
 use Rattle.write_job.specs.Written as writing
 use Rattle.job_exports.specs.JobTold.{told_header, told_resolution, told_tables, header_of, bytes_written, told_job}
 
