@@ -3,13 +3,12 @@ use Prim.Native.Nat.{ℕ, ◌+◌, ◌*◌, ◌/◌, ◌<◌, ◌≤◌, ◌^◌
 use native.Mathlib.Omega.{arith}
 use mathlib.Core.Path.{◌≡◌, refl, sym, ap, subst, subst⁻¹, ◌∙◌}
 use mathlib.Core.List.{List}
-use lib.ListN.{length, get_or, set, take}
+use lib.ListN.{length, get_or, take}
 use lib.Ieee.{Float}
 use Rattle.numbers.specs.Numbers.{pos_zero}
 use Rattle.trapezoid.specs.Strip.{capacity}
 use Rattle.index.specs.declared.Index.{Index}
 use Rattle.index.specs.inner.Listing.{Laid, FirstBuckets}
-use Rattle.strips.specs.declared.Rect.{Rect}
 use Rattle.job.specs.Jobs.{Job}
 use Rattle.filling.specs.declared.State.{State}
 use Rattle.filling.specs.declared.Tables.{Tables}
@@ -36,7 +35,7 @@ use Rattle.filling_laws.proofs.ReadyNumbers.{resolving}
 use Rattle.filling_laws.proofs.Ready.{InDoubles, resolution_in, bounds_in, shape_bounds}
 use Rattle.filling_laws.proofs.ReadyOrder.{most-turns}
 use Rattle.step.specs.declared.Stepped.{Stepped}
-use Rattle.step.specs.inner.Going.{rooms, Going, taken_of, answer_of, step_of}
+use Rattle.step.specs.inner.Going.{rooms, Going, answer_of}
 use Rattle.step.proofs.Allowed.{kind, listed, turns_are, kind_few, apart-within}
 use Rattle.step.proofs.Allowed.{allowed_counts, allowed_fixed, allowed_standing, allowed_sheet_firsts, allowed_firsts}
 use Rattle.step.proofs.Kept.{place_kept}
