@@ -9,7 +9,6 @@ use Rattle.filling.specs.declared.Refusal.{Refusal}
 use Rattle.filling.specs.declared.Verdict.{Verdict}
 use Rattle.filling.specs.declared.Verdict.TheVariants.{Accepted, Refused}
 use Rattle.filling.specs.Rooms.{Lent}
-use Rattle.filling.specs.Fill.{Planned}
 use Rattle.nesting.specs.Text.{plan_text, refusal_text, reply_text}
 
 module _ (j : Job) (v : Verdict) (p : Plan) (l : Lent) (t : List ℕ) where

@@ -1,9 +1,9 @@
 -- How many positions a whole plan answers: at most 4,096, and no more than its room holds. Assumes nothing.
-use Prim.Native.Nat.{ℕ, ◌+◌, ◌*◌, ◌/◌, ◌≤◌}
+use Prim.Native.Nat.{ℕ, ◌*◌, ◌≤◌}
 use native.Mathlib.Omega.{arith}
 use mathlib.Core.Path.{◌≡◌, refl}
 use mathlib.Core.Bool.{false}
-use mathlib.Core.List.{List, []}
+use mathlib.Core.List.{List}
 use lib.ListN.{length, length-append, length-drop}
 use lib.Dec.{ltb}
 use lib.Ieee.{Float}
@@ -25,7 +25,7 @@ use Rattle.filling.proofs.Sizes.{sized}
 use Rattle.filling.proofs.promises.Few.{stands-few}
 use Rattle.nesting.specs.Rounds.{Swaps, kept, ended, swap_search}
 use Rattle.nesting.specs.Nest.{nest_verdict, nested, nest_job, nest_given, nest_of}
-use Rattle.claims.proofs.plan_promises.Rounds.{RoomRefusal, Sound, keeps, ends, stopped_is, search-sound}
+use Rattle.claims.proofs.plan_promises.Rounds.{RoomRefusal, Sound, keeps, stopped_is, search-sound}
 use Rattle.claims.proofs.plan_promises.Demand1.{nest_stops, nest_runs, tested}
 
 -- what the lines of positions need

@@ -1,7 +1,7 @@
 -- What the text of a reply needs of the tables that a job was read into, and what it then is. Assumes nothing.
 use Prim.Native.Nat.{ℕ, ◌+◌, ◌*◌, ◌<◌, ◌≤◌}
 use native.Mathlib.Omega.{arith}
-use mathlib.Core.Path.{◌≡◌, refl, sym, subst}
+use mathlib.Core.Path.{◌≡◌, subst}
 use mathlib.Core.List.{List}
 use lib.ListN.{length, get_or}
 use lib.Ieee.{Float}
@@ -9,7 +9,6 @@ use Rattle.bits.specs.declared.Refusal as Input
 use Rattle.job.specs.declared.Header.{Header}
 use Rattle.job.specs.Jobs.{Job, accepted, refused, read_job}
 use Rattle.filling.specs.declared.Refusal.TheVariants as Why
-use Rattle.filling.specs.State.{orientation_counts}
 use Rattle.filling.specs.Fill.{Planned}
 use Rattle.filling.proofs.Sizes.{sized}
 use Rattle.filling.proofs.Reading.{sixteen_get}
