@@ -1,4 +1,4 @@
-// What C and Rust may link (`rt staticlib job_exports`, include/panel.h) to edit jobs, under plain names: a
+// What C and Rust may link (by job_exports_c, include/panel.h) to edit jobs, under plain names: a
 // job's bytes to its tables, and back (document 02, W9).
 #![tactic(auto)]
 
