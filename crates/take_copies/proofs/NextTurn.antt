@@ -23,7 +23,7 @@ use Rattle.rooms.proofs.tracks.Fields.{length-field}
 use Rattle.choose.specs.declared.Grid.{Grid}
 use Rattle.place.specs.declared.Copy.{Copy}
 use Rattle.place.specs.inner.Placing.{copy_of}
-use Rattle.step.specs.inner.Going.{rooms, Going}
+use Rattle.step.specs.inner.Going.{Going}
 use Rattle.batch.specs.NextCopies.{Batch, none_taken, one_more}
 use Rattle.batch.specs.inner.Tested.{copy_fits, step_tested, tested_from, more_taken, Shaped}
 use Rattle.batch.proofs.Kept31.{step-31}
