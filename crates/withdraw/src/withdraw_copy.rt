@@ -122,7 +122,7 @@ pub fn withdraw_copy(
 ) -> State
     requires { (j : Job) × (w : Rooms) × Leaving j state w place copies placed.old entries.old firsts.old }
     ensures { (j : Job) (w : Rooms) → Leaving j state w place copies placed.old entries.old firsts.old
-        → taken result (rooms_of w.shapes w.sheet placed.new w.sheet-entries entries.new w.sheet-firsts firsts.new)
+        → taken result (rooms_of w.shapes w.sheet placed.new w.sheet_entries entries.new w.sheet_firsts firsts.new)
         ≡ withdrawn j (planner_at j state.tables w) state w place (standing_here state place) }
 {
     let right = right_found(state, place);

@@ -1,29 +1,28 @@
 -- A copy that goes: what its functions require, and that the state and the rooms after it are the definition's. Assumes nothing.
-use Prim.Native.Nat.{ℕ, zero, suc, ◌+◌, ◌-◌, ◌*◌, ◌^◌, ◌≤◌, ◌<◌}
-use native.Mathlib.Nat.{le_of_eq, le_trans}
+use Prim.Native.Nat.{ℕ, suc, ◌+◌, ◌-◌, ◌*◌, ◌^◌, ◌≤◌, ◌<◌}
+use native.Mathlib.Nat.{le_trans}
 use native.Mathlib.Omega.{arith}
 use mathlib.Core.Path.{◌≡◌, refl, sym, ap, ap₂, subst, ◌∙◌}
 use mathlib.Core.Bool.{true}
-use mathlib.Core.List.{List, [], ◌∷◌, append-nil}
+use mathlib.Core.List.{List, [], ◌∷◌}
 use lib.ListN.{length, get_or, take, replicate, length-take}
 use lib.Dec.{leb, eqb}
 use lib.Seq.{length-take-le}
 use lib.Ieee.{Float, nan}
 use borrow.Author.Tests.{leb-true, lt-ltb}
 use Rattle.numbers.specs.Numbers.{pos_zero}
-use Rattle.numbers.proofs.Truth.{clash, both_first, both_second}
+use Rattle.numbers.proofs.Truth.{clash, both_second}
 use Rattle.trapezoid.specs.Strip.{capacity}
 use Rattle.index.specs.declared.Index.{Index}
 use Rattle.index.specs.Buckets.{strip_numbers, index_of, entries_of, firsts_of, standing_capacity}
 use Rattle.index.proofs.Standing.{standing-few, standing-long}
 use Rattle.job.specs.Jobs.{Job}
 use Rattle.filling.specs.declared.State.{State}
-use Rattle.filling.specs.declared.Layout.{Layout}
-use Rattle.filling.specs.Shapes.{Planner, Standing, copy_strips, standing_strips, others}
+use Rattle.filling.specs.Shapes.{Planner, Standing, others}
 use Rattle.filling.specs.Rooms.{Rooms, rooms_of, laid, zeros}
-use Rattle.filling.specs.State.{planner_at, copy_at, stands_at, standing_to, standing_of}
+use Rattle.filling.specs.State.{planner_at, copy_at, stands_at, standing_of}
 use Rattle.filling.specs.Consistent.{same_numbers, numbers_lie, sheet_index, entries_for, firsts_for, entries_fit, strip_counts_fit, placed_strips_of}
-use Rattle.filling.specs.Withdraw.{Reply, closed_up, strips_left, strips_without, right_of, layout_without, state_without, rooms_without, standing_here, withdrawn}
+use Rattle.filling.specs.Withdraw.{closed_up, strips_left, strips_without, right_of, layout_without, state_without, rooms_without, standing_here, withdrawn}
 use Rattle.filling_laws.proofs.Ready.{tests_of, taken_upto, strips-within}
 use Rattle.filling_laws.proofs.ReadyOrder.{slots-within}
 use Rattle.close_up.proofs.Left.{left_many}

@@ -4,8 +4,8 @@ use Prim.Native.Nat.{ℕ, zero, suc, ◌+◌, ◌-◌, ◌*◌, ◌/◌, ◌≤�
 use native.Mathlib.Nat.{eq-or-lt_of_le}
 use native.Mathlib.Omega.{arith}
 use mathlib.Core.Path.{◌≡◌, refl, sym, ap, ap₂, subst, ◌∙◌}
-use mathlib.Core.Logic.{◌⊎◌, inl, inr}
-use mathlib.Core.Bool.{Bool, true, false, ◌&&◌}
+use mathlib.Core.Logic.{inl, inr}
+use mathlib.Core.Bool.{Bool, true, ◌&&◌}
 use mathlib.Core.List.{List, [], ◌∷◌, ◌++◌, flat_map, append-nil}
 use lib.ListN.{length, get_or, take, drop, length-drop}
 use lib.Seq.{length-take-le}
@@ -17,7 +17,7 @@ use Rattle.numbers.proofs.Truth.{clash, both_first, both_second}
 use Rattle.trapezoid.specs.Strip.{capacity, part_of}
 use Rattle.job.specs.Jobs.{Job}
 use Rattle.filling.specs.declared.State.{State}
-use Rattle.filling.specs.Shapes.{Planner, Shape, Standing, shape_of, moved_strips, copy_strips, standing_strips, others}
+use Rattle.filling.specs.Shapes.{Planner, Shape, Standing, shape_of, copy_strips, standing_strips, others}
 use Rattle.filling.specs.Rooms.{Rooms}
 use Rattle.filling.specs.State as States
 use Rattle.filling.specs.State.{orientation_counts, apart_room, inset_room, shape_at, planner_at, copy_at, stands_at, standing_to, standing_of}

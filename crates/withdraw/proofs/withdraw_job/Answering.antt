@@ -1,10 +1,9 @@
 -- Which lines a withdrawal meets, and what it hands over where it meets none. Assumes nothing.
-use Prim.{⊥}
 use Prim.Native.Nat.{ℕ, zero, suc, ◌≤◌, ◌<◌}
 use native.Mathlib.Omega.{arith}
-use mathlib.Core.Path.{◌≡◌, refl, sym, ap, subst, ◌∙◌}
+use mathlib.Core.Path.{◌≡◌, refl, sym, ap, ◌∙◌}
 use mathlib.Core.Logic.{◌⊎◌, inl, inr}
-use mathlib.Core.Bool.{Bool, true, false, not}
+use mathlib.Core.Bool.{true, false, not}
 use mathlib.Core.List.{List, [], ◌∷◌}
 use lib.ListN.{get_or}
 use lib.Dec.{ltb, eqb}
@@ -20,7 +19,7 @@ use Rattle.filling.specs.Rooms.{Rooms}
 use Rattle.filling.specs.State.{planner_at, stands_at}
 use Rattle.filling.specs.Consistent.{consistent}
 use Rattle.filling.specs.RefusalLines.{none_stands}
-use Rattle.filling.specs.Withdraw.{Reply, no_withdrawal, standing_here, withdrawn, withdraw_job, withdraw_given, withdraw_of}
+use Rattle.filling.specs.Withdraw.{no_withdrawal, standing_here, withdrawn, withdraw_job, withdraw_given, withdraw_of}
 use Rattle.filling.proofs.Withdrawn.{withdraw-consistent}
 use Rattle.step.specs.step_job.inner.Opened.{Opened}
 use Rattle.withdraw.specs.withdraw_copy.inner.Leaving.{Leaving}

@@ -3,7 +3,6 @@
 use Rattle.std.specs.Prelude.{ℕ, zero, suc, ◌+◌, ◌*◌, ◌<◌, ◌≡◌, List, get_or, Float}
 use Rattle.std.specs.Float.{nan}
 use Rattle.numbers.specs.Numbers.{◌⊕◌, larger}
-use Rattle.strips.specs.declared.Rect.{Rect}
 use Rattle.choose.specs.inner.Choosing.{bounds_at, part_at}
 
 -- the copies that stand at the first n places have slots

@@ -1,6 +1,6 @@
 -- For inner functions' contracts only: what a withdrawal is given once 31 and 24 are past, and what it makes of the state. That it is the
 -- definition's is proved in proofs/. Definitions only. Assumes nothing.
-use Rattle.std.specs.Prelude.{ℕ, zero, suc, ◌+◌, ◌-◌, ◌<◌, ◌≤◌, ◌≡◌, true, List, get_or, replicate, Float}
+use Rattle.std.specs.Prelude.{ℕ, suc, ◌+◌, ◌-◌, ◌<◌, ◌≤◌, ◌≡◌, true, List, get_or, replicate, Float}
 use Rattle.job.specs.Jobs.{Job}
 use Rattle.job.proofs.Accepted.{GoodJob}
 use Rattle.filling.specs.declared.State.{State}
