@@ -2,8 +2,8 @@
 
 usage: python3 tools/respell.py [TABLE]      at the top of the repository, with nothing loose
 
-TABLE (respelled.tsv beside this file) has a line for each name: old, tab, new. Words with humps are turned everywhere, lemmas with dashes
-only in .antt files and, between backticks or stars, in documents. The crate slab, whose name a library of the kit has, becomes slabs.
+TABLE (respelled.tsv beside this file) has a line for each name: old, tab, new. Words with humps are turned everywhere, names with dashes
+only in .antt files, in .rt files behind a dot and, between backticks or stars, in documents. The crate slab, whose name a library of the kit has, becomes slabs.
 """
 import pathlib
 import re
@@ -39,7 +39,8 @@ def turn(path, text):
     if path.suffix == ".edit":
         return slabs(by(NAMES if re.search(r"(?m)^file: (specs|proofs)/", text) else HUMPS)(text))
     if path.suffix == ".rt":
-        return slabs(by(HUMPS)(text))
+        fields = re.sub(r"(?<=[\w)]\.)[a-z0-9_]+(?:-[a-z0-9_]+)+", lambda it: NAMES.get(it.group(0), it.group(0)), text)
+        return slabs(by(HUMPS)(fields))
     if path.suffix == ".md":
         return CODE.sub(lambda it: by(NAMES)(it.group(0)), text)
     if path.name == "crates.txt":
