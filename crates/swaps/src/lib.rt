@@ -56,8 +56,8 @@ fn round(
     ensures { ((j : Job) → Prepared j (given_in g rows.now areas.now inset_bounds.now parts.now
         shapes.now sheet.now sheet_entries.now sheet_starts.now)
         → rearranged j order.old ≡ true
-        → (l : Lent) → length l.rooms.placed ≡ length placed.old → length l.rooms.placed-entries ≡ length entries.old
-        → length l.intervals ≡ length room.old → length l.rooms.placed-firsts ≡ length firsts.old
+        → (l : Lent) → length l.rooms.placed ≡ length placed.old → length l.rooms.placed_entries ≡ length entries.old
+        → length l.intervals ≡ length room.old → length l.rooms.placed_firsts ≡ length firsts.old
         → swaps_in result.verdict result.best (planner_of j) order.new tracks.new spots.new
         ≡ turn_of j l first (kept_in b (planner_of j) order.old tracks.old spots.old))
         × ((j : Job) → rearranged j order.old ≡ true → rearranged j order.new ≡ true)
@@ -164,8 +164,8 @@ pub fn rounds(
     ensures { ((j : Job) → Prepared j (given_in g rows.now areas.now inset_bounds.now parts.now
         shapes.now sheet.now sheet_entries.now sheet_starts.now)
         → rearranged j order.old ≡ true
-        → (l : Lent) → length l.rooms.placed ≡ length placed.old → length l.rooms.placed-entries ≡ length entries.old
-        → length l.intervals ≡ length room.old → length l.rooms.placed-firsts ≡ length firsts.old
+        → (l : Lent) → length l.rooms.placed ≡ length placed.old → length l.rooms.placed_entries ≡ length entries.old
+        → length l.intervals ≡ length room.old → length l.rooms.placed_firsts ≡ length firsts.old
         → j.header.seed ≡ seed
         → swaps_in result.verdict result.best (planner_of j) order.new tracks.new spots.new
         ≡ rounds j l (rounds_for (length order.old) n) (first_kept j order.old (fill_order j l order.old)))

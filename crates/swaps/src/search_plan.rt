@@ -88,8 +88,8 @@ pub fn search(
     ensures { ((j : Job) → Prepared j (given_by tables rows.now areas.now shapes.now sheet.now
         sheet_entries.now sheet_starts.now)
         → rearranged j order.old ≡ true
-        → (l : Lent) → length l.rooms.placed ≡ length placed.old → length l.rooms.placed-entries ≡ length placed_entries.old
-        → length l.intervals ≡ length intervals.old → length l.rooms.placed-firsts ≡ length placed_firsts.old
+        → (l : Lent) → length l.rooms.placed ≡ length placed.old → length l.rooms.placed_entries ≡ length placed_entries.old
+        → length l.intervals ≡ length intervals.old → length l.rooms.placed_firsts ≡ length placed_firsts.old
         → j.header.seed ≡ seed
         → swaps_in result.verdict result.best (planner_of j) order.new tracks.new spots.new
         ≡ rounds j l (rounds_for (length order.old) n) (first_kept j order.old (fill_order j l order.old)))
@@ -212,8 +212,8 @@ pub fn search_plan(
     ensures { (j : Job) (l : Lent) → Prepared j (given_by tables rows.now areas.now shapes.now sheet.now
         sheet_entries.now sheet_starts.now)
         → rearranged j order.old ≡ true → length j.kinds ≡ h.kinds → j.header ≡ h
-        → length l.rooms.placed ≡ length placed.old → length l.rooms.placed-entries ≡ length placed_entries.old
-        → length l.intervals ≡ length intervals.old → length l.rooms.placed-firsts ≡ length placed_firsts.old
+        → length l.rooms.placed ≡ length placed.old → length l.rooms.placed_entries ≡ length placed_entries.old
+        → length l.intervals ≡ length intervals.old → length l.rooms.placed_firsts ≡ length placed_firsts.old
         → positions.old ≡ zeros pos_zero l.positions
         → reply result positions.new ≡ reply_of (nested j l
         (rounds j l (rounds_for (length order.old) n) (first_kept j order.old (fill_order j l order.old)))) }
