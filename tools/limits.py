@@ -68,7 +68,7 @@ if sys.argv[1:] == ["--requires"]:
     sys.exit()
 
 for path in sorted((ROOT / "crates").rglob("*")):
-    if path.suffix not in (".rt", ".antt"):
+    if path.suffix not in (".rt", ".antt") or "out" in path.relative_to(ROOT).parts:
         continue
     name = path.relative_to(ROOT)
     lines = path.read_text().split("\n")
