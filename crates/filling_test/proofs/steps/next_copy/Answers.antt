@@ -1,0 +1,31 @@
+-- `filling_test::steps::next_copy` meets its contract. Assumes nothing.
+use native.Mathlib.Omega.{arith}
+use lib.ListN.{length-take}
+use Rattle.filling_test.proofs.steps.next_copy.Goals as goal
+
+pub slice_bounds-next_copy-end : goal.slice_bounds-next_copy-end
+slice_bounds-next_copy-end c = simp length-take (omega arith)
+
+pub slice_bounds-next_copy-end-2 : goal.slice_bounds-next_copy-end-2
+slice_bounds-next_copy-end-2 c = simp length-take (omega arith)
+
+pub slice_bounds-next_copy-end-3 : goal.slice_bounds-next_copy-end-3
+slice_bounds-next_copy-end-3 c = simp length-take (omega arith)
+
+pub slice_bounds-next_copy-end-5 : goal.slice_bounds-next_copy-end-5
+slice_bounds-next_copy-end-5 c = simp length-take (omega arith)
+
+pub slice_bounds-next_copy-end-6 : goal.slice_bounds-next_copy-end-6
+slice_bounds-next_copy-end-6 c = simp length-take (omega arith)
+
+pub slice_bounds-next_copy-end-8 : goal.slice_bounds-next_copy-end-8
+slice_bounds-next_copy-end-8 c = simp length-take (omega arith)
+
+pub slice_bounds-next_copy-end-9 : goal.slice_bounds-next_copy-end-9
+slice_bounds-next_copy-end-9 c = simp length-take (omega arith)
+
+pub slice_bounds-next_copy-end-11 : goal.slice_bounds-next_copy-end-11
+slice_bounds-next_copy-end-11 c = simp length-take (omega arith)
+
+pub slice_bounds-next_copy-end-13 : goal.slice_bounds-next_copy-end-13
+slice_bounds-next_copy-end-13 c = simp length-take (omega arith)
