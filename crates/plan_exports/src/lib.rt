@@ -1,4 +1,4 @@
-// What C and Rust may link (`rt staticlib plan_exports`, include/panel.h), under plain names: the text of a
+// What C and Rust may link (by plan_exports_c, include/panel.h), under plain names: the text of a
 // whole plan; a filling in a given order; a layout from elsewhere, judged.
 #![tactic(auto)]
 
