@@ -1,8 +1,7 @@
 #!/usr/bin/env python3
 """limits.py: prints functions with a body of over 40 lines or with more than 16 lent slices (9 of them
 `&mut`), files over 400 lines, lines of code, contracts and definitions over 160 characters,
-definitions in specs/ over 25 lines, proof lines over 500 characters and paths of more than 20 steps
-in proofs. A line is a place to look, not a verdict.
+definitions in specs/ over 25 lines and proof lines over 500 characters. A line is a place to look, not a verdict.
 limits.py --widest N: the N functions with the most lent slices.
 limits.py --requires: each `pub fn` with a `requires`."""
 import pathlib
@@ -89,8 +88,6 @@ for path in sorted((ROOT / "crates").rglob("*")):
         for i, line in enumerate(lines):
             if len(line) > 500:
                 print(f"{name}:{i + 1}: {len(line)} characters")
-            if ".before" * 21 in line.replace(" ", ""):
-                print(f"{name}:{i + 1}: a path of more than 20 steps")
     elif "specs" in path.parts:
         for what, a, b in definitions(lines):
             if b - a + 1 > 25:

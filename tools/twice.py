@@ -36,7 +36,7 @@ WORDS = r"(?:(?:pub|unfoldable|abbrev) )*"
 DECLARATION = re.compile(r"( *)" + WORDS + r"([^\s:{}()]+)((?: [{(].*?[)}])?) : (.*)")
 MODULE = re.compile(r"( *)module _ (.*) where$")
 NO_LAW = ("record", "data", "use", "module", "where", "let", "λ", "|", "--")
-GENERATED = re.compile(r"(^|: )goal\.|Need-|tie\.|statement|\.code|InvT|MeasureT")
+GENERATED = re.compile(r"(^|: )goal\.")
 RELATION = re.compile(r"[≡≤<⊎⊥]|Memᴰ|(?:^|[ (])T [(\w]")
 ALIAS = re.compile(r"^use \S+ as (\w+)$", re.M)
 QUALIFIED = re.compile(r"(?<![\w.])(\w+)\.(?:\w+\.)*(?=[\w◌<≤])")
