@@ -1,5 +1,8 @@
 -- Counts by kind: one turn of each loop that works them out, and their bounds. Assumes nothing.
 use Rattle.std.proofs.Common.{◌≡◌, ℕ, zero, suc, ◌+◌, ◌-◌, ◌<◌, ◌≤◌, true, false, ltb, ◌⊎◌, List, length, get_or, set, replicate, sym, refl, ap, ◌∙◌, inl, inr, add-one, arith, length-set, get_or-set_other, get_or-set_same, le-ltb, lt-ltb, eq-eqb, ne_eqb}
+use mir.Val.{bool_byte}
+use mathlib.Core.Bool.{not}
+use lib.Dec.{eqb}
 use lib.ListN.{length-replicate, get_or-replicate}
 use Rattle.numbers.proofs.Truth.{either, below_or_not, same_or_not}
 use Rattle.index.proofs.Flat.{get_d_up_from}
@@ -16,6 +19,11 @@ pub stands-some : (n : ℕ) → (n ≡ 0 → ⊥) → 1 ≡ stands n
 unfolding stands
 stands-some zero h = absurd (h refl)
 stands-some (suc n) h = refl
+
+pub stands_is : (n : ℕ) → bool_byte (not (eqb n 0)) ≡ stands n
+unfolding stands
+stands_is zero = refl
+stands_is (suc n) = rw (ne_eqb (suc n) 0 (λ q. absurd (omega arith)))
 
 pub stands-most : (n : ℕ) → stands n ≤ 1
 unfolding stands

@@ -25,10 +25,7 @@ use filling::Plan;
 fn stands(number: usize) -> usize
     ensures { result ≡ stands number }
 {
-    if number == 0 {
-        return 0;
-    }
-    1
+    usize::from(number != 0)
 }
 
 // Counts the first n copies by kind, those that stand and those without a place; answers how many
@@ -47,29 +44,26 @@ fn count(
         × (unplaced_of.new ≡ by_kind (λ k. kind_to (misses_in orientation.now) order.now k n)) }
 {
     let mut placed = 0;
-    let mut i = 0;
-    while i < n {
+    for i in 0..n {
         let k = order[i];
         let s = stands(orientation[i]);
         placed_of[k] += s;
         unplaced_of[k] += 1 - s;
         placed += s;
-        i += 1;
     }
     placed
 }
 
 // Where each kind's positions start.
+// An index walks both tables: after `iter_mut` a proof knows a slice's length alone.
 fn sum_up(counts: &[usize], starts: &mut [usize])
     requires { (length counts.now ≡ 64) × (length starts.old ≡ 64) × ((k : ℕ) → k ≤ 64 → sum_to (λ i. slice_index counts.now i) k ≤ 4294967296) }
     ensures { starts.new ≡ starts_by (λ i. slice_index counts.now i) }
 {
     let mut sum = 0;
-    let mut k = 0;
-    while k < 64 {
+    for k in 0..64 {
         starts[k] = sum;
         sum += counts[k];
-        k += 1;
     }
 }
 
@@ -143,8 +137,7 @@ fn lay(
         (flat_map (λ k. positions_of_kind k 0 (standing_to (state_of order.now orientation.now x.now y.now
         gap.now) n)) (up_from m 0))) room.old }
 {
-    let mut i = 0;
-    while i < n {
+    for i in 0..n {
         put(
             room,
             starts,
@@ -155,7 +148,6 @@ fn lay(
             y[i],
             gap[i],
         );
-        i += 1;
     }
 }
 
@@ -165,13 +157,11 @@ fn look_count(rows: &[u64], kinds: usize, look_counts: &[usize], i: usize) -> us
     ensures { result ≡ look_in rows.now kinds look_counts.now i }
 {
     let k = i / 16;
-    if kinds <= k {
-        return 0;
+    if k < kinds && ((i % 16) as u64) < rows[4 * k + 3] {
+        look_counts[i]
+    } else {
+        0
     }
-    if rows[4 * k + 3] <= (i % 16) as u64 {
-        return 0;
-    }
-    look_counts[i]
 }
 
 // The look counts by slot.
@@ -179,10 +169,8 @@ fn look_table(rows: &[u64], kinds: usize, look_counts: &[usize], table: &mut [us
     requires { (kinds ≤ 64) × (256 ≤ length rows.now) × (1024 ≤ length look_counts.now) × (length table.old ≡ 1024) }
     ensures { table.new ≡ by_slot (look_in rows.now kinds look_counts.now) }
 {
-    let mut i = 0;
-    while i < 1024 {
+    for i in 0..1024 {
         table[i] = look_count(rows, kinds, look_counts, i);
-        i += 1;
     }
 }
 
@@ -231,16 +219,15 @@ pub fn plan_of(
         room,
     );
     look_table(rows, kinds, look_counts, &mut table);
-    let unplaced = taken - placed;
     Plan {
-        placed: placed,
-        unplaced: unplaced,
-        improvements: improvements,
-        placed_of: placed_of,
-        unplaced_of: unplaced_of,
+        placed,
+        unplaced: taken - placed,
+        improvements,
+        placed_of,
+        unplaced_of,
         look_counts: table,
-        right: right,
-        unplaced_area: unplaced_area,
-        offcut: offcut,
+        right,
+        unplaced_area,
+        offcut,
     }
 }

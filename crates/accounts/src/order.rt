@@ -10,14 +10,9 @@ fn count_kinds(order: &[usize], counts: &mut [usize])
     requires { (k : ℕ) → k < length counts.old → slice_index counts.old k ≡ 0 }
     ensures { (k : ℕ) → k < length counts.old → slice_index counts.new k ≡ count_in k order.now }
 {
-    let n = order.len();
-    let m = counts.len();
-    let mut i = 0;
-    while i < n {
-        let k = order[i];
-        i += 1;
-        if k < m {
-            counts[k] = counts[k] + 1;
+    for &k in order {
+        if k < counts.len() {
+            counts[k] += 1;
         }
     }
 }
@@ -27,11 +22,8 @@ fn in_quantity(counts: &[usize], rows: &[u64], kinds: usize) -> bool
     requires { (kinds ≤ length counts.now) × (4 * kinds ≤ length rows.now) }
     ensures { result ≡ in_quantity counts.now rows.now kinds 0 }
 {
-    let mut k = 0;
-    while k < kinds {
-        if counts[k] as u64 == rows[4 * k] {
-            k += 1;
-        } else {
+    for k in 0..kinds {
+        if counts[k] as u64 != rows[4 * k] {
             return false;
         }
     }
@@ -45,10 +37,10 @@ pub fn rearranged(order: &[usize], rows: &[u64], kinds: usize, copies: usize) ->
     ensures { (j : Job) (areas : List Float) → Tabled j rows.now areas → length j.kinds ≡ kinds → j.copies ≡ copies
         → result ≡ rearranged j order.now }
 {
-    if order.len() == copies {
-        let mut counts = [0usize; 64];
-        count_kinds(order, &mut counts);
-        return in_quantity(&counts, rows, kinds);
+    if order.len() != copies {
+        return false;
     }
-    false
+    let mut counts = [0; 64];
+    count_kinds(order, &mut counts);
+    in_quantity(&counts, rows, kinds)
 }

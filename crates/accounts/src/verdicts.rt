@@ -2,8 +2,10 @@
 ghost use Rattle.std.specs.Prelude.{◌≡◌};
 ghost use Rattle.filling.specs.Refusals.{number_of, verdict_number};
 
-use filling::{Refusal, Verdict};
+use filling::Refusal;
 
+// In one table, as its contract gives it.
+#[tactic(auto, unfolding(filling::specs::Refusals::number_of))]
 pub fn refusal_number(r: Refusal) -> u64
     ensures { result ≡ number_of r }
 {
@@ -25,11 +27,12 @@ pub fn refusal_number(r: Refusal) -> u64
 }
 
 // The number of a refused call, or 0.
-pub fn verdict_number(v: Verdict) -> u64
+#[tactic(auto, unfolding(filling::specs::Refusals::verdict_number))]
+pub fn verdict_number(v: Result<(), Refusal>) -> u64
     ensures { result ≡ verdict_number v }
 {
     match v {
-        Verdict::Accepted => 0,
-        Verdict::Refused(r) => refusal_number(r),
+        Ok(()) => 0,
+        Err(r) => refusal_number(r),
     }
 }

@@ -19,7 +19,7 @@ use Rattle.filling.specs.Rooms.{Rooms}
 use Rattle.filling.specs.Order.{rearranged}
 use Rattle.filling.specs.State.{slot_rows, orientation_counts, planner_at, order_of, stands_at, standing_of, tracks_of}
 use Rattle.filling.specs.Consistent.{every, strip_fits, strips_fit, taken_fits, strip_counts_fit, parts_fit, column_fits, track_fits, tracks_fit, track_table_fits}
-use Rattle.filling.specs.Consistent.{planner_fits, layout_fits, gap_fits, gaps_fit, entries_fit, orientation_fits, position_fits, same_doubles, copies_fit}
+use Rattle.filling.specs.Consistent.{planner_fits, layout_fits, gap_fits, gaps_fit, entries_fit, orientation_fits, position_fits, same, same_doubles, copies_fit}
 use Rattle.filling.specs.Consistent.{placed_strips_of, firsts_fit, consistent}
 use Rattle.filling.proofs.Reading.{Sixfold, capacity_append}
 use Rattle.filling.proofs.AtPlace.{strips_append}
@@ -72,7 +72,7 @@ module _ {A : Type 0} (test : A → Bool) where
       ap (λ (b : Bool). (test x && other x) && b) (every-both other xs) ∙ and_pairs (test x) (other x) (every test xs) (every other xs)
 
 same_append : (a b c : List Float) → same_doubles a b ≡ true → same_doubles c c ≡ true → same_doubles (a ++ c) (b ++ c) ≡ true
-unfolding same_doubles
+unfolding same
 same_append [] [] c h k = k
 same_append [] (y ∷ b) c h k = absurd (clash h refl)
 same_append (x ∷ a) [] c h k = absurd (clash h refl)

@@ -1,4 +1,6 @@
 -- A batch is n single calls, and 31 is tested in full only before the first. Assumes nothing.
+use Rattle.std.specs.Prelude.{Result, Ok, Err}
+use Rattle.filling.specs.declared.Refusal.{Refusal}
 use Prim.Native.Nat.{ℕ, zero, suc, ◌*◌}
 use mathlib.Core.Path.{◌≡◌, refl, sym, ap, ◌∙◌}
 use mathlib.Core.Bool.{Bool, true, false}
@@ -9,8 +11,6 @@ use lib.Ieee.{Float}
 use Rattle.job.specs.Jobs.{Job, accepted, read_job}
 use Rattle.filling.specs.declared.State.{State}
 use Rattle.filling.specs.declared.Refusal.TheVariants as Why
-use Rattle.filling.specs.declared.Verdict.{Verdict}
-use Rattle.filling.specs.declared.Verdict.TheVariants.{Accepted, Refused}
 use Rattle.filling.specs.Shapes.{Planner}
 use Rattle.filling.specs.Search.{Track, search_all}
 use Rattle.filling.specs.Choice.{Choice}
@@ -53,10 +53,10 @@ shaped_place : (p : Planner) (st : List Float) (ts : List Track) (k : ℕ) (s : 
     → Shaped (place_copy p st ts k s w iv).state
 shaped_place p st ts k s w iv f = go (copy_verdict p w iv k st (get_or p.shapes k []) ts (search_all p st (get_or p.shapes k []) ts)) refl
   where
-    go : (v : Verdict) → copy_verdict p w iv k st (get_or p.shapes k []) ts (search_all p st (get_or p.shapes k []) ts) ≡ v
+    go : (v : Result (Unit {0}) Refusal) → copy_verdict p w iv k st (get_or p.shapes k []) ts (search_all p st (get_or p.shapes k []) ts) ≡ v
         → Shaped (place_copy p st ts k s w iv).state
-    go Accepted d = rw (place-taken p st ts k s w iv d) (shaped_after p k _ s st _ f)
-    go (Refused r) d = rw (place-refused p st ts k s w iv r d) (unfold no_step in f)
+    go (Ok tt) d = rw (place-taken p st ts k s w iv d) (shaped_after p k _ s st _ f)
+    go (Err r) d = rw (place-refused p st ts k s w iv r d) (unfold no_step in f)
 
 pub shaped_step : (j : Job) (s : State) (w : Rooms) (iv : List Float) → Shaped s → Shaped (core_step j s w iv).state
 unfolding core_step
@@ -87,7 +87,7 @@ module _ (j : Job) (s : State) (w : Rooms) (iv : List Float) (f : Shaped s) wher
   shaped_tested true = shaped_step j s w iv f
   shaped_tested false = f
 
-  tested-31 : Sized j → (b : Bool) → consistent j s w ≡ b → (step_tested j s w iv b).verdict ≡ Accepted
+  tested-31 : Sized j → (b : Bool) → consistent j s w ≡ b → (step_tested j s w iv b).verdict ≡ (Ok tt)
       → let r = step_tested j s w iv b in consistent j r.state r.rooms ≡ copy_fits j s.taken s.placed_strips r.state r.rooms
   unfolding step_tested
   tested-31 z true c v = step-31 j z s w f c iv v
@@ -110,15 +110,15 @@ module _ (bytes : List ℕ) (j : Job) (e : read_job bytes ≡ accepted j) (z : S
       d : next_copy_of bytes s w iv ≡ step_tested j s w iv (consistent j s w)
       d = call_tested bytes j e s w iv (consistent j s w) refl
 
-      go : (v : Verdict) → (step_tested j s w iv (consistent j s w)).verdict ≡ v → Equal (suc n) s w iv
-      go Accepted v =
+      go : (v : Result (Unit {0}) Refusal) → (step_tested j s w iv (consistent j s w)).verdict ≡ v → Equal (suc n) s w iv
+      go (Ok tt) v =
           batch_more bytes n s w iv (ap (λ (q : Step). q.verdict) d ∙ v)
           ∙ ap (λ (q : Step). one_more (batch_from bytes n q.state q.rooms q.intervals)) d
           ∙ ap one_more (more ∙ ap (tested_from j n r.state r.rooms r.intervals) (tested-31 j s w iv f z (consistent j s w) refl v))
           ∙ sym (tested_more j n s w iv (consistent j s w) v)
-      go (Refused k) v =
+      go (Err k) v =
           batch_stop bytes n s w iv k (ap (λ (q : Step). q.verdict) d ∙ v)
-          ∙ ap (λ (q : Step). none_taken (Refused k) q.state q.rooms q.intervals) d
+          ∙ ap (λ (q : Step). none_taken (Err k) q.state q.rooms q.intervals) d
           ∙ sym (tested_stop j n s w iv (consistent j s w) k v)
 
   -- "The outcome equals n single calls"
@@ -146,22 +146,22 @@ module _ (bytes : List ℕ) where
       r : Step
       r = next_copy_of bytes s w iv
 
-      go : (v : Verdict)
+      go : (v : Result (Unit {0}) Refusal)
           → (let a = after_calls bytes (batch_calls bytes n r.state r.rooms r.intervals) r.state r.rooms in
           let q = batch_from bytes n r.state r.rooms r.intervals in (q.state ≡ a.state) × (q.rooms ≡ a.rooms))
-          → let cs : List Call = elim v [ Accepted ↦ batch_calls bytes n r.state r.rooms r.intervals | Refused k ↦ [] ] in
+          → let cs : List Call = elim v [ Ok tt ↦ batch_calls bytes n r.state r.rooms r.intervals | Err k ↦ [] ] in
           let q : Batch = elim v [
-            | Accepted ↦ one_more (batch_from bytes n r.state r.rooms r.intervals)
-            | Refused k ↦ none_taken (Refused k) r.state r.rooms r.intervals
+            | Ok tt ↦ one_more (batch_from bytes n r.state r.rooms r.intervals)
+            | Err k ↦ none_taken (Err k) r.state r.rooms r.intervals
           ] in
           let a = after_calls bytes cs r.state r.rooms in (q.state ≡ a.state) × (q.rooms ≡ a.rooms)
-      go Accepted h = unfold one_more in h
-      go (Refused k) h = unfold none_taken in (unfold after_calls in (refl, refl))
+      go (Ok tt) h = unfold one_more in h
+      go (Err k) h = unfold none_taken in (unfold after_calls in (refl, refl))
 
   -- what those calls answered: so many times accepted, then the refusal if any
   pub batch_verdicts : (n : ℕ) (s : State) (w : Rooms) (iv : List Float)
       → let q = batch_from bytes n s w iv in
-      (after_calls bytes (batch_calls bytes n s w iv) s w).verdicts ≡ replicate q.took Accepted ++ refusal_in q.verdict
+      (after_calls bytes (batch_calls bytes n s w iv) s w).verdicts ≡ replicate q.took (Ok tt) ++ refusal_in q.verdict
   unfolding batch_from batch_calls after_calls none_taken one_more call_step step_reply refusal_in
   batch_verdicts zero s w iv = refl
   batch_verdicts (suc n) s w iv =
@@ -171,15 +171,15 @@ module _ (bytes : List ℕ) where
       r : Step
       r = next_copy_of bytes s w iv
 
-      go : (v : Verdict)
+      go : (v : Result (Unit {0}) Refusal)
           → (let q = batch_from bytes n r.state r.rooms r.intervals in
           (after_calls bytes (batch_calls bytes n r.state r.rooms r.intervals) r.state r.rooms).verdicts
-          ≡ replicate q.took Accepted ++ refusal_in q.verdict)
-          → let cs : List Call = elim v [ Accepted ↦ batch_calls bytes n r.state r.rooms r.intervals | Refused k ↦ [] ] in
+          ≡ replicate q.took (Ok tt) ++ refusal_in q.verdict)
+          → let cs : List Call = elim v [ Ok tt ↦ batch_calls bytes n r.state r.rooms r.intervals | Err k ↦ [] ] in
           let q : Batch = elim v [
-            | Accepted ↦ one_more (batch_from bytes n r.state r.rooms r.intervals)
-            | Refused k ↦ none_taken (Refused k) r.state r.rooms r.intervals
+            | Ok tt ↦ one_more (batch_from bytes n r.state r.rooms r.intervals)
+            | Err k ↦ none_taken (Err k) r.state r.rooms r.intervals
           ] in
-          v ∷ (after_calls bytes cs r.state r.rooms).verdicts ≡ replicate q.took Accepted ++ refusal_in q.verdict
-      go Accepted h = unfold one_more in ap (λ (l : List Verdict). Accepted ∷ l) h
-      go (Refused k) h = unfold none_taken in (unfold after_calls in (unfold refusal_in in refl))
+          v ∷ (after_calls bytes cs r.state r.rooms).verdicts ≡ replicate q.took (Ok tt) ++ refusal_in q.verdict
+      go (Ok tt) h = unfold one_more in ap (λ (l : List (Result (Unit {0}) Refusal)). (Ok tt) ∷ l) h
+      go (Err k) h = unfold none_taken in (unfold after_calls in (unfold refusal_in in refl))

@@ -1,4 +1,6 @@
 -- 31 after a copy taken, from any state that it lets pass: only what the copy wrote has to be judged. Assumes nothing.
+use Rattle.std.specs.Prelude.{Result, Ok, Err}
+use Rattle.filling.specs.declared.Refusal.{Refusal}
 use Prim.Native.Nat.{ℕ, suc, ◌*◌, ◌≤◌, ◌<◌}
 use native.Mathlib.Omega.{arith}
 use mathlib.Core.Path.{◌≡◌, refl, sym, ap, ap₂, subst, ◌∙◌}
@@ -18,8 +20,6 @@ use Rattle.slabs.proofs.Merging.{All}
 use Rattle.job.specs.Jobs.{Job}
 use Rattle.filling.specs.declared.State.{State}
 use Rattle.filling.specs.declared.Refusal.TheVariants as Why
-use Rattle.filling.specs.declared.Verdict.{Verdict}
-use Rattle.filling.specs.declared.Verdict.TheVariants.{Accepted, Refused}
 use Rattle.filling.specs.Shapes.{Planner, Shape, Copy, Standing, standing_strips}
 use Rattle.filling.specs.Search.{Found, Track, search_all, searched_all}
 use Rattle.filling.specs.Choice.{Choice, choices, best, standing_at}
@@ -147,7 +147,7 @@ module _ (j : Job) (z : Sized j) (s : State) (w : Rooms) (f : Shaped s) (h : con
       let now = St ++ new_strips P k (best a as') in
       take-laid now w.placed (6 * capacity now) (now_six (a ∷ as'))
 
-  counts_now : (cs : List Choice) → winner_verdict P w k St cs ≡ Accepted → strip_counts_fit (Now cs).tables (Now cs).placed_strips (Left cs) ≡ true
+  counts_now : (cs : List Choice) → winner_verdict P w k St cs ≡ (Ok tt) → strip_counts_fit (Now cs).tables (Now cs).placed_strips (Left cs) ≡ true
   unfolding state_after state_with rooms_after stored winner_verdict store_verdict strip_counts_fit new_of
   counts_now [] v = H.counts
   counts_now (a ∷ as') v =
@@ -229,7 +229,7 @@ module _ (j : Job) (z : Sized j) (s : State) (w : Rooms) (f : Shaped s) (h : con
   unfolding planner_at
   firsts_now cs = after_firsts P k Ts s w St cs refl (placed_sixfold j s w h) (firsts_of_lem j s w h)
 
-  added : (cs : List Choice) → All (λ (c : Choice). c.orientation < get_or (orientation_counts j) k 0) cs → winner_verdict P w k St cs ≡ Accepted
+  added : (cs : List Choice) → All (λ (c : Choice). c.orientation < get_or (orientation_counts j) k 0) cs → winner_verdict P w k St cs ≡ (Ok tt)
       → Added j s w (Now cs) (Left cs) (new_of P k cs) Ts
   unfolding copy_at
   added cs u v =
@@ -265,25 +265,25 @@ module _ (j : Job) (z : Sized j) (s : State) (w : Rooms) (f : Shaped s) (h : con
     abbrev Placed : Step
     Placed = place_copy P St (get_or (tracks_of j s) k []) k s w iv
 
-    placed-31 : Placed.verdict ≡ Accepted → Judged Placed
+    placed-31 : Placed.verdict ≡ (Ok tt) → Judged Placed
     placed-31 v = go (copy_verdict P w iv k St Ss (get_or (tracks_of j s) k []) Fs) refl
       where
-        go : (u : Verdict) → copy_verdict P w iv k St Ss (get_or (tracks_of j s) k []) Fs ≡ u → Judged Placed
-        go Accepted d =
+        go : (u : Result (Unit {0}) Refusal) → copy_verdict P w iv k St Ss (get_or (tracks_of j s) k []) Fs ≡ u → Judged Placed
+        go (Ok tt) d =
             let cs = choices P 0 Ss Fs in
             subst Judged (sym (place-taken P St (get_or (tracks_of j s) k []) k s w iv d))
             (added-31 j s w h (Now cs) (Left cs) (new_of P k cs) Ts (added cs under (winner-accepted P St (get_or (tracks_of j s) k []) k s w iv d)))
-        go (Refused r) d = absurd (refused≢accepted
+        go (Err r) d = absurd (refused≢accepted
             (sym (ap (λ (q : Step). q.verdict) (place-refused P St (get_or (tracks_of j s) k []) k s w iv r d) ∙ no_step-refused r s w iv) ∙ v))
 
 -- the same of the copies to come
 abbrev KeptBy : Job → State → Rooms → List Float → List ℕ → Type 0
 KeptBy j s w iv l =
     let r = place_next j s w iv l in
-    r.verdict ≡ Accepted → consistent j r.state r.rooms ≡ copy_fits j s.taken s.placed_strips r.state r.rooms
+    r.verdict ≡ (Ok tt) → consistent j r.state r.rooms ≡ copy_fits j s.taken s.placed_strips r.state r.rooms
 
 -- from any state that 31 lets pass, whoever made it: after a copy taken 31 lets the next call pass exactly where what the copy wrote passes
-pub step-31 : (j : Job) → Sized j → (s : State) (w : Rooms) → Shaped s → consistent j s w ≡ true → (iv : List Float) → (core_step j s w iv).verdict ≡ Accepted
+pub step-31 : (j : Job) → Sized j → (s : State) (w : Rooms) → Shaped s → consistent j s w ≡ true → (iv : List Float) → (core_step j s w iv).verdict ≡ (Ok tt)
     → consistent j (core_step j s w iv).state (core_step j s w iv).rooms
     ≡ copy_fits j s.taken s.placed_strips (core_step j s w iv).state (core_step j s w iv).rooms
 unfolding core_step

@@ -1,4 +1,6 @@
 -- Single calls and batches are lists of calls; what holds of a batch as of each of them. Assumes nothing.
+use Rattle.std.specs.Prelude.{Result, Ok, Err}
+use Rattle.filling.specs.declared.Refusal.{Refusal}
 use Prim.Native.Nat.{ℕ, zero, suc}
 use native.Mathlib.Omega.{arith}
 use mathlib.Core.Path.{◌≡◌, refl, sym, ap, ap₂, subst, ◌∙◌}
@@ -14,8 +16,6 @@ use Rattle.numbers.proofs.Truth.{below_or_not}
 use Rattle.numbers.specs.Numbers.{pos_zero}
 use Rattle.filling.specs.declared.State.{State}
 use Rattle.filling.specs.declared.Refusal.TheVariants as Why
-use Rattle.filling.specs.declared.Verdict.{Verdict}
-use Rattle.filling.specs.declared.Verdict.TheVariants.{Accepted, Refused}
 use Rattle.filling.specs.Refusals.{number_of, verdict_number}
 use Rattle.filling.specs.Rooms.{Rooms, Lent, zeros}
 use Rattle.filling.specs.Start.{start_of}
@@ -34,7 +34,7 @@ use Rattle.batch.proofs.Batches.{batch_calls_lem, batch_verdicts}
 
 module _ (bytes : List ℕ) where
   -- a batch that is not refused takes all its copies
-  pub batch_whole : (n : ℕ) (s : State) (w : Rooms) (iv : List Float) → (batch_from bytes n s w iv).verdict ≡ Accepted → (batch_from bytes n s w iv).took ≡ n
+  pub batch_whole : (n : ℕ) (s : State) (w : Rooms) (iv : List Float) → (batch_from bytes n s w iv).verdict ≡ (Ok tt) → (batch_from bytes n s w iv).took ≡ n
   unfolding batch_from none_taken one_more
   batch_whole zero s w iv v = refl
   batch_whole (suc n) s w iv v =
@@ -44,14 +44,14 @@ module _ (bytes : List ℕ) where
       r : Step
       r = next_copy_of bytes s w iv
 
-      go : (u : Verdict)
-          → ((batch_from bytes n r.state r.rooms r.intervals).verdict ≡ Accepted → (batch_from bytes n r.state r.rooms r.intervals).took ≡ n)
+      go : (u : Result (Unit {0}) Refusal)
+          → ((batch_from bytes n r.state r.rooms r.intervals).verdict ≡ (Ok tt) → (batch_from bytes n r.state r.rooms r.intervals).took ≡ n)
           → let q : Batch = elim u [
-            | Accepted ↦ one_more (batch_from bytes n r.state r.rooms r.intervals)
-            | Refused k ↦ none_taken (Refused k) r.state r.rooms r.intervals
-          ] in q.verdict ≡ Accepted → q.took ≡ suc n
-      go Accepted h v = unfold one_more in ap suc (h (unfold one_more in v))
-      go (Refused k) h v = absurd (refused≢accepted (unfold none_taken in v))
+            | Ok tt ↦ one_more (batch_from bytes n r.state r.rooms r.intervals)
+            | Err k ↦ none_taken (Err k) r.state r.rooms r.intervals
+          ] in q.verdict ≡ (Ok tt) → q.took ≡ suc n
+      go (Ok tt) h v = unfold one_more in ap suc (h (unfold one_more in v))
+      go (Err k) h v = absurd (refused≢accepted (unfold none_taken in v))
 
   -- its interval room: zeros
   pub batch_intervals : (n : ℕ) (s : State) (w : Rooms) (iv : List Float) → (batch_from bytes n s w (zeros pos_zero iv)).intervals ≡ zeros pos_zero iv
@@ -64,13 +64,13 @@ module _ (bytes : List ℕ) where
       r : Step
       r = next_copy_of bytes s w (zeros pos_zero iv)
 
-      go : (u : Verdict) → r.intervals ≡ zeros pos_zero iv → (batch_from bytes n r.state r.rooms (zeros pos_zero iv)).intervals ≡ zeros pos_zero iv
+      go : (u : Result (Unit {0}) Refusal) → r.intervals ≡ zeros pos_zero iv → (batch_from bytes n r.state r.rooms (zeros pos_zero iv)).intervals ≡ zeros pos_zero iv
           → let q : Batch = elim u [
-            | Accepted ↦ one_more (batch_from bytes n r.state r.rooms r.intervals)
-            | Refused k ↦ none_taken (Refused k) r.state r.rooms r.intervals
+            | Ok tt ↦ one_more (batch_from bytes n r.state r.rooms r.intervals)
+            | Err k ↦ none_taken (Err k) r.state r.rooms r.intervals
           ] in q.intervals ≡ zeros pos_zero iv
-      go Accepted e h = unfold one_more in (ap (λ (l : List Float). (batch_from bytes n r.state r.rooms l).intervals) e ∙ h)
-      go (Refused k) e h = unfold none_taken in e
+      go (Ok tt) e h = unfold one_more in (ap (λ (l : List Float). (batch_from bytes n r.state r.rooms l).intervals) e ∙ h)
+      go (Err k) e h = unfold none_taken in e
 
   -- ---- lists of calls, one after another
 
@@ -118,13 +118,13 @@ module _ (bytes : List ℕ) where
 -- ---- 31
 
 -- after an accepted start and whatever calls, a batch is not stopped by 31
-pub batch_passes : (bytes order : List ℕ) (l : Lent) → (start_of bytes order l).verdict ≡ Accepted → (calls : List Call) (n : ℕ) (iv : List Float)
+pub batch_passes : (bytes order : List ℕ) (l : Lent) → (start_of bytes order l).verdict ≡ (Ok tt) → (calls : List Call) (n : ℕ) (iv : List Float)
     → let a = after_calls bytes calls (start_of bytes order l).state (start_of bytes order l).lent.rooms in
-    (batch_from bytes n a.state a.rooms iv).verdict ≡ Refused Why.Inconsistent → ⊥
+    (batch_from bytes n a.state a.rooms iv).verdict ≡ Err Why.Inconsistent → ⊥
 unfolding refusal_in
 batch_passes bytes order l v calls n iv e =
     never-31 bytes order l v (calls ++ batch_calls bytes n a.state a.rooms iv)
-    (subst (λ (r : After). Memᴰ (Refused Why.Inconsistent) r.verdicts)
+    (subst (λ (r : After). Memᴰ (Err Why.Inconsistent) r.verdicts)
     (sym (calls_append bytes calls (batch_calls bytes n a.state a.rooms iv) (start_of bytes order l).state (start_of bytes order l).lent.rooms))
     (Memᴰ.append_right a.verdicts last))
   where
@@ -134,16 +134,16 @@ batch_passes bytes order l v calls n iv e =
     q : Batch
     q = batch_from bytes n a.state a.rooms iv
 
-    last : Memᴰ (Refused Why.Inconsistent) (after_calls bytes (batch_calls bytes n a.state a.rooms iv) a.state a.rooms).verdicts
+    last : Memᴰ (Err Why.Inconsistent) (after_calls bytes (batch_calls bytes n a.state a.rooms iv) a.state a.rooms).verdicts
     last =
-        subst (Memᴰ (Refused Why.Inconsistent))
-        (sym (batch_verdicts bytes n a.state a.rooms iv ∙ ap (λ (u : Verdict). replicate q.took Accepted ++ refusal_in u) e))
-        (Memᴰ.append_right (replicate q.took Accepted) (unfold refusal_in in Memᴰ.head refl))
+        subst (Memᴰ (Err Why.Inconsistent))
+        (sym (batch_verdicts bytes n a.state a.rooms iv ∙ ap (λ (u : Result (Unit {0}) Refusal). replicate q.took (Ok tt) ++ refusal_in u) e))
+        (Memᴰ.append_right (replicate q.took (Ok tt)) (unfold refusal_in in Memᴰ.head refl))
 
 -- whatever number of copies is asked for
-pub copies_pass : (bytes order : List ℕ) (l : Lent) → (start_of bytes order l).verdict ≡ Accepted → (calls : List Call) (n : ℕ) (iv : List Float)
+pub copies_pass : (bytes order : List ℕ) (l : Lent) → (start_of bytes order l).verdict ≡ (Ok tt) → (calls : List Call) (n : ℕ) (iv : List Float)
     → let a = after_calls bytes calls (start_of bytes order l).state (start_of bytes order l).lent.rooms in
-    (next_copies_of bytes n a.state a.rooms iv).verdict ≡ Refused Why.Inconsistent → ⊥
+    (next_copies_of bytes n a.state a.rooms iv).verdict ≡ Err Why.Inconsistent → ⊥
 unfolding none_taken verdict_number number_of
 copies_pass bytes order l v calls n iv e = elim (below_or_not 4096 n) [
   | inl h ↦ let six : ◌≡◌ {A = ℕ} 6 31 = ap verdict_number (sym (ap (λ (q : Batch). q.verdict) (copies_over bytes n _ _ iv h)) ∙ e) in omega arith

@@ -1,4 +1,5 @@
 -- The laws of a batch for the loop that takes it: one copy more, the end, and the copies counted before. Assumes nothing.
+use Rattle.std.specs.Prelude.{Result, Ok, Err}
 use Prim.Native.Nat.{ℕ, suc, ◌+◌, ◌≤◌, ◌<◌}
 use native.Mathlib.Omega.{arith}
 use mathlib.Core.Path.{◌≡◌, refl, ap, ◌∙◌}
@@ -14,8 +15,6 @@ use Rattle.job.specs.Jobs.{Job, refused, read_job}
 use Rattle.filling.specs.declared.State.{State}
 use Rattle.filling.specs.declared.Refusal.{Refusal}
 use Rattle.filling.specs.declared.Refusal.TheVariants as Why
-use Rattle.filling.specs.declared.Verdict.{Verdict}
-use Rattle.filling.specs.declared.Verdict.TheVariants.{Accepted, Refused}
 use Rattle.filling.specs.Shapes.{Planner}
 use Rattle.filling.specs.Search.{Track, search_all}
 use Rattle.filling.specs.Rooms.{Rooms, zeros}
@@ -42,10 +41,10 @@ place-intervals : (p : Planner) (st : List Float) (ts : List Track) (k : ℕ) (s
 unfolding no_step
 place-intervals p st ts k s w iv = go (copy_verdict p w iv k st (get_or p.shapes k []) ts (search_all p st (get_or p.shapes k []) ts)) refl
   where
-    go : (v : Verdict) → copy_verdict p w iv k st (get_or p.shapes k []) ts (search_all p st (get_or p.shapes k []) ts) ≡ v
+    go : (v : Result (Unit {0}) Refusal) → copy_verdict p w iv k st (get_or p.shapes k []) ts (search_all p st (get_or p.shapes k []) ts) ≡ v
         → (place_copy p st ts k s w iv).intervals ≡ zeros pos_zero iv
-    go Accepted d = ap (λ (q : Step). q.intervals) (place-taken p st ts k s w iv d)
-    go (Refused r) d = ap (λ (q : Step). q.intervals) (place-refused p st ts k s w iv r d)
+    go (Ok tt) d = ap (λ (q : Step). q.intervals) (place-taken p st ts k s w iv d)
+    go (Err r) d = ap (λ (q : Step). q.intervals) (place-refused p st ts k s w iv r d)
 
 core_intervals : (j : Job) (s : State) (w : Rooms) (iv : List Float) → (core_step j s w iv).intervals ≡ zeros pos_zero iv
 unfolding core_step
@@ -64,12 +63,12 @@ step-intervals j s w iv false = no_step-intervals Why.Inconsistent s w iv
 -- ---- one turn
 
 -- none is asked for
-pub tested_none : (j : Job) (s : State) (w : Rooms) (iv : List Float) (fits : Bool) → tested_from j 0 s w iv fits ≡ none_taken Accepted s w iv
+pub tested_none : (j : Job) (s : State) (w : Rooms) (iv : List Float) (fits : Bool) → tested_from j 0 s w iv fits ≡ none_taken (Ok tt) s w iv
 unfolding tested_from
 tested_none j s w iv fits = refl
 
 -- the next copy is taken
-pub tested_more : (j : Job) (n : ℕ) (s : State) (w : Rooms) (iv : List Float) (fits : Bool) → (step_tested j s w iv fits).verdict ≡ Accepted
+pub tested_more : (j : Job) (n : ℕ) (s : State) (w : Rooms) (iv : List Float) (fits : Bool) → (step_tested j s w iv fits).verdict ≡ (Ok tt)
     → let r = step_tested j s w iv fits in
     tested_from j (suc n) s w iv fits
     ≡ one_more (tested_from j n r.state r.rooms r.intervals (copy_fits j s.taken s.placed_strips r.state r.rooms))
@@ -77,9 +76,9 @@ unfolding tested_from
 tested_more j n s w iv fits v = rw (v, tested_from)
 
 -- it is refused
-pub tested_stop : (j : Job) (n : ℕ) (s : State) (w : Rooms) (iv : List Float) (fits : Bool) (k : Refusal) → (step_tested j s w iv fits).verdict ≡ Refused k
+pub tested_stop : (j : Job) (n : ℕ) (s : State) (w : Rooms) (iv : List Float) (fits : Bool) (k : Refusal) → (step_tested j s w iv fits).verdict ≡ Err k
     → let r = step_tested j s w iv fits in
-    tested_from j (suc n) s w iv fits ≡ none_taken (Refused k) r.state r.rooms r.intervals
+    tested_from j (suc n) s w iv fits ≡ none_taken (Err k) r.state r.rooms r.intervals
 unfolding tested_from
 tested_stop j n s w iv fits k v = rw (v, tested_from)
 
@@ -99,23 +98,23 @@ more_one m q =
 
 -- ---- a batch's first call
 
-pub batch_more : (bytes : List ℕ) (n : ℕ) (s : State) (w : Rooms) (iv : List Float) → (next_copy_of bytes s w iv).verdict ≡ Accepted
+pub batch_more : (bytes : List ℕ) (n : ℕ) (s : State) (w : Rooms) (iv : List Float) → (next_copy_of bytes s w iv).verdict ≡ (Ok tt)
     → let r = next_copy_of bytes s w iv in batch_from bytes (suc n) s w iv ≡ one_more (batch_from bytes n r.state r.rooms r.intervals)
 unfolding batch_from
 batch_more bytes n s w iv v = rw (v, batch_from)
 
-pub batch_stop : (bytes : List ℕ) (n : ℕ) (s : State) (w : Rooms) (iv : List Float) (k : Refusal) → (next_copy_of bytes s w iv).verdict ≡ Refused k
-    → let r = next_copy_of bytes s w iv in batch_from bytes (suc n) s w iv ≡ none_taken (Refused k) r.state r.rooms r.intervals
+pub batch_stop : (bytes : List ℕ) (n : ℕ) (s : State) (w : Rooms) (iv : List Float) (k : Refusal) → (next_copy_of bytes s w iv).verdict ≡ Err k
+    → let r = next_copy_of bytes s w iv in batch_from bytes (suc n) s w iv ≡ none_taken (Err k) r.state r.rooms r.intervals
 unfolding batch_from
 batch_stop bytes n s w iv k v = rw (v, batch_from)
 
 -- a job that the reader refuses: its number, and nothing changed
 pub batch_refused : (bytes : List ℕ) (k : Input.Refusal) → read_job bytes ≡ refused k → (n : ℕ) (s : State) (w : Rooms) (iv : List Float)
-    → batch_from bytes (suc n) s w iv ≡ none_taken (Refused (Why.Job k)) s w (zeros pos_zero iv)
+    → batch_from bytes (suc n) s w iv ≡ none_taken (Err (Why.Job k)) s w (zeros pos_zero iv)
 unfolding no_step
 batch_refused bytes k e n s w iv =
     batch_stop bytes n s w iv (Why.Job k) (ap (λ (q : Step). q.verdict) step)
-    ∙ ap (λ (q : Step). none_taken (Refused (Why.Job k)) q.state q.rooms q.intervals) step
+    ∙ ap (λ (q : Step). none_taken (Err (Why.Job k)) q.state q.rooms q.intervals) step
   where
     step : next_copy_of bytes s w iv ≡ no_step (Why.Job k) s w iv
     step = unfold next_copy_of in (unfold step_given in rw e)
@@ -130,6 +129,6 @@ copies_upto bytes n s w iv h = rw (le-ltb 4096 n h, next_copies_of)
 
 -- more: 6
 pub copies_over : (bytes : List ℕ) (n : ℕ) (s : State) (w : Rooms) (iv : List Float) → 4096 < n
-    → next_copies_of bytes n s w iv ≡ none_taken (Refused (Why.Job Wrong.CountOutOfRange)) s w (zeros pos_zero iv)
+    → next_copies_of bytes n s w iv ≡ none_taken (Err (Why.Job Wrong.CountOutOfRange)) s w (zeros pos_zero iv)
 unfolding next_copies_of
 copies_over bytes n s w iv h = rw (lt-ltb 4096 n h, next_copies_of)

@@ -1,9 +1,8 @@
 -- Document 02, W5: a batch as a list of next-copy calls, so that what is promised of lists of calls speaks of it. Definitions only. Assumes nothing.
-use Rattle.std.specs.Prelude.{ℕ, zero, suc, true, false, List, [], ◌∷◌, ◌++◌, ltb, Float}
+use Rattle.std.specs.Prelude.{Result, Ok, Err, ℕ, zero, suc, true, false, List, [], ◌∷◌, ◌++◌, ltb, Float}
+use Rattle.filling.specs.declared.Refusal.{Refusal}
 use Rattle.numbers.specs.Numbers.{pos_zero}
 use Rattle.filling.specs.declared.State.{State}
-use Rattle.filling.specs.declared.Verdict.{Verdict}
-use Rattle.filling.specs.declared.Verdict.TheVariants.{Accepted, Refused}
 use Rattle.filling.specs.Rooms.{Rooms, zeros}
 use Rattle.filling.specs.NextCopy.{next_copy_of}
 use Rattle.filling.specs.Calls.{Call, next_copy, call_step}
@@ -14,12 +13,12 @@ unfoldable pub batch_calls : List ℕ → ℕ → State → Rooms → List Float
 batch_calls bytes zero s w intervals = []
 batch_calls bytes (suc n) s w intervals =
     let r = next_copy_of bytes s w intervals in
-    next_copy intervals ∷ elim r.verdict [ Accepted ↦ batch_calls bytes n r.state r.rooms r.intervals | Refused k ↦ [] ]
+    next_copy intervals ∷ elim r.verdict [ Ok tt ↦ batch_calls bytes n r.state r.rooms r.intervals | Err k ↦ [] ]
 
 -- the refusal, if the verdict is one
-unfoldable pub refusal_in : Verdict → List Verdict
-refusal_in Accepted = []
-refusal_in (Refused k) = Refused k ∷ []
+unfoldable pub refusal_in : Result (Unit {0}) Refusal → List (Result (Unit {0}) Refusal)
+refusal_in (Ok tt) = []
+refusal_in (Err k) = Err k ∷ []
 
 -- ---- single calls and batches
 

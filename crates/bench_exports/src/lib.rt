@@ -8,7 +8,7 @@ ghost use Rattle.trapezoid.specs.Strip.{capacity};
 ghost use Rattle.strips.specs.Strips.{trapezoids};
 ghost use Rattle.strips.specs.inner.Tables.{Loops, strips_stored};
 ghost use Rattle.job.specs.Jobs.{read_job, verdict_of};
-ghost use Rattle.bench_exports.specs.inner.Answers.{verdict_number, told, height_told, look_told, gap_told, gap_seen};
+ghost use Rattle.bench_exports.specs.inner.Answers.{verdict_number, told, height_told, look_told, gap_seen};
 ghost use Rattle.random.specs.SplitMix64.{next_state, mixed};
 ghost use Rattle.numbers.proofs.Doubles.{Finite};
 ghost use Rattle.index.specs.Buckets.{buckets, strip_numbers, index_of};
@@ -19,9 +19,7 @@ ghost use Rattle.look.specs.inner.Ready.{Lookable, look_of};
 ghost use Rattle.enter.specs.inner.EntryRoom.{enter_of, FirstsWritten};
 ghost use Rattle.enter.specs.inner.Gaps.{rooms, entering};
 
-use index::{Bucket, Entry, Index};
-use look::Answer;
-use look::height::Look;
+use index::{Bucket, Entry, Index, Overrun};
 
 // The next draw, and the state moved on.
 #[unsafe(no_mangle)]
@@ -50,10 +48,7 @@ pub extern "C" fn panel_trapezoids(
         0).room) }
 {
     let stored = strips::trapezoids(points, n, ends, sheet, es, rows, line, room, 0);
-    match stored {
-        strips::Stored::Count(m) => m,
-        strips::Stored::NoRoom => room.len() / 6 + 1,
-    }
+    stored.unwrap_or(trapezoid::capacity(room) + 1)
 }
 
 // The number 1 to 8 of a refused job, or 0.
@@ -62,38 +57,20 @@ pub extern "C" fn panel_judge(bytes: &[u8]) -> u64
     ensures { result ≡ verdict_number (verdict_of (read_job bytes.now)) }
 {
     match job::judge(bytes) {
-        job::Verdict::Accepted(_, _) => 0,
-        job::Verdict::Refused(k) => bits::refusal_number(k),
+        Ok(_) => 0,
+        Err(k) => bits::refusal_number(k),
     }
 }
 
-// A height; 1e300 where it is full.
-fn height_or(l: Look) -> f64
-    ensures { result ≡ height_told l }
-{
-    match l {
-        Look::Free(h, _) => h,
-        Look::Full => 1.0e300,
-    }
-}
-
-// The clear height above a free height; 0 where it is full.
-fn gap_or(l: Look) -> f64
-    ensures { result ≡ gap_told l }
-{
-    match l {
-        Look::Free(_, gap) => gap,
-        Look::Full => 0.0,
-    }
-}
-
-// The same of a look; 0 where the room does not hold its intervals.
-fn gap_seen(a: Answer) -> f64
-    ensures { result ≡ gap_seen a }
+// A look's height and the gap above it: 1e300 and 0 where it is full, -1e300 and 0 where the room does
+// not hold its intervals.
+fn height_and_gap(a: Result<Option<(f64, f64)>, Overrun>) -> (f64, f64)
+    ensures { (result.0 ≡ look_told a) × (result.1 ≡ gap_seen a) }
 {
     match a {
-        Answer::NoRoom => 0.0,
-        Answer::Seen(l) => gap_or(l),
+        Ok(Some(seen)) => seen,
+        Ok(None) => (1.0e300, 0.0),
+        Err(_) => (-1.0e300, 0.0),
     }
 }
 
@@ -101,7 +78,7 @@ fn gap_seen(a: Answer) -> f64
 fn put_first(room: &mut [f64], x: f64)
     ensures { room.new ≡ set room.old 0 x }
 {
-    if room.len() > 0 {
+    if !room.is_empty() {
         room[0] = x;
     }
 }
@@ -111,8 +88,7 @@ fn put_first(room: &mut [f64], x: f64)
 pub extern "C" fn panel_width(x0: f64, x1: f64) -> f64
     ensures { result ≡ (index_of x0 x1).width }
 {
-    let ix = Index::new(x0, x1);
-    ix.width
+    Index::new(x0, x1).width
 }
 
 // A look: its height, 1e300 where it is full, -1e300 where the room does not hold its intervals, and
@@ -146,10 +122,7 @@ pub extern "C" fn panel_look(
         × (gap.new ≡ set gap.old 0 (gap_seen (look_of (length room.old / 2) x y_low y_high inset.now
         apart.now sheet.now placed.now))) }
 {
-    let ix = Index {
-        x0: x0,
-        width: width,
-    };
+    let ix = Index { x0, width };
     let answer = look::look_at(
         ix,
         x,
@@ -167,11 +140,9 @@ pub extern "C" fn panel_look(
         sheet_firsts,
         placed_firsts,
     );
-    put_first(gap, gap_seen(answer));
-    match answer {
-        Answer::NoRoom => -1.0e300,
-        Answer::Seen(l) => height_or(l),
-    }
+    let (height, above) = height_and_gap(answer);
+    put_first(gap, above);
+    height
 }
 
 // Enters the strips from `from` to below `to` and writes their first buckets, if the room holds their
@@ -195,10 +166,7 @@ pub extern "C" fn panel_enter(
         × (result ≡ true → FirstsWritten (record { x0 = x0; width = width }) standing.now from to firsts.old firsts.new)
         × (result ≡ false → firsts.new ≡ firsts.old) }
 {
-    let ix = Index {
-        x0: x0,
-        width: width,
-    };
+    let ix = Index { x0, width };
     enter::enter_copy(ix, standing, from, to, entries, starts, gains, firsts)
 }
 
@@ -209,6 +177,6 @@ pub extern "C" fn panel_height(room: &mut [f64], n: usize, y_low: f64, y_high: f
     requires { (2 * n ≤ length room.old) × Finite y_low × Finite y_high × FiniteEnds (intervals room.old n) }
     ensures { result ≡ height_told (height_of y_low y_high (intervals room.old n)) }
 {
-    let l = look::height::height(room, n, y_low, y_high);
-    height_or(l)
+    let seen = look::height::height(room, n, y_low, y_high);
+    height_and_gap(Ok(seen)).0
 }

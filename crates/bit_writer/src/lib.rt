@@ -2,7 +2,7 @@
 // counted. The functions are called by this project's crates alone.
 #![tactic(auto)]
 
-ghost use Rattle.std.specs.Prelude.{◌≡◌, ℕ, ◌+◌, ◌*◌, ◌-◌, ◌/◌, ◌%◌, ◌^◌, ◌≤◌, ◌<◌, min, List, [], ◌++◌, length, set, take, replicate};
+ghost use Rattle.std.specs.Prelude.{◌≡◌, ℕ, ◌+◌, ◌*◌, ◌-◌, ◌/◌, ◌%◌, ◌^◌, ◌≤◌, ◌<◌, List, [], length, set};
 ghost use Rattle.bit_writer.specs.Packed.{binary, packed, in_room};
 ghost use Rattle.bit_writer.specs.inner.BitWriting.{Sound, written, Wrote, Put, Closed};
 
@@ -22,13 +22,12 @@ fn joined(held: u64, n: u64, k: usize, e: usize) -> u64
     (held << k) + (n >> e) % (1u64 << k)
 }
 
-// A byte, if the room has its place.
-fn store(out: &mut [u8], at: usize, b: u64)
-    requires { b < 256 }
-    ensures { out.new ≡ set out.old at b }
+// A value, if the room has its place.
+pub fn store<T: Copy>(out: &mut [T], at: usize, x: T)
+    ensures { out.new ≡ set out.old at x }
 {
     if at < out.len() {
-        out[at] = b as u8;
+        out[at] = x;
     }
 }
 
@@ -39,30 +38,22 @@ fn put_some(out: &mut [u8], p: BitWriter, n: u64, k: usize, e: usize) -> BitWrit
 {
     let held = joined(p.held, n, k, e);
     let filled = p.filled + k;
-    let at = p.bytes;
     if filled == 8 {
-        store(out, at, held);
-        let bytes = at + 1;
+        store(out, p.bytes, held as u8);
         return BitWriter {
-            bytes,
+            bytes: p.bytes + 1,
             held: 0,
             filled: 0,
         };
     }
     BitWriter {
-        bytes: at,
+        bytes: p.bytes,
         held,
         filled,
     }
 }
 
-fn least(a: usize, b: usize) -> usize
-    ensures { result ≡ min a b }
-{
-    if a < b { a } else { b }
-}
-
-// The w bits of n.
+// The w bits of n. A step puts up to 8 bits, so `left` does not fall by one.
 pub fn put(out: &mut [u8], p: BitWriter, n: u64, w: usize) -> BitWriter
     requires { Sound p × (w ≤ 64) × (written p + w < 8000000000000) }
     ensures { Put out.old p (binary w n) out.new result }
@@ -70,7 +61,7 @@ pub fn put(out: &mut [u8], p: BitWriter, n: u64, w: usize) -> BitWriter
     let mut q = p;
     let mut left = w;
     while 0 < left {
-        let k = least(left, 8 - q.filled);
+        let k = left.min(8 - q.filled);
         left -= k;
         q = put_some(out, q, n, k, left);
     }
@@ -93,24 +84,12 @@ fn close(out: &mut [u8], p: BitWriter) -> usize
     requires { Sound p }
     ensures { (bits : List ℕ) → Wrote out.old bits p → Closed out.old bits out.new result }
 {
-    let at = p.bytes;
     if p.filled == 0 {
-        return at;
+        return p.bytes;
     }
-    let rest = 8 - p.filled;
-    store(out, at, p.held << rest);
-    at + 1
-}
-
-// Zeros from byte n on.
-pub fn clear_from(out: &mut [u8], n: usize)
-    ensures { out.new ≡ take n out.old ++ replicate (length out.old - n) 0 }
-{
-    let mut i = n;
-    while i < out.len() {
-        out[i] = 0;
-        i += 1;
-    }
+    let last = p.held << (8 - p.filled);
+    store(out, p.bytes, last as u8);
+    p.bytes + 1
 }
 
 // The last byte, and zeros behind it: the number of bytes.
@@ -121,6 +100,8 @@ pub fn finish(out: &mut [u8], p: BitWriter) -> usize
         × (length out.new ≡ length out.old) }
 {
     let n = close(out, p);
-    clear_from(out, n);
+    if n < out.len() {
+        out[n..].fill(0);
+    }
     n
 }

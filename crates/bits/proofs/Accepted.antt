@@ -1,4 +1,5 @@
 -- What the fields of an accepted job promise: counts within their ranges, doubles finite, not minus zero and within theirs. Assumes nothing.
+use Rattle.std.specs.Prelude.{Some, None, Result, Ok, Err}
 use mathlib.Core.Path.{◌≡◌, refl, sym, ap, ◌∙◌, subst}
 use Prim.Native.Nat.{ℕ, zero, suc, ◌+◌, ◌-◌, ◌*◌, ◌^◌, ◌≤◌, ◌<◌}
 use native.Mathlib.Omega.{arith}
@@ -10,7 +11,6 @@ use lib.Ieee.{Float, fin, binary64, le, lt, neg, of_int, of_bits, div, fits}
 use lib.Ieee.Scale.{finite}
 use borrow.Author.Tests.{leb-true}
 use Rattle.numbers.specs.Numbers.{double_of, plus_zero, from_int, pos_zero}
-use Rattle.numbers.specs.declared.Double.TheVariants.{Finite, NotFinite}
 use Rattle.numbers.proofs.Keys.{unit, unit-pos, le→key}
 use Rattle.numbers.proofs.Patterns.{bits_fin, plus-number}
 use Rattle.numbers.proofs.Bounds.{value_key}
@@ -20,10 +20,6 @@ use Rattle.numbers.proofs.Doubles.{Number, Upto, Small, k, o}
 use Rattle.numbers.proofs.Truth.{zero-not-one}
 use Rattle.bits.specs.declared.Refusal.{Refusal}
 use Rattle.bits.specs.declared.Refusal.TheVariants.{Truncated, OutOfRange, CountOutOfRange}
-use Rattle.bits.specs.declared.Counted.{Counted}
-use Rattle.bits.specs.declared.Counted.TheVariants.{Count, NoCount}
-use Rattle.bits.specs.declared.Measured.{Measured}
-use Rattle.bits.specs.declared.Measured.TheVariants.{Value, NoValue}
 use Rattle.bits.specs.Bits.{bit_at, field_at}
 use Rattle.bits.specs.Reading.{Read, ok, bad, Reader, after, ◌>>=◌, give, unless, bits}
 use Rattle.bits.specs.Fields.{Field, judge_count, in_set, judge_points, counted, count, point_count, Range, coordinate_range, area_range, resolution_range, judge_double, judge_number, measured, number, Spot, point}
@@ -92,9 +88,9 @@ bits-end w bytes p n q e = go (leb (p + w) (8 * lib.ListN.length bytes)) e
     go true e = sym (ok_place e)
     go false e = absurd (bad-not_ok e)
 
-measured-end : (t : Measured) (v : ℕ) (a : Float) (q : ℕ) → measured t v ≡ ok a q → q ≡ v
-measured-end (Value x) v a q e = sym (ok_place e)
-measured-end (NoValue k) v a q e = absurd (bad-not_ok e)
+measured-end : (t : Result Float Refusal) (v : ℕ) (a : Float) (q : ℕ) → measured t v ≡ ok a q → q ≡ v
+measured-end (Ok x) v a q e = sym (ok_place e)
+measured-end (Err k) v a q e = absurd (bad-not_ok e)
 
 number-place : (r : Range) (bytes : List ℕ) (p : ℕ) (a : Float) (q : ℕ) → number r bytes p ≡ ok a q → q ≡ p + 64
 unfolding number
@@ -116,7 +112,7 @@ counted_in_lem : (least most n a q v : ℕ) → counted (judge_count least most 
 unfolding judge_count
 counted_in_lem least most n a q v e = go (leb least n) (leb n most) (leb-true least n) (leb-true n most) e
   where
-    go : (s t : Bool) → (s ≡ true → least ≤ n) → (t ≡ true → n ≤ most) → counted (cond (s && t) (Count n) (NoCount CountOutOfRange)) v ≡ ok a q → (least ≤ a) × (a ≤ most) × (a ≡ n)
+    go : (s t : Bool) → (s ≡ true → least ≤ n) → (t ≡ true → n ≤ most) → counted (cond (s && t) (Ok n) (Err CountOutOfRange)) v ≡ ok a q → (least ≤ a) × (a ≤ most) × (a ≡ n)
     go true true f g e =
         let h : n ≡ a = ok_same e in
         (subst (λ (x : ℕ). least ≤ x) h (f refl), subst (λ (x : ℕ). x ≤ most) h (g refl), sym h)
@@ -130,17 +126,17 @@ count_in_range f bytes p a q e =
     let c = counted_in_lem f.least f.most r.0 a q r.1 r.3 in
     (c.0, c.1)
 
-counted_at_least : (least most n v : ℕ) (t : Counted) → t ≡ judge_count least most n → (a q : ℕ) → counted t v ≡ ok a q → least ≤ a
-counted_at_least least most n v t h a q e = (counted_in_lem least most n a q v (ap (λ (x : Counted). counted x v) (sym h) ∙ e)).0
+counted_at_least : (least most n v : ℕ) (t : Result ℕ Refusal) → t ≡ judge_count least most n → (a q : ℕ) → counted t v ≡ ok a q → least ≤ a
+counted_at_least least most n v t h a q e = (counted_in_lem least most n a q v (ap (λ (x : Result ℕ Refusal). counted x v) (sym h) ∙ e)).0
 
-in_set_in : (before v : ℕ) (t : Counted) → ((a q : ℕ) → counted t v ≡ ok a q → 3 ≤ a) → (a q : ℕ) → counted (in_set before t) v ≡ ok a q → (3 ≤ a) × (before + a ≤ 512)
+in_set_in : (before v : ℕ) (t : Result ℕ Refusal) → ((a q : ℕ) → counted t v ≡ ok a q → 3 ≤ a) → (a q : ℕ) → counted (in_set before t) v ≡ ok a q → (3 ≤ a) × (before + a ≤ 512)
 unfolding in_set
-in_set_in before v (Count m) f a q e = go (leb (before + m) 512) (leb-true (before + m) 512) e
+in_set_in before v (Ok m) f a q e = go (leb (before + m) 512) (leb-true (before + m) 512) e
   where
-    go : (t : Bool) → (t ≡ true → before + m ≤ 512) → counted (cond t (Count m) (NoCount CountOutOfRange)) v ≡ ok a q → (3 ≤ a) × (before + a ≤ 512)
+    go : (t : Bool) → (t ≡ true → before + m ≤ 512) → counted (cond t (Ok m) (Err CountOutOfRange)) v ≡ ok a q → (3 ≤ a) × (before + a ≤ 512)
     go true g e = (f a q e, subst (λ (x : ℕ). before + x ≤ 512) (ok_same e) (g refl))
     go false g e = absurd (bad-not_ok e)
-in_set_in before v (NoCount k) f a q e = absurd (bad-not_ok e)
+in_set_in before v (Err k) f a q e = absurd (bad-not_ok e)
 
 pub point-count_in : (before : ℕ) → Gives (point_count before) (λ n. (3 ≤ n) × (before + n ≤ 512))
 unfolding point_count judge_points
@@ -159,17 +155,17 @@ both true true h = (tt, tt)
 both true false h = absurd h
 both false t h = absurd h
 
-measured_in : (least most x : Float) (v : ℕ) → Number x → (a : Float) (q : ℕ) → measured (judge_double least most (Finite x)) v ≡ ok a q → Between least most a
+measured_in : (least most x : Float) (v : ℕ) → Number x → (a : Float) (q : ℕ) → measured (judge_double least most (Some x)) v ≡ ok a q → Between least most a
 unfolding judge_double
 measured_in least most x v n a q e = go (le least x && le x most) refl e
   where
-    go : (t : Bool) → le least x && le x most ≡ t → measured (cond t (Value x) (NoValue OutOfRange)) v ≡ ok a q → Between least most a
+    go : (t : Bool) → le least x && le x most ≡ t → measured (cond t (Ok x) (Err OutOfRange)) v ≡ ok a q → Between least most a
     go true h e =
         let b = both (le least x) (le x most) (subst T (sym h) tt) in
         subst (λ (y : Float). Between least most y) (ok_same e) (record { num = n; low = b.0; high = b.1 })
     go false h e = absurd (bad-not_ok e)
 
-not-measured : (least most : Float) (v : ℕ) (a : Float) (q : ℕ) → measured (judge_double least most NotFinite) v ≡ ok a q → ⊥
+not-measured : (least most : Float) (v : ℕ) (a : Float) (q : ℕ) → measured (judge_double least most None) v ≡ ok a q → ⊥
 unfolding judge_double
 not-measured least most v a q e = bad-not_ok e
 
@@ -177,7 +173,7 @@ judged_in_lem : (least most : Float) (n v : ℕ) (a : Float) (q : ℕ) → measu
 unfolding judge_number double_of
 judged_in_lem least most n v a q e = go (finite (of_bits binary64 n)) refl e
   where
-    go : (t : Bool) → finite (of_bits binary64 n) ≡ t → measured (judge_double least most (cond t (Finite (plus_zero (of_bits binary64 n))) NotFinite)) v ≡ ok a q → Between least most a
+    go : (t : Bool) → finite (of_bits binary64 n) ≡ t → measured (judge_double least most (cond t (Some (plus_zero (of_bits binary64 n))) None)) v ≡ ok a q → Between least most a
     go true h e = measured_in least most (plus_zero (of_bits binary64 n)) v (plus-number (of_bits binary64 n) (bits_fin n (subst T (sym h) tt))).0 a q e
     go false h e = absurd (not-measured least most v a q e)
 

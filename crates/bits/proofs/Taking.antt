@@ -5,9 +5,9 @@ use native.Mathlib.Omega.{arith}
 use mathlib.Core.List.{List}
 use lib.ListN.{get_or}
 use lib.Dec.{lit<}
-use lib.Pow.{pow-add, pow_mono, pow_pos, pow-lt, shr-shr}
+use lib.Pow.{pow-add, pow_mono, pow_pos, shr-shr}
 use lib.Arith.{mod-mul}
-use native.Mathlib.Nat.{mod-lt, mod-eq_of_lt, one-mul, pow-succ', mul_assoc, le_trans, zero-add, add-zero, mul-le-mul_left, mul-le-mul_right}
+use native.Mathlib.Nat.{mod-lt, one-mul, pow-succ', mul_assoc, le_trans, zero-add, add-zero, mul-le-mul_left, mul-le-mul_right}
 use Rattle.bits.specs.Bits.{bit_at, field_at}
 
 alg : (a y z k : ℕ) → (a * 2 + y) * k + z ≡ a * (2 * k) + (y * k + z)
@@ -60,24 +60,6 @@ room-step a left k c m h l s =
 
 pub room_now : (a left k m : ℕ) → (a + 1) * 2 ^ left ≤ m → k ≤ left → (a + 1) * 2 ^ k ≤ m
 room_now a left k m h l = le_trans (mul-le-mul_left (a + 1) (pow_mono l)) h
-
-pub joined_high : (a k : ℕ) → (a + 1) * 2 ^ k ≤ 2 ^ 64 → a * 2 ^ k % 2 ^ 64 ≡ a * 2 ^ k
-joined_high a k h = mod-eq_of_lt (y a (2 ^ k) (2 ^ 64) (pow_pos k) h)
-  where
-    y : (a k m : ℕ) → 0 < k → (a + 1) * k ≤ m → a * k < m
-    y a k m p h = omega arith
-
-pub joined_mask : (k : ℕ) → k ≤ 8 → 1 * 2 ^ k % 2 ^ 64 ≡ 2 ^ k
-joined_mask k h = ap (λ (x : ℕ). x % 2 ^ 64) (one-mul (2 ^ k)) ∙ mod-eq_of_lt (pow-lt {i = k} {j = 64} (y k h))
-  where
-    y : (k : ℕ) → k ≤ 8 → k < 64
-    y k h = omega arith
-
-pub joined_fits : (a k x : ℕ) → (a + 1) * 2 ^ k ≤ 2 ^ 64 → a * 2 ^ k + x % 2 ^ k < 2 ^ 64
-joined_fits a k x h = y a (2 ^ k) (x % 2 ^ k) (2 ^ 64) (mod-lt x (pow_pos k)) h
-  where
-    y : (a k x m : ℕ) → x < k → (a + 1) * k ≤ m → a * k + x < m
-    y a k x m p h = omega arith
 
 -- reading goes on: acc is read, left bits are to come at p, and all of them are those of the field
 pub record Going (bytes : List ℕ) (at n acc p left : ℕ) : Type 0 where

@@ -1,14 +1,9 @@
 -- Document 01, "The job's bits" and refusals 4 to 6: counts, doubles and points. Definitions only. Assumes nothing.
-use Rattle.std.specs.Prelude.{ℕ, ◌+◌, ◌&&◌, cond, leb, Float}
+use Rattle.std.specs.Prelude.{Option, Some, None, Result, Ok, Err, ℕ, ◌+◌, ◌&&◌, cond, leb, Float}
+use Rattle.bits.specs.declared.Refusal.{Refusal}
 use Rattle.std.specs.Float.Ieee.{le, neg}
 use Rattle.numbers.specs.Numbers.{double_of, from_int, pos_zero, ◌⊘◌}
-use Rattle.numbers.specs.declared.Double.{Double}
-use Rattle.numbers.specs.declared.Double.TheVariants.{Finite, NotFinite}
 use Rattle.bits.specs.declared.Refusal.TheVariants.{NonFinite, OutOfRange, CountOutOfRange}
-use Rattle.bits.specs.declared.Counted.{Counted}
-use Rattle.bits.specs.declared.Counted.TheVariants.{Count, NoCount}
-use Rattle.bits.specs.declared.Measured.{Measured}
-use Rattle.bits.specs.declared.Measured.TheVariants.{Value, NoValue}
 use Rattle.bits.specs.Reading.{Read, ok, bad, Reader, ◌>>=◌, give, bits}
 
 -- ---- counts
@@ -40,21 +35,21 @@ abbrev pub points_field : Field
 points_field = record { width = 10; least = 3; most = 512 }
 
 -- 6: "a count or quantity outside its range"
-unfoldable pub judge_count : ℕ → ℕ → ℕ → Counted
-judge_count least most n = cond (leb least n && leb n most) (Count n) (NoCount CountOutOfRange)
+unfoldable pub judge_count : ℕ → ℕ → ℕ → Result ℕ Refusal
+judge_count least most n = cond (leb least n && leb n most) (Ok n) (Err CountOutOfRange)
 
 -- ", at most 512 in the set)": a loop's points, where the set has so many before it
-unfoldable pub in_set : ℕ → Counted → Counted
-in_set before (Count n) = cond (leb (before + n) 512) (Count n) (NoCount CountOutOfRange)
-in_set before (NoCount k) = NoCount k
+unfoldable pub in_set : ℕ → Result ℕ Refusal → Result ℕ Refusal
+in_set before (Ok n) = cond (leb (before + n) 512) (Ok n) (Err CountOutOfRange)
+in_set before (Err k) = Err k
 
-unfoldable pub judge_points : ℕ → ℕ → Counted
+unfoldable pub judge_points : ℕ → ℕ → Result ℕ Refusal
 judge_points before n = in_set before (judge_count points_field.least points_field.most n)
 
 -- a judged count, at the position after it
-abbrev pub counted : Counted → ℕ → Read ℕ
-counted (Count n) q = ok n q
-counted (NoCount k) q = bad k
+abbrev pub counted : Result ℕ Refusal → ℕ → Read ℕ
+counted (Ok n) q = ok n q
+counted (Err k) q = bad k
 
 unfoldable pub count : Field → Reader ℕ
 count f = bits f.width >>= λ n bytes q. counted (judge_count f.least f.most n) q
@@ -82,18 +77,18 @@ abbrev pub resolution_range : Range
 resolution_range = record { least = from_int 1 ⊘ from_int 1_000; most = from_int 10_000 }
 
 -- 4: "resolution, coordinate or area not finite"; 5: outside its range
-unfoldable pub judge_double : Float → Float → Double → Measured
-judge_double least most NotFinite = NoValue NonFinite
-judge_double least most (Finite x) = cond (le least x && le x most) (Value x) (NoValue OutOfRange)
+unfoldable pub judge_double : Float → Float → Option Float → Result Float Refusal
+judge_double least most None = Err NonFinite
+judge_double least most (Some x) = cond (le least x && le x most) (Ok x) (Err OutOfRange)
 
 -- "Doubles by their bits": the 64 bits n; "A minus zero in a job becomes plus zero" is doubleOf's
-unfoldable pub judge_number : Float → Float → ℕ → Measured
+unfoldable pub judge_number : Float → Float → ℕ → Result Float Refusal
 judge_number least most n = judge_double least most (double_of n)
 
 -- a judged double, at the position after it
-abbrev pub measured : Measured → ℕ → Read Float
-measured (Value x) q = ok x q
-measured (NoValue k) q = bad k
+abbrev pub measured : Result Float Refusal → ℕ → Read Float
+measured (Ok x) q = ok x q
+measured (Err k) q = bad k
 
 unfoldable pub number : Range → Reader Float
 number r = bits 64 >>= λ n bytes q. measured (judge_number r.least r.most n) q

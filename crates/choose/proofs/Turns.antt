@@ -1,4 +1,5 @@
 -- Laws of the choice among orientations. Assumes nothing.
+use Rattle.std.specs.Prelude.{Option, Some, None, Ok, Err}
 use Prim.{⊥}
 use Prim.Native.Nat.{ℕ, zero, suc, ◌+◌, ◌-◌, ◌/◌, ◌<◌, ◌≤◌, ◌^◌}
 use native.Mathlib.Omega.{arith}
@@ -9,10 +10,6 @@ use lib.ListN.{length, get_or}
 use lib.Seq.{get_or-set_other}
 use lib.Ieee.{Float}
 use Rattle.index.specs.declared.Index.{Index}
-use Rattle.look.specs.declared.height.Look.{Look}
-use Rattle.look.specs.declared.height.Look.TheVariants.{Free, Full}
-use Rattle.look.specs.declared.Answer.{Answer}
-use Rattle.look.specs.declared.Answer.TheVariants.{NoRoom, Seen}
 use Rattle.look.specs.inner.Ready.{Lookable}
 use Rattle.strips.specs.declared.Rect.{Rect}
 use Rattle.search.specs.declared.columns.Columns.{Columns}
@@ -20,18 +17,15 @@ use Rattle.rooms.specs.tracks.inner.Tracks.{next_columns, look_counts_from}
 use Rattle.choose.specs.declared.Grid.{Grid}
 use Rattle.choose.specs.declared.Part.{Part}
 use Rattle.choose.specs.declared.Choice.{Choice}
-use Rattle.choose.specs.declared.Winner.{Winner}
-use Rattle.choose.specs.declared.Winner.TheVariants.{At, Nowhere}
-use Rattle.search.specs.declared.Found.{Found}
 use Rattle.search.specs.columns.inner.Stands.{columns_of, column_x, last_of}
-use Rattle.search.specs.inner.Searching.{answer_at, Looked, after_look, after_answer, counted, search_from, tracked, remembering, search_of}
-use Rattle.choose.specs.inner.Choosing.{bounds_at, part_at, inset_part, apart_part, winner_of, wins_of, first_of, better_of, Surroundings, surroundings_in, columns_at, looks_at, Ready, Chosen, chosen, won, orientation_of, bettered, choose_from}
+use Rattle.search.specs.inner.Searching.{Answer, Found, answer_at, Looked, after_look, after_answer, counted, search_from, tracked, remembering, search_of}
+use Rattle.choose.specs.inner.Choosing.{Winner, bounds_at, part_at, inset_part, apart_part, winner_of, wins_of, first_of, better_of, Surroundings, surroundings_in, columns_at, looks_at, Ready, Chosen, chosen, won, orientation_of, bettered, choose_from}
 
-pub first-true : (a b : Choice) → wins_of b a ≡ true → first_of a b ≡ At b
+pub first-true : (a b : Choice) → wins_of b a ≡ true → first_of a b ≡ Ok (Some b)
 unfolding first_of
 first-true a b e = rw (e, first_of)
 
-pub first-false : (a b : Choice) → wins_of b a ≡ false → first_of a b ≡ At a
+pub first-false : (a b : Choice) → wins_of b a ≡ false → first_of a b ≡ Ok (Some a)
 unfolding first_of
 first-false a b e = rw (e, first_of)
 
@@ -84,15 +78,15 @@ search-other f slot j h (suc n) c counts = go (f c) (search-other f slot j h n (
     once : get_or (counted slot counts) j 0 ≡ get_or counts j 0
     once = get_or-set_other counts slot j (get_or counts slot 0 + 1) 0 h
 
-    seen : (l : Look) (s : Looked) → get_or s.counts j 0 ≡ get_or (counted slot counts) j 0 → get_or (after_look l c (counted slot counts) s).counts j 0 ≡ get_or
+    seen : (l : Option (Float × Float)) (s : Looked) → get_or s.counts j 0 ≡ get_or (counted slot counts) j 0 → get_or (after_look l c (counted slot counts) s).counts j 0 ≡ get_or
         counts j 0
-    seen (Free y g) s e = unfold after_look in once
-    seen Full s e = unfold after_look in (e ∙ once)
+    seen (Some (y, g)) s e = unfold after_look in once
+    seen None s e = unfold after_look in (e ∙ once)
 
     go : (v : Answer) → get_or (search_from f slot n (c + 1) (counted slot counts)).counts j 0 ≡ get_or (counted slot counts) j 0 → get_or
         (after_answer v c (counted slot counts) (search_from f slot n (c + 1) (counted slot counts))).counts j 0 ≡ get_or counts j 0
-    go NoRoom e = unfold after_answer in once
-    go (Seen l) e = unfold after_answer in (seen l (search_from f slot n (c + 1) (counted slot counts)) e)
+    go (Err r) e = unfold after_answer in once
+    go (Ok l) e = unfold after_answer in (seen l (search_from f slot n (c + 1) (counted slot counts)) e)
 
 pub orient_other : (w : Surroundings) (i o j : ℕ) (counts next : List ℕ) → (j ≡ i → ⊥) → get_or (orientation_of w i o counts next).counts j 0 ≡ get_or counts j 0
 unfolding orientation_of won search_of remembering
@@ -120,7 +114,7 @@ pub record Picking (room₀ : List Float) (w : Surroundings) (slot n : ℕ) (tra
   pub wide : length room ≡ length room₀
   pub long : length tracks ≡ length tracks₀
   pub small : (q : ℕ) → o ≤ q → q < n → get_or (look_counts_from tracks) (slot + q) 0 + 4000000002 < 2 ^ 64
-  pub same : choose_from w slot (n - o) o (chosen_in best tracks) ≡ choose_from w slot n 0 (chosen_in Nowhere tracks₀)
+  pub same : choose_from w slot (n - o) o (chosen_in best tracks) ≡ choose_from w slot n 0 (chosen_in (Ok None) tracks₀)
 
 module _ (grid : Grid) (inset_bounds : List Float) (parts : List ℕ) (shapes sheet placed room₀ : List Float) (slot n : ℕ) (tracks₀ : List ℕ) where
   abbrev pub world_of_lem : Surroundings
@@ -142,7 +136,7 @@ module _ (grid : Grid) (inset_bounds : List Float) (parts : List ℕ) (shapes sh
     abbrev next' : List ℕ
     next' = next_columns tracks'
 
-    pub at_last : n ≤ o → chosen_in best tracks ≡ choose_from world_of_lem slot n 0 (chosen_in Nowhere tracks₀)
+    pub at_last : n ≤ o → chosen_in best tracks ≡ choose_from world_of_lem slot n 0 (chosen_in (Ok None) tracks₀)
     at_last h = sym (choose_end world_of_lem slot (n - o) o (chosen_in best tracks) (omega arith)) ∙ g.same
 
     module _ (h : o < n) (e : chosen_in later tracks' ≡ orientation_of (surroundings_in (length room / 2) grid inset_bounds parts shapes sheet placed) (slot + o) o counts

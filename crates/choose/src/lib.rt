@@ -2,18 +2,18 @@
 // smallest y + b3, then the first listed.
 #![tactic(auto)]
 
-ghost use Rattle.std.specs.Prelude.{◌≡◌, ℕ, ◌+◌, ◌*◌, ◌/◌, ◌≤◌, ◌<◌, ◌^◌, length, get_or, take, drop};
+ghost use Rattle.std.specs.Prelude.{◌≡◌, Ok, None, ℕ, ◌+◌, ◌*◌, ◌/◌, ◌≤◌, ◌<◌, ◌^◌, length, get_or, take, drop};
 ghost use Rattle.trapezoid.specs.Strip.{capacity};
 ghost use Rattle.index.specs.inner.Listing.{FirstBuckets};
 ghost use Rattle.look.specs.inner.Ready.{Lookable};
 ghost use Rattle.rooms.specs.tracks.inner.Tracks.{next_columns, look_counts_from, slot_numbers};
 ghost use Rattle.search.specs.columns.inner.Stands.{column_x, last_of};
 ghost use Rattle.search.specs.inner.Searching.{answer_at, tracked, search_of};
-ghost use Rattle.choose.specs.inner.Choosing.{bounds_at, part_at, winner_of, wins_of, first_of, against_of, better_of, inset_part, apart_part, grid_of};
+ghost use Rattle.choose.specs.inner.Choosing.{bounds_at, part_at, winner_of, wins_of, better_of, inset_part, apart_part, grid_of};
 ghost use Rattle.choose.specs.inner.Choosing.{surroundings_in, Ready, chosen, orientation_of, choose_from};
 
 use filling::Tables;
-use index::{Bucket, Entry, Index};
+use index::{Bucket, Entry, Index, Overrun};
 use search::Found;
 use search::columns::Columns;
 use strips::Rect;
@@ -54,24 +54,19 @@ pub fn grid_of(tables: Tables) -> Grid
     ensures { result ≡ grid_of tables }
 {
     let b = tables.sheet_bounds;
-    let index = Index::new(b.left, b.right);
     Grid {
-        index: index,
+        index: Index::new(b.left, b.right),
         bounds: b,
         resolution: tables.resolution,
         apart_strips: tables.apart_strips,
     }
 }
 
-// The choice that wins, none, or that a look's intervals exceed the room.
-#[derive(Clone, Copy)]
-pub enum Winner {
-    At(Choice),
-    Nowhere,
-    Overflow,
-}
+// The choice that wins, or none; or that a look's intervals exceed the room.
+pub type Winner = Result<Option<Choice>, Overrun>;
 
 // The inset bounds of a slot.
+#[tactic(auto, unfolding(crate::specs::inner::Choosing::bounds_at))]
 pub fn bounds_at(inset_bounds: &[f64], slot: usize) -> Rect
     requires { 4 * slot + 4 ≤ length inset_bounds.now }
     ensures { result ≡ bounds_at inset_bounds.now slot }
@@ -86,6 +81,7 @@ pub fn bounds_at(inset_bounds: &[f64], slot: usize) -> Rect
 }
 
 // The part of a slot.
+#[tactic(auto, unfolding(crate::specs::inner::Choosing::part_at))]
 pub fn part_at(parts: &[usize], slot: usize) -> Part
     requires { 4 * slot + 4 ≤ length parts.now }
     ensures { result ≡ part_at parts.now slot }
@@ -104,64 +100,39 @@ fn winner_of(k: Columns, b: Rect, o: usize, found: Found) -> Winner
     requires { k.count ≤ 4000000000 }
     ensures { result ≡ winner_of k b o found }
 {
-    match found {
-        Found::At(c, y, gap) => {
-            let x = k.x(c);
-            Winner::At(Choice {
-                orientation: o,
-                x: x,
-                y: y,
-                gap: gap,
-                right: x + b.right,
-                top: y + b.top,
-            })
-        }
-        Found::Nowhere => Winner::Nowhere,
-        Found::Overflow => Winner::Overflow,
-    }
+    let Some((c, y, gap)) = found? else {
+        return Ok(None);
+    };
+    let x = k.x(c);
+    Ok(Some(Choice {
+        orientation: o,
+        x,
+        y,
+        gap,
+        right: x + b.right,
+        top: y + b.top,
+    }))
 }
 
 // Whether a wins over b, where b is listed first.
+#[tactic(auto, unfolding(crate::specs::inner::Choosing::wins_of))]
 fn wins(a: Choice, b: Choice) -> bool
     ensures { result ≡ wins_of a b }
 {
-    if a.right < b.right {
-        return true;
-    }
-    if a.right == b.right {
-        return a.top < b.top;
-    }
-    false
-}
-
-fn first_of(a: Choice, b: Choice) -> Winner
-    ensures { result ≡ first_of a b }
-{
-    if wins(b, a) {
-        return Winner::At(b);
-    }
-    Winner::At(a)
-}
-
-fn against(a: Choice, next: Winner) -> Winner
-    ensures { result ≡ against_of a next }
-{
-    match next {
-        Winner::At(b) => first_of(a, b),
-        Winner::Nowhere => Winner::At(a),
-        Winner::Overflow => Winner::Overflow,
-    }
+    a.right < b.right || a.right == b.right && a.top < b.top
 }
 
 // The better of two, the first where they are equal; a look without room is never made good.
 fn better(best: Winner, next: Winner) -> Winner
     ensures { result ≡ better_of best next }
 {
-    match best {
-        Winner::At(a) => against(a, next),
-        Winner::Nowhere => next,
-        Winner::Overflow => Winner::Overflow,
-    }
+    let Some(a) = best? else {
+        return next;
+    };
+    let Some(b) = next? else {
+        return Ok(Some(a));
+    };
+    Ok(Some(if wins(b, a) { b } else { a }))
 }
 
 // The search of one orientation, with its strips in their room.
@@ -312,11 +283,11 @@ pub fn choose(
     ensures { chosen result (look_counts_from tracks.new) (next_columns tracks.new)
         ≡ choose_from (surroundings_in (length room.old / 2) g inset_bounds.now parts.now shapes.now
         sheet.now
-        placed.now) slot n 0 (chosen Winner.Nowhere (look_counts_from tracks.old) (next_columns tracks.old)) }
+        placed.now) slot n 0 (chosen (Ok None) (look_counts_from tracks.old) (next_columns tracks.old)) }
 {
-    let mut best = Winner::Nowhere;
-    let mut o = 0;
-    while o < n {
+    // No `?`: orientations after a look without room are searched, and their looks counted, all the same.
+    let mut best: Winner = Ok(None);
+    for o in 0..n {
         let next = orientation(
             g,
             slot + o,
@@ -336,7 +307,6 @@ pub fn choose(
             placed_firsts,
         );
         best = better(best, next);
-        o += 1;
     }
     best
 }

@@ -1,5 +1,6 @@
 -- What the planner promises, each claim with its whole statement, in the words of specs/. Every proof is a citation. Assumes nothing.
 -- That the code does what the definitions say stands in the contracts of the public operations: one equation each, for every input.
+use Rattle.std.specs.Prelude.{Some, Ok, Err}
 use Prim.Native.Nat.{ℕ, ◌+◌, ◌*◌, ◌≤◌, ◌<◌}
 use mathlib.Core.Path.{◌≡◌}
 use mathlib.Core.Logic.{◌⊎◌}
@@ -13,7 +14,6 @@ use Rattle.numbers.specs.Numbers.{◌⊖◌, ◌⊘◌, from_int, plus_zero, pos
 use Rattle.trapezoid.specs.Strip.{strip_at, capacity}
 use Rattle.index.specs.declared.Interval.{Interval}
 use Rattle.index.specs.Buckets.{bucket_in, standing_capacity}
-use Rattle.look.specs.declared.height.Look.TheVariants.{Free}
 use Rattle.look.specs.height.Smallest.{outside, next_bottom, height_of}
 use Rattle.bits.specs.declared.Refusal as Input
 use Rattle.bits.specs.declared.Refusal.TheVariants as Wrong
@@ -24,7 +24,6 @@ use Rattle.job.specs.Jobs.{Job, a_job, frame_of, ended, framed_width, accepted, 
 use Rattle.filling.specs.declared.State.{State}
 use Rattle.filling.specs.declared.Refusal.{Refusal}
 use Rattle.filling.specs.declared.Refusal.TheVariants as Why
-use Rattle.filling.specs.declared.Verdict.TheVariants.{Accepted, Refused}
 use Rattle.filling.specs.Refusals.{number_of, verdict_number}
 use Rattle.filling.specs.RefusalLines.{Line, first_met, given_lines, start_lines, step_lines, withdraw_lines, fill_lines}
 use Rattle.filling.specs.Shapes.{Planner, planner_of, standing_strips}
@@ -80,42 +79,42 @@ use Rattle.claims.proofs.Reader as ProvedReader
 
 -- a job that is refused: its own number, 1 to 8, of every whole plan ("A filling in a given order and a start .. count as whole plans")
 pub refused-job : (bytes order : List ℕ) (l : Lent) (k : Input.Refusal) → read_job bytes ≡ refused k
-    → (((start_of bytes order l).verdict ≡ Refused (Why.Job k))
-    × ((fill_of bytes order l).verdict ≡ Refused (Why.Job k))
-    × ((nest_of bytes l).verdict ≡ Refused (Why.Job k)))
+    → (((start_of bytes order l).verdict ≡ Err (Why.Job k))
+    × ((fill_of bytes order l).verdict ≡ Err (Why.Job k))
+    × ((nest_of bytes l).verdict ≡ Err (Why.Job k)))
     × (one_of (number_of (Why.Job k)) (1 ∷ 2 ∷ 3 ∷ 4 ∷ 5 ∷ 6 ∷ 7 ∷ 8 ∷ []) ≡ true)
 refused-job bytes order l k e = (Proved1.refused-number bytes order l k e, Proved1.input_number k)
 
 -- an accepted job's whole plan: a plan, or 20, 21, 22 or 30; a plan where the rooms suffice
 pub demand-1_plan : (bytes : List ℕ) (l : Lent) (j : Job) → read_job bytes ≡ accepted j
     → (one_of (verdict_number (nest_of bytes l).verdict) (0 ∷ 20 ∷ 21 ∷ 22 ∷ 30 ∷ []) ≡ true)
-    × ((m n : ℕ) → AmpleStart j l → Ample j m n l.rooms → AmpleIntervals j m n l.intervals → (nest_of bytes l).verdict ≡ Accepted)
+    × ((m n : ℕ) → AmpleStart j l → Ample j m n l.rooms → AmpleIntervals j m n l.intervals → (nest_of bytes l).verdict ≡ Ok tt)
 demand-1_plan bytes l j e = (Proved1.nest_number bytes l j e, Proved1.nest_suffices bytes l j e)
 
 -- its filling in a given order: a plan, or 10, 20, 21, 22 or 30; a plan where the order is the job's and the rooms suffice
 pub demand-1_filling : (bytes order : List ℕ) (l : Lent) (j : Job) → read_job bytes ≡ accepted j
     → (one_of (verdict_number (fill_of bytes order l).verdict) (0 ∷ 10 ∷ 20 ∷ 21 ∷ 22 ∷ 30 ∷ []) ≡ true)
     × (rearranged j order ≡ true
-    → (m n : ℕ) → AmpleStart j l → Ample j m n l.rooms → AmpleIntervals j m n l.intervals → (fill_of bytes order l).verdict ≡ Accepted)
+    → (m n : ℕ) → AmpleStart j l → Ample j m n l.rooms → AmpleIntervals j m n l.intervals → (fill_of bytes order l).verdict ≡ Ok tt)
 demand-1_filling bytes order l j e =
     (Proved1.fill-number bytes order l j e, λ r m n f a. (ProvedSuffice.rooms_suffice bytes j e order r m n l f a).2)
 
 -- its start: a state, or 10, 20, 21 or 30; a state where the order is the job's and the rooms suffice
 pub demand-1_start : (bytes order : List ℕ) (l : Lent) (j : Job) → read_job bytes ≡ accepted j
     → (one_of (verdict_number (start_of bytes order l).verdict) (0 ∷ 10 ∷ 20 ∷ 21 ∷ 30 ∷ []) ≡ true)
-    × (rearranged j order ≡ true → AmpleStart j l → (start_of bytes order l).verdict ≡ Accepted)
+    × (rearranged j order ≡ true → AmpleStart j l → (start_of bytes order l).verdict ≡ Ok tt)
 demand-1_start bytes order l j e = (Proved1.start-number bytes order l j e, Proved1.start_suffices bytes order l j e)
 
 -- after it every call up to the last copy is accepted, where the rooms suffice
 pub rooms_suffice : (bytes order : List ℕ) (l : Lent) (j : Job) → read_job bytes ≡ accepted j → rearranged j order ≡ true
     → (m n : ℕ) → AmpleStart j l → Ample j m n l.rooms → (cs : List Call) → AmpleCalls j m n cs → length cs ≤ j.copies
-    → (after_calls bytes cs (start_of bytes order l).state (start_of bytes order l).lent.rooms).verdicts ≡ replicate (length cs) Accepted
+    → (after_calls bytes cs (start_of bytes order l).state (start_of bytes order l).lent.rooms).verdicts ≡ replicate (length cs) (Ok tt)
 rooms_suffice bytes order l j e r m n f a = (ProvedSuffice.rooms_suffice bytes j e order r m n l f a).1
 
 -- ---- "A call is refused exactly where a line of the tables holds for it, with the number first met"
 
 pub met_exactly : (ls : List Line)
-    → (first_met ls ≡ Accepted → every (λ (x : Line). not x.holds) ls ≡ true) × (every (λ (x : Line). not x.holds) ls ≡ true → first_met ls ≡ Accepted)
+    → (first_met ls ≡ Ok tt → every (λ (x : Line). not x.holds) ls ≡ true) × (every (λ (x : Line). not x.holds) ls ≡ true → first_met ls ≡ Ok tt)
 met_exactly = ProvedLines.met_exactly
 
 pub start-refused : (bytes order : List ℕ) (l : Lent) → (start_of bytes order l).verdict ≡ first_met (given_lines (read_job bytes) (λ j. start_lines j order l))
@@ -137,39 +136,39 @@ pub withdraw-refused : (bytes : List ℕ) (s : State) (w : Rooms) (n : ℕ)
 withdraw-refused = ProvedRefused.withdraw-refused
 
 -- after an accepted start no call is refused with 31, whatever the list of next copies and withdrawals and whatever interval rooms
-pub never-31 : (bytes order : List ℕ) (l : Lent) → (start_of bytes order l).verdict ≡ Accepted → (calls : List Call)
-    → Memᴰ (Refused Why.Inconsistent) (after_calls bytes calls (start_of bytes order l).state (start_of bytes order l).lent.rooms).verdicts → ⊥
+pub never-31 : (bytes order : List ℕ) (l : Lent) → (start_of bytes order l).verdict ≡ Ok tt → (calls : List Call)
+    → Memᴰ (Err Why.Inconsistent) (after_calls bytes calls (start_of bytes order l).state (start_of bytes order l).lent.rooms).verdicts → ⊥
 never-31 = ProvedNever.never-31
 
 -- ---- the lent rooms
 
 -- "A refused whole plan returns only the number and zeros every lent room"; "a start (it leaves strips and entries for single steps)"
 pub start_leaves : (bytes order : List ℕ) (l : Lent)
-    → ((k : Refusal) → (start_of bytes order l).verdict ≡ Refused k → start_of bytes order l ≡ no_start k l)
-    × ((start_of bytes order l).verdict ≡ Accepted → (j : Job) × (read_job bytes ≡ accepted j) × (start_of bytes order l ≡ good_start (planner_of j) order l))
+    → ((k : Refusal) → (start_of bytes order l).verdict ≡ Err k → start_of bytes order l ≡ no_start k l)
+    × ((start_of bytes order l).verdict ≡ Ok tt → (j : Job) × (read_job bytes ≡ accepted j) × (start_of bytes order l ≡ good_start (planner_of j) order l))
 start_leaves = ProvedReplies.start_replies
 
 -- "an accepted one leaves its positions, with zeros after them and in the work rooms": the filling's, or the kept filling's
 pub filling_leaves : (bytes order : List ℕ) (l : Lent)
-    → ((k : Refusal) → (fill_of bytes order l).verdict ≡ Refused k → fill_of bytes order l ≡ not_planned k l)
-    × ((fill_of bytes order l).verdict ≡ Accepted
+    → ((k : Refusal) → (fill_of bytes order l).verdict ≡ Err k → fill_of bytes order l ≡ not_planned k l)
+    × ((fill_of bytes order l).verdict ≡ Ok tt
     → (j : Job) × (s : State) × (read_job bytes ≡ accepted j) × (fill_order j l order ≡ filled s) × (fill_of bytes order l ≡ planned_with j l s 0))
 filling_leaves = ProvedReplies.fill_replies
 
 pub plan_leaves : (bytes : List ℕ) (l : Lent)
-    → ((k : Refusal) → (nest_of bytes l).verdict ≡ Refused k → nest_of bytes l ≡ not_planned k l)
-    × ((nest_of bytes l).verdict ≡ Accepted
+    → ((k : Refusal) → (nest_of bytes l).verdict ≡ Err k → nest_of bytes l ≡ not_planned k l)
+    × ((nest_of bytes l).verdict ≡ Ok tt
     → (j : Job) × (q : Kept) × (read_job bytes ≡ accepted j) × (swap_search j l ≡ kept q) × (nest_of bytes l ≡ planned_with j l q.state q.improvements))
 plan_leaves = ProvedReplies.nest_replies
 
 -- "A refused single step returns state, strip and entry rooms unchanged; every single step leaves zeros in the interval room."
 pub next-copy_leaves : (bytes : List ℕ) (s : State) (w : Rooms) (iv : List Float)
     → ((next_copy_of bytes s w iv).intervals ≡ zeros pos_zero iv)
-    × ((k : Refusal) → (next_copy_of bytes s w iv).verdict ≡ Refused k → ((next_copy_of bytes s w iv).state ≡ s) × ((next_copy_of bytes s w iv).rooms ≡ w))
+    × ((k : Refusal) → (next_copy_of bytes s w iv).verdict ≡ Err k → ((next_copy_of bytes s w iv).state ≡ s) × ((next_copy_of bytes s w iv).rooms ≡ w))
 next-copy_leaves = ProvedRefused.next-copy_leaves
 
 -- document 02, W4: a refused withdrawal leaves "state and rooms unchanged"
-pub withdraw-rests : (bytes : List ℕ) (s : State) (w : Rooms) (n : ℕ) (k : Refusal) → (withdraw_of bytes s w n).verdict ≡ Refused k
+pub withdraw-rests : (bytes : List ℕ) (s : State) (w : Rooms) (n : ℕ) (k : Refusal) → (withdraw_of bytes s w n).verdict ≡ Err k
     → ((withdraw_of bytes s w n).state ≡ s) × ((withdraw_of bytes s w n).rooms ≡ w)
 withdraw-rests = ProvedRefused.withdraw-rests
 
@@ -179,7 +178,7 @@ pub start-numbers : (bytes order : List ℕ) (l : Lent)
     → (every is_number (state_doubles (start_of bytes order l).state) ≡ true) × (every is_number (lent_doubles (start_of bytes order l).lent) ≡ true)
 start-numbers bytes order l = let h = ProvedLeft.start-numbers bytes order l in (state_doubles_lem _ h.0, lent_doubles_lem _ h.1)
 
-pub calls_numbers : (bytes order : List ℕ) (l : Lent) (j : Job) → read_job bytes ≡ accepted j → (start_of bytes order l).verdict ≡ Accepted → (calls : List Call)
+pub calls_numbers : (bytes order : List ℕ) (l : Lent) (j : Job) → read_job bytes ≡ accepted j → (start_of bytes order l).verdict ≡ Ok tt → (calls : List Call)
     → let r = after_calls bytes calls (start_of bytes order l).state (start_of bytes order l).lent.rooms in
     (every is_number (state_doubles r.state) ≡ true) × (every is_number (room_doubles r.rooms) ≡ true)
 calls_numbers bytes order l j e v calls =
@@ -199,14 +198,14 @@ plan-numbers bytes l = let h = Proved1.nest_numbers bytes l in (plan_doubles_lem
 
 -- the offcut is at most what right leaves, and begins where the spacing of every placed copy has ended: "the larger of right and the largest x1 of a
 -- placed apart strip"
-pub filling_offcut : (bytes order : List ℕ) (l : Lent) (j : Job) → read_job bytes ≡ accepted j → start_verdict j order l ≡ Accepted
+pub filling_offcut : (bytes order : List ℕ) (l : Lent) (j : Job) → read_job bytes ≡ accepted j → start_verdict j order l ≡ Ok tt
     → (s : State) → fill_order j l order ≡ filled s
     → let strips = standing_strips (planner_of j) (standing_of s) in
     (le (offcut_of (planner_of j) s) (not_below_zero (s.tables.sheet_bounds.right ⊖ s.layout.right)) ≡ true)
     × ((i : ℕ) → i < capacity strips → le (strip_at strips i).x1 (reach_of s.layout.right strips) ≡ true)
 filling_offcut bytes order l j e v s d = let h = ProvedLeft.fill-offcut bytes order l j e v s d in (h.not_above, h.covers)
 
-pub plan-offcut : (bytes : List ℕ) (l : Lent) (j : Job) → read_job bytes ≡ accepted j → nest_verdict j l ≡ Accepted
+pub plan-offcut : (bytes : List ℕ) (l : Lent) (j : Job) → read_job bytes ≡ accepted j → nest_verdict j l ≡ Ok tt
     → (q : Kept) → swap_search j l ≡ kept q
     → let strips = standing_strips (planner_of j) (standing_of q.state) in
     (le (offcut_of (planner_of j) q.state) (not_below_zero (q.state.tables.sheet_bounds.right ⊖ q.state.layout.right)) ≡ true)
@@ -219,11 +218,11 @@ plan-offcut bytes l j e v q d = let h = Proved1.nest_offcut bytes j e l v q d in
 -- ---- Document 02, W4: "Demand 3 then takes lists of both calls, and the plain planner moves an accepted withdrawal's copy from those standing to the end
 -- ---- of those to come and forgets all searches and finds; the look equation speaks of those since."
 pub demand-3 : (bytes order : List ℕ) (l : Lent) (j : Job) → read_job bytes ≡ accepted j
-    → ((start_of bytes order l).verdict ≡ Accepted
+    → ((start_of bytes order l).verdict ≡ Ok tt
     → (calls : List Call)
     → let r = after_calls bytes calls (start_of bytes order l).state (start_of bytes order l).lent.rooms in
     state_outcome j r.state ≡ plain_after j order (map request_of calls) (refusals r.verdicts))
-    × ((fill_of bytes order l).verdict ≡ Accepted
+    × ((fill_of bytes order l).verdict ≡ Ok tt
     → Reports j l (fill_of bytes order l) (plain_after j order (replicate (length order) take_next) (replicate (length order) false)))
 demand-3 = Proved3.demand-3
 
@@ -237,7 +236,7 @@ pub copies-refused : (bytes : List ℕ) (j : Job) → read_job bytes ≡ accepte
 copies-refused bytes j e s w f = (ProvedCopies.step-refused j s w f bytes e, ProvedCopies.back-refused j s w f bytes e)
 
 -- "right is found anew from the standing copies": after an accepted start, whatever the calls, it is the largest x + b2 of the standing copies, from s0
-pub right-found : (bytes order : List ℕ) (l : Lent) (j : Job) → read_job bytes ≡ accepted j → (start_of bytes order l).verdict ≡ Accepted → (calls : List Call)
+pub right-found : (bytes order : List ℕ) (l : Lent) (j : Job) → read_job bytes ≡ accepted j → (start_of bytes order l).verdict ≡ Ok tt → (calls : List Call)
     → let s = (after_calls bytes calls (start_of bytes order l).state (start_of bytes order l).lent.rooms).state in
     s.layout.right ≡ right_of (planner_of j) (planner_of j).bounds.left (standing_of s)
 right-found = ProvedRight.right-found
@@ -314,7 +313,7 @@ firsts_true bytes = (
 )
 
 -- and an accepted start's are the sheet's numbers, with zeros after them
-pub firsts_started : (bytes order : List ℕ) (l : Lent) (j : Job) → read_job bytes ≡ accepted j → (start_of bytes order l).verdict ≡ Accepted
+pub firsts_started : (bytes order : List ℕ) (l : Lent) (j : Job) → read_job bytes ≡ accepted j → (start_of bytes order l).verdict ≡ Ok tt
     → (start_of bytes order l).lent.rooms.sheet_firsts ≡ laid (firsts_for (planner_of j).bounds (planner_of j).sheet) (zeros 0 l.rooms.sheet_firsts)
 firsts_started = ProvedFirsts.accepted-start_firsts
 
@@ -328,7 +327,7 @@ false-first-refused bytes j e s w iv f = (KeptFirsts.false-refused bytes j e s w
 
 -- what it means: every height from the one answered up to that bottom lies in no interval
 pub gap-clear : (y_low y_high : Float) (is : List Interval) → is_finite y_low ≡ true → is_finite y_high ≡ true → every ends_finite is ≡ true
-    → (h g : Float) → height_of y_low y_high is ≡ Free h g
+    → (h g : Float) → height_of y_low y_high is ≡ Some (h, g)
     → (g ≡ plus_zero (next_bottom y_high is h) ⊖ h)
     × ((z : Float) → is_finite z ≡ true → le h z ≡ true → le z (next_bottom y_high is h) ≡ true → outside is z ≡ true)
 gap-clear y_low y_high is a b c h g e = (ProvedGaps.gap_is y_low y_high is a b c h g e, ProvedGaps.clear_to_next y_low y_high is a b c h g e)
@@ -342,15 +341,15 @@ gap-order y_low y_high is js a b c d = ProvedGaps.any_order y_low y_high is a b 
 
 -- a gap is finite, not minus zero and not below zero, of every look within 31's limits
 pub gap-number : (y_low y_high : Float) (is : List Interval) → is_finite y_low ≡ true → is_finite y_high ≡ true → every ends_finite is ≡ true
-    → bounded y_low ≡ true → bounded y_high ≡ true → (h g : Float) → height_of y_low y_high is ≡ Free h g → (is_number g ≡ true) × (le pos_zero g ≡ true)
+    → bounded y_low ≡ true → bounded y_high ≡ true → (h g : Float) → height_of y_low y_high is ≡ Some (h, g) → (is_number g ≡ true) × (le pos_zero g ≡ true)
 gap-number y_low y_high is a b c l m h g e = ProvedGaps.gap-number y_low y_high is a b c h g e l m
 
 -- every standing copy's gap is in 0..1,000,000 after an accepted start and every list of calls, a filling and the whole plan's kept filling
 pub gaps_own : (bytes order : List ℕ) (l : Lent) (j : Job) → read_job bytes ≡ accepted j
-    → ((start_of bytes order l).verdict ≡ Accepted → (calls : List Call)
+    → ((start_of bytes order l).verdict ≡ Ok tt → (calls : List Call)
     → gaps_fit (after_calls bytes calls (start_of bytes order l).state (start_of bytes order l).lent.rooms).state ≡ true)
-    × (start_verdict j order l ≡ Accepted → (s : State) → fill_order j l order ≡ filled s → gaps_fit s ≡ true)
-    × (nest_verdict j l ≡ Accepted → (q : Kept) → swap_search j l ≡ kept q → gaps_fit q.state ≡ true)
+    × (start_verdict j order l ≡ Ok tt → (s : State) → fill_order j l order ≡ filled s → gaps_fit s ≡ true)
+    × (nest_verdict j l ≡ Ok tt → (q : Kept) → swap_search j l ≡ kept q → gaps_fit q.state ≡ true)
 gaps_own bytes order l j e = (ProvedGaps.calls_gaps bytes order l j e, ProvedGaps.fill-gaps bytes order l j e, Proved1.nest_gaps bytes j e l)
 
 -- any other is 31: of every accepted job, state and rooms unchanged

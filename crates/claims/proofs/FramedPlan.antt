@@ -1,5 +1,6 @@
 -- Document 02, W1: a job and the same job with its sets in its frame have one planner, one start, one next copy, one withdrawal, and one plan up to `from`.
 -- Assumes nothing.
+use Rattle.std.specs.Prelude.{Result, Ok, Err}
 use mathlib.Core.Path.{◌≡◌, refl, sym, ap, ◌∙◌}
 use mathlib.Core.Bool.{Bool, true, false, not, ◌&&◌}
 use mathlib.Core.List.{List, [], ◌∷◌, ◌++◌, map, flat_map, map-map}
@@ -20,8 +21,6 @@ use Rattle.filling.specs.declared.Tables.{Tables}
 use Rattle.filling.specs.declared.State.{State}
 use Rattle.filling.specs.declared.Refusal.{Refusal}
 use Rattle.filling.specs.declared.Refusal.TheVariants as Why
-use Rattle.filling.specs.declared.Verdict.{Verdict}
-use Rattle.filling.specs.declared.Verdict.TheVariants.{Accepted, Refused}
 use Rattle.filling.specs.Refusals.{refuse_if}
 use Rattle.filling.specs.Shapes.{Planner, set_bounds, set_strips, planner_of, Standing, standing_strips}
 use Rattle.filling.specs.Search.{Track}
@@ -103,7 +102,7 @@ module _ (f : Frame) where
   refused-framed r l =
       let e = room-zeros (length l.positions) in
       λ t. record {
-        verdict = Refused r;
+        verdict = Err r;
         plan = no_plan;
         lent = record { rooms = zero_rooms l.rooms; intervals = zeros pos_zero l.intervals; positions = e t };
       }
@@ -161,7 +160,7 @@ module _ (j : Job) where
 
   pub start-framed : (order : List ℕ) (l : Lent) → start_job j order l ≡ start_job (framed_job j) order l
   unfolding start_job
-  start-framed order l = λ t. elim (verdict-framed order l t) [ Accepted ↦ good_start (planner_framed t) order l | Refused r ↦ no_start r l ]
+  start-framed order l = λ t. elim (verdict-framed order l t) [ Ok tt ↦ good_start (planner_framed t) order l | Err r ↦ no_start r l ]
 
   -- ---- a single step
 
@@ -225,7 +224,7 @@ module _ (j : Job) where
   unfolding fill_from
   from-framed iv zero s w = refl
   from-framed iv (suc n) s w = λ t.
-      let r = core_framed s w iv t in elim r.verdict [ Accepted ↦ from-framed iv n r.state r.rooms t | Refused k ↦ stopped k ]
+      let r = core_framed s w iv t in elim r.verdict [ Ok tt ↦ from-framed iv n r.state r.rooms t | Err k ↦ stopped k ]
 
   order-framed : (l : Lent) (order : List ℕ) → fill_order j l order ≡ fill_order (framed_job j) l order
   unfolding fill_order
@@ -261,7 +260,7 @@ module _ (j : Job) where
   unfolding planned_with only_positions planned_on_sheet positions framed_job lower_left_header zeros
   with-framed l s n = λ t.
       record {
-        verdict = Accepted;
+        verdict = Ok tt;
         plan = plan-framed s n t;
         lent = record { rooms = zero_rooms l.rooms; intervals = zeros pos_zero l.intervals; positions = room t };
       }
@@ -280,11 +279,11 @@ module _ (j : Job) where
   by_framed l (stopped r) = refused-framed (frame_of j.header) r l
 
   -- what a plan is where its rooms suffice, given what its search came to
-  either_framed : (l : Lent) (p q : Planned) → p ≡ planned_on_sheet (frame_of j.header) q → (v : Verdict)
-      → ◌≡◌ {A = Planned} (elim v [ Accepted ↦ p | Refused r ↦ not_planned r l ])
-      (planned_on_sheet (frame_of j.header) (elim v [ Accepted ↦ q | Refused r ↦ not_planned r l ]))
-  either_framed l p q e Accepted = e
-  either_framed l p q e (Refused r) = refused-framed (frame_of j.header) r l
+  either_framed : (l : Lent) (p q : Planned) → p ≡ planned_on_sheet (frame_of j.header) q → (v : Result (Unit {0}) Refusal)
+      → ◌≡◌ {A = Planned} (elim v [ Ok tt ↦ p | Err r ↦ not_planned r l ])
+      (planned_on_sheet (frame_of j.header) (elim v [ Ok tt ↦ q | Err r ↦ not_planned r l ]))
+  either_framed l p q e (Ok tt) = e
+  either_framed l p q e (Err r) = refused-framed (frame_of j.header) r l
 
   pub fill-framed : (order : List ℕ) (l : Lent) → fill_job j order l ≡ planned_on_sheet (frame_of j.header) (fill_job (framed_job j) order l)
   unfolding fill_job
@@ -292,7 +291,7 @@ module _ (j : Job) where
       let x = fill_order j l order in
       either_framed l (planned_by j l x) (planned_by (framed_job j) l x) (by_framed l x) (start_verdict j order l)
       ∙ (λ t. planned_on_sheet (frame_of j.header)
-      (elim (verdict-framed order l t) [ Accepted ↦ planned_by (framed_job j) l (order-framed l order t) | Refused r ↦ not_planned r l ]))
+      (elim (verdict-framed order l t) [ Ok tt ↦ planned_by (framed_job j) l (order-framed l order t) | Err r ↦ not_planned r l ]))
 
   -- ---- a whole plan
 
@@ -346,4 +345,4 @@ module _ (j : Job) where
       let x = swap_search j l in
       either_framed l (nested j l x) (nested (framed_job j) l x) (nested-framed l x) (nest_verdict j l)
       ∙ (λ t. planned_on_sheet (frame_of j.header)
-      (elim (nest_verdict-framed l t) [ Accepted ↦ nested (framed_job j) l (search-framed l t) | Refused r ↦ not_planned r l ]))
+      (elim (nest_verdict-framed l t) [ Ok tt ↦ nested (framed_job j) l (search-framed l t) | Err r ↦ not_planned r l ]))

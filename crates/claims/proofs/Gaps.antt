@@ -1,4 +1,5 @@
 -- Document 02, W7: what is promised of a gap. Assumes nothing.
+use Rattle.std.specs.Prelude.{Some, Ok}
 use Prim.Native.Nat.{ℕ, ◌+◌, ◌*◌, ◌≤◌, ◌<◌}
 use native.Mathlib.Omega.{arith}
 use mathlib.Core.Path.{◌≡◌, refl, sym, ap, subst}
@@ -11,13 +12,11 @@ use lib.Ieee.Scale.{finite}
 use Rattle.numbers.specs.Numbers.{◌⊖◌, plus_zero, pos_zero}
 use Rattle.numbers.proofs.Doubles.{k, o, u, Finite, Number, Upto}
 use Rattle.numbers.proofs.Doubles as Doubles
-use Rattle.numbers.proofs.Ranges.{zero_num}
-use Rattle.numbers.proofs.Ranges.{zero-key}
+use Rattle.numbers.proofs.Ranges.{zero_num, zero-key}
 use Rattle.numbers.proofs.Truth.{either, below_or_not, clash, holds, both_first, both_second}
 use Rattle.index.specs.declared.Interval.{Interval}
 use Rattle.index.specs.Buckets.{keep}
 use Rattle.index.proofs.Flat.{mem-map}
-use Rattle.look.specs.declared.height.Look.TheVariants.{Free}
 use Rattle.look.specs.height.Smallest.{inside, outside, next_bottom, clear_above, height_of}
 use Rattle.look.specs.height.inner.Raising.{FiniteEnd, FiniteEnds}
 use Rattle.look.proofs.height.SmallestHeight.{Real, real_of, real-end, le_is_true, is_le, inside-key, key-inside, outside_of, of_outside, height_clear}
@@ -27,7 +26,6 @@ use Rattle.look.proofs.Counted.{same_look}
 use Rattle.job.specs.Jobs.{Job, accepted, read_job}
 use Rattle.filling.specs.declared.State.{State}
 use Rattle.filling.specs.declared.Refusal.TheVariants as Why
-use Rattle.filling.specs.declared.Verdict.TheVariants.{Accepted}
 use Rattle.filling.specs.Rooms.{Rooms, Lent}
 use Rattle.filling.specs.Order.{rearranged}
 use Rattle.filling.specs.State.{planner_at, order_of, standing_of, tracks_of}
@@ -78,7 +76,7 @@ module _ (yl yh : Float) (is : List Interval) (L : is_finite yl ≡ true) (H : i
       → ((i : Interval) → Memᴰ i js → Memᴰ i is) → height_of yl yh is ≡ height_of yl yh js
   any_order js E' to back = same_look yl yh (is_finite_lem yl L) (is_finite_lem yh H) is js F (ends_finite_lem js E') to back
 
-  module _ (h g : Float) (e : height_of yl yh is ≡ Free h g) where
+  module _ (h g : Float) (e : height_of yl yh is ≡ Some (h, g)) where
     pub gap_is : g ≡ plus_zero (next_bottom yh is h) ⊖ h
     unfolding clear_above
     gap_is = height_clear yl yh is (is_finite_lem yl L) (is_finite_lem yh H) F h g e
@@ -168,10 +166,10 @@ unfolding next_copy_of step_given
 gaps-refused bytes j e s w iv f = rw e (step_inconsistent j s w iv (gaps_inconsistent j s w f))
 
 -- own gaps fit
-pub calls_gaps : (bytes order : List ℕ) (l : Lent) (j : Job) → read_job bytes ≡ accepted j → (start_of bytes order l).verdict ≡ Accepted → (calls : List Call)
+pub calls_gaps : (bytes order : List ℕ) (l : Lent) (j : Job) → read_job bytes ≡ accepted j → (start_of bytes order l).verdict ≡ Ok tt → (calls : List Call)
     → gaps_fit (after_calls bytes calls (start_of bytes order l).state (start_of bytes order l).lent.rooms).state ≡ true
 calls_gaps bytes order l j e v calls = (calls_held bytes order l j e v calls).held.own.fine.gaps
 
-pub fill-gaps : (bytes order : List ℕ) (l : Lent) (j : Job) → read_job bytes ≡ accepted j → start_verdict j order l ≡ Accepted
+pub fill-gaps : (bytes order : List ℕ) (l : Lent) (j : Job) → read_job bytes ≡ accepted j → start_verdict j order l ≡ Ok tt
     → (s : State) → fill_order j l order ≡ filled s → gaps_fit s ≡ true
 fill-gaps bytes order l j e v s d = (fill-held bytes order l j e v s d).1.own.fine.gaps

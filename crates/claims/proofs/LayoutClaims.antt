@@ -1,4 +1,5 @@
 -- Document 02, W6, layouts from the bureau: what is promised, each claim with its whole statement, and its proof cited. Assumes nothing.
+use Rattle.std.specs.Prelude.{Ok, Err}
 use Prim.Native.Nat.{ℕ, ◌≤◌, ◌<◌}
 use mathlib.Core.Path.{◌≡◌, sym, subst}
 use mathlib.Core.Bool.{not, ◌&&◌}
@@ -10,7 +11,6 @@ use Rattle.job.specs.Jobs.{Job, accepted, refused, read_job, frame_of}
 use Rattle.filling.specs.declared.State.{State}
 use Rattle.filling.specs.declared.Refusal.{Refusal}
 use Rattle.filling.specs.declared.Refusal.TheVariants as Why
-use Rattle.filling.specs.declared.Verdict.TheVariants.{Accepted, Refused}
 use Rattle.filling.specs.Refusals.{is_refused}
 use Rattle.filling.specs.Shapes.{planner_of}
 use Rattle.filling.specs.Rooms.{Rooms, Lent, laid, zeros}
@@ -45,22 +45,22 @@ layout-exact_list = ProvedExact.exact_of
 
 -- "then at the first bad line": the line is that of the first line that is refused, and that line's own verdict is the answer; the lines before it are
 -- accepted; an accepted list has no line left
-pub layout-line : (j : Job) (ls : List PutLine) (w : Rooms) → prepare_verdict (planner_of j) w ≡ Accepted
+pub layout-line : (j : Job) (ls : List PutLine) (w : Rooms) → prepare_verdict (planner_of j) w ≡ Ok tt
     → let n = (layout_job j ls w).line in
     (n ≤ length ls)
-    × (layout_job j (take n ls) w ≡ record { verdict = Accepted; line = n })
-    × ((layout_job j ls w).verdict ≡ Accepted → n ≡ length ls)
-    × ((r : Refusal) → (layout_job j ls w).verdict ≡ Refused r
+    × (layout_job j (take n ls) w ≡ record { verdict = Ok tt; line = n })
+    × ((layout_job j ls w).verdict ≡ Ok tt → n ≡ length ls)
+    × ((r : Refusal) → (layout_job j ls w).verdict ≡ Err r
     → (n < length ls) × ((d : PutLine)
     → line_verdict j (planner_of j) w (map (λ l. l.kind) (take n ls)) (flat_map (line_strips (planner_of j) (frame_of j.header)) (take n ls)) (get_or ls n d)
-    ≡ Refused r))
+    ≡ Err r))
 layout-line j ls w e = let h = ProvedLine.line_says j ls w e in (h.within, h.before, h.whole, h.bad)
 
 -- "It refuses a job as the plan does": with its number before the first line, as it does where sheet or shapes do not fit their rooms
 pub layout-job : (bytes given : List ℕ) (w : Rooms)
-    → ((k : Input.Refusal) → read_job bytes ≡ refused k → (layout_of bytes given w).judgement ≡ record { verdict = Refused (Why.Job k); line = 0 })
-    × ((j : Job) (r : Refusal) → read_job bytes ≡ accepted j → prepare_verdict (planner_of j) w ≡ Refused r
-    → (layout_of bytes given w).judgement ≡ record { verdict = Refused r; line = 0 })
+    → ((k : Input.Refusal) → read_job bytes ≡ refused k → (layout_of bytes given w).judgement ≡ record { verdict = Err (Why.Job k); line = 0 })
+    × ((j : Job) (r : Refusal) → read_job bytes ≡ accepted j → prepare_verdict (planner_of j) w ≡ Err r
+    → (layout_of bytes given w).judgement ≡ record { verdict = Err r; line = 0 })
 unfolding layout_of layout_given not_judged
 layout-job bytes given w = ((λ k e. rw e), λ j r e v. rw e (ProvedExact.job_unprepared j w r v (lines_of given)))
 
@@ -71,32 +71,32 @@ layout-left bytes given l = sym (ProvedReplies.nest_rooms bytes l)
 
 -- "Every layout our planner makes is accepted in filling order": after an accepted start and any single calls and batches, the list of the standing copies
 -- is accepted in the rooms that the start was lent
-pub calls_accepted : (bytes order : List ℕ) (l : Lent) (j : Job) → read_job bytes ≡ accepted j → (start_of bytes order l).verdict ≡ Accepted
+pub calls_accepted : (bytes order : List ℕ) (l : Lent) (j : Job) → read_job bytes ≡ accepted j → (start_of bytes order l).verdict ≡ Ok tt
     → (os : List Operation)
     → let cs = standing_of (after_operations bytes os (start_of bytes order l).state (start_of bytes order l).lent.rooms).state in
-    (layout_of bytes (layout_numbers j cs) l.rooms).judgement ≡ record { verdict = Accepted; line = length cs }
+    (layout_of bytes (layout_numbers j cs) l.rooms).judgement ≡ record { verdict = Ok tt; line = length cs }
 calls_accepted bytes order l j e v os =
     let s = (start_of bytes order l).state in
     let w = (start_of bytes order l).lent.rooms in
     subst
     (λ (r : Rest). (layout_of bytes (layout_numbers j (standing_of r.state)) l.rooms).judgement
-    ≡ record { verdict = Accepted; line = length (standing_of r.state) })
+    ≡ record { verdict = Ok tt; line = length (standing_of r.state) })
     (sym (ProvedLists.operations_calls_lem bytes os s w)) (ProvedMade.calls_accepted bytes j e l order v (operations_calls bytes os s w))
 
 -- the copies of an accepted filling: they are those of its position room
-pub fill-accepted : (bytes order : List ℕ) (l : Lent) (j : Job) → read_job bytes ≡ accepted j → (fill_of bytes order l).verdict ≡ Accepted
+pub fill-accepted : (bytes order : List ℕ) (l : Lent) (j : Job) → read_job bytes ≡ accepted j → (fill_of bytes order l).verdict ≡ Ok tt
     → (s : State)
     × ((fill_of bytes order l).lent.positions ≡ laid (flat_positions (positions j (standing_of s))) (zeros pos_zero l.positions))
-    × ((layout_of bytes (layout_numbers j (standing_of s)) l.rooms).judgement ≡ record { verdict = Accepted; line = length (standing_of s) })
+    × ((layout_of bytes (layout_numbers j (standing_of s)) l.rooms).judgement ≡ record { verdict = Ok tt; line = length (standing_of s) })
 fill-accepted bytes order l j e v =
     let r = ProvedMade.fill-accepted bytes j e l order v in
     (r.0, r.1.positions_are, r.1.list_accepted)
 
 -- and those of an accepted whole plan
-pub nest_accepted : (bytes : List ℕ) (l : Lent) (j : Job) → read_job bytes ≡ accepted j → (nest_of bytes l).verdict ≡ Accepted
+pub nest_accepted : (bytes : List ℕ) (l : Lent) (j : Job) → read_job bytes ≡ accepted j → (nest_of bytes l).verdict ≡ Ok tt
     → (s : State)
     × ((nest_of bytes l).lent.positions ≡ laid (flat_positions (positions j (standing_of s))) (zeros pos_zero l.positions))
-    × ((layout_of bytes (layout_numbers j (standing_of s)) l.rooms).judgement ≡ record { verdict = Accepted; line = length (standing_of s) })
+    × ((layout_of bytes (layout_numbers j (standing_of s)) l.rooms).judgement ≡ record { verdict = Ok tt; line = length (standing_of s) })
 nest_accepted bytes l j e v =
     let r = ProvedPlans.nest_accepted bytes j e l v in
     (r.0, r.1.positions_are, r.1.list_accepted)

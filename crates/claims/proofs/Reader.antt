@@ -1,4 +1,6 @@
 -- When a field and a job are accepted: exactly if nothing of "Refused because of the input" holds. Assumes nothing.
+use Rattle.std.specs.Prelude.{Some, None, Result, Ok, Err}
+use Rattle.bits.specs.declared.Refusal.{Refusal}
 use Prim.Native.Nat.{ℕ, ◌+◌, ◌*◌, ◌≤◌, ◌<◌}
 use native.Mathlib.Omega.{arith}
 use mathlib.Core.Path.{◌≡◌, refl, ap, subst, ◌∙◌}
@@ -12,15 +14,9 @@ use lib.Ieee.Scale.{finite}
 use borrow.Author.Tests.{le-leb, lt-leb, leb-true}
 use Rattle.numbers.specs.Numbers.{◌⊘◌, from_int, plus_zero, double_of}
 use Rattle.bits.specs.declared.Refusal.TheVariants.{Truncated, TrailingData, NonFinite, OutOfRange, CountOutOfRange, TooManyCopies, TooManyColumns}
-use Rattle.numbers.specs.declared.Double.TheVariants.{Finite, NotFinite}
-use Rattle.bits.specs.declared.Counted.{Counted}
-use Rattle.bits.specs.declared.Counted.TheVariants.{Count, NoCount}
-use Rattle.bits.specs.declared.Measured.{Measured}
-use Rattle.bits.specs.declared.Measured.TheVariants.{Value, NoValue}
 use Rattle.bits.specs.Bits.{field_at}
 use Rattle.bits.specs.Reading.{Read, ok, bad, after, bits}
 use Rattle.bits.specs.Fields.{Field, judge_count, counted, count, Range, judge_double, judge_number, measured, number}
-use Rattle.job.specs.declared.Judged.TheVariants.{Passed, Failed}
 use Rattle.job.specs.Jobs.{Job, a_job, ended, framed_width, judge_end, accepted, passed, judged, read_job}
 
 -- ---- fields
@@ -33,16 +29,16 @@ bits-read w p bytes = (λ h. go true (le-leb (p + w) (8 * length bytes) h), λ h
     go : (t : Bool) → leb (p + w) (8 * length bytes) ≡ t → bits w bytes p ≡ cond t (ok (field_at bytes p w 0) (p + w)) (bad Truncated)
     go t e = ap (λ (x : Bool). cond x (ok (field_at bytes p w 0) (p + w)) (bad Truncated)) e
 
-judge_in_lem : (least most n : ℕ) → least ≤ n → n ≤ most → judge_count least most n ≡ Count n
+judge_in_lem : (least most n : ℕ) → least ≤ n → n ≤ most → judge_count least most n ≡ Ok n
 unfolding judge_count
 judge_in_lem least most n a b = rw (le-leb least n a, le-leb n most b)
 
-judge_out : (least most n : ℕ) → (n < least) ⊎ (most < n) → judge_count least most n ≡ NoCount CountOutOfRange
+judge_out : (least most n : ℕ) → (n < least) ⊎ (most < n) → judge_count least most n ≡ Err CountOutOfRange
 unfolding judge_count
 judge_out least most n (inl a) = rw (lt-leb least n a)
 judge_out least most n (inr b) = go (leb least n)
   where
-    go : (t : Bool) → cond (t && leb n most) (Count n) (NoCount CountOutOfRange) ≡ NoCount CountOutOfRange
+    go : (t : Bool) → cond (t && leb n most) (Ok n) (Err CountOutOfRange) ≡ Err CountOutOfRange
     go true = rw (lt-leb n most b)
     go false = refl
 
@@ -57,8 +53,8 @@ pub count-read : (f : Field) (bytes : List ℕ) (p : ℕ) → p + f.width ≤ 8 
 count-read f bytes p h =
     (λ a b. of (judge_in_lem f.least f.most (field_at bytes p f.width 0) a b), λ a. of (judge_out f.least f.most (field_at bytes p f.width 0) a))
   where
-    of : {t : Counted} → judge_count f.least f.most (field_at bytes p f.width 0) ≡ t → count f bytes p ≡ counted t (p + f.width)
-    of e = count-judged f bytes p h ∙ ap (λ (t : Counted). counted t (p + f.width)) e
+    of : {t : (Result ℕ Refusal)} → judge_count f.least f.most (field_at bytes p f.width 0) ≡ t → count f bytes p ≡ counted t (p + f.width)
+    of e = count-judged f bytes p h ∙ ap (λ (t : Result ℕ Refusal). counted t (p + f.width)) e
 
 number-judged : (r : Range) (bytes : List ℕ) (p : ℕ) → p + 64 ≤ 8 * length bytes
     → number r bytes p ≡ measured (judge_number r.least r.most (field_at bytes p 64 0)) (p + 64)
@@ -68,10 +64,10 @@ number-judged r bytes p h = ap (λ (x : Read ℕ). after x (λ n q. measured (ju
 -- a double whose pattern is finite or not, within its range or not
 judged_as_lem : (least most : Float) (n : ℕ) (t : Bool) → finite (of_bits binary64 n) ≡ t
     → let x = plus_zero (of_bits binary64 n) in
-    judge_number least most n ≡ cond t (cond (le least x && le x most) (Value x) (NoValue OutOfRange)) (NoValue NonFinite)
+    judge_number least most n ≡ cond t (cond (le least x && le x most) (Ok x) (Err OutOfRange)) (Err NonFinite)
 unfolding judge_number judge_double double_of
-judged_as_lem least most n true e = ap (λ (t : Bool). judge_double least most (cond t (Finite (plus_zero (of_bits binary64 n))) NotFinite)) e
-judged_as_lem least most n false e = ap (λ (t : Bool). judge_double least most (cond t (Finite (plus_zero (of_bits binary64 n))) NotFinite)) e
+judged_as_lem least most n true e = ap (λ (t : Bool). judge_double least most (cond t (Some (plus_zero (of_bits binary64 n))) None)) e
+judged_as_lem least most n false e = ap (λ (t : Bool). judge_double least most (cond t (Some (plus_zero (of_bits binary64 n))) None)) e
 
 pub number_read : (r : Range) (bytes : List ℕ) (p : ℕ) → p + 64 ≤ 8 * length bytes
     → let x = of_bits binary64 (field_at bytes p 64 0) in
@@ -84,11 +80,11 @@ number_read r bytes p h = (λ f. of false f, λ f e. of true f ∙ ap in_range_l
     X = plus_zero (of_bits binary64 (field_at bytes p 64 0))
 
     in_range_lem : Bool → Read Float
-    in_range_lem t = measured (cond t (Value X) (NoValue OutOfRange)) (p + 64)
+    in_range_lem t = measured (cond t (Ok X) (Err OutOfRange)) (p + 64)
 
     of : (t : Bool) → finite (of_bits binary64 (field_at bytes p 64 0)) ≡ t
-        → number r bytes p ≡ measured (cond t (cond (le r.least X && le X r.most) (Value X) (NoValue OutOfRange)) (NoValue NonFinite)) (p + 64)
-    of t f = number-judged r bytes p h ∙ ap (λ (m : Measured). measured m (p + 64)) (judged_as_lem r.least r.most (field_at bytes p 64 0) t f)
+        → number r bytes p ≡ measured (cond t (cond (le r.least X && le X r.most) (Ok X) (Err OutOfRange)) (Err NonFinite)) (p + 64)
+    of t f = number-judged r bytes p h ∙ ap (λ (m : Result Float Refusal). measured m (p + 64)) (judged_as_lem r.least r.most (field_at bytes p 64 0) t f)
 
 -- ---- a job
 
@@ -104,7 +100,7 @@ end-passed bytes p i j e =
   where
     go : (a : Bool) → ended bytes p ≡ a → (b : Bool) → leb i.copies 4096 ≡ b
         → (c : Bool) → lt (from_int 1_000_000) (framed_width i ⊘ i.header.resolution) ≡ c
-        → passed (cond a (cond b (cond c (Failed TooManyColumns) Passed) (Failed TooManyCopies)) (Failed TrailingData)) i ≡ accepted j
+        → passed (cond a (cond b (cond c (Err TooManyColumns) (Ok tt)) (Err TooManyCopies)) (Err TrailingData)) i ≡ accepted j
         → (i ≡ j) × Ends bytes i p
     go false f b g c h e = absurd (let z : ◌≡◌ {A = ℕ} 0 1 = cc in omega arith)
     go true f false g c h e = absurd (let z : ◌≡◌ {A = ℕ} 0 1 = cc in omega arith)

@@ -1,4 +1,5 @@
 -- Document 02, W9, write the job out: what is promised, each claim with its whole statement, and its proof cited. Assumes nothing.
+use Rattle.std.specs.Prelude.{Ok}
 use Prim.Native.Nat.{ℕ, ◌<◌}
 use mathlib.Core.Path.{◌≡◌, ap, ◌∙◌}
 use mathlib.Core.List.{List, ◌++◌, map, flat_map}
@@ -16,17 +17,15 @@ use Rattle.job_bits.specs.JobFields.{Field, field_bits, plus, job_fields}
 use Rattle.job_bits.proofs.WrittenReads as ProvedReads
 use Rattle.job_bits.proofs.ComesBack as ProvedBack
 use Rattle.job_bits.proofs.Versions as ProvedVersions
-use Rattle.write_job.specs.declared.Reply.TheVariants.{Written}
 use Rattle.write_job.specs.Written.{placed, written}
 use Rattle.write_job.proofs.Rooms as ProvedRooms
-use Rattle.read_tables.specs.declared.Reply.TheVariants.{Tables}
 use Rattle.read_tables.specs.Tabled.{tabled}
 use Rattle.claims.proofs.RoundTrip as ProvedTrip
 
 -- "What it writes reads as the job it was given": the bytes that the call leaves and counts, in a room of any length
 pub written_reads : (h : Header) (rows : List ℕ) (areas : List Float) (counts : List ℕ) (coordinates : List Float) (room n : ℕ)
     → let job = given_job h rows areas counts coordinates in
-    (written job room).reply ≡ Written n → read_job (take n (written job room).out) ≡ job
+    (written job room).reply ≡ Ok n → read_job (take n (written job room).out) ≡ job
 written_reads h rows areas counts coordinates room n =
     ProvedRooms.written_read (given_job h rows areas counts coordinates) room n (ProvedReads.written_reads h rows areas counts coordinates)
 
@@ -47,7 +46,7 @@ comes-back-same b j fields e f g = f ∙ ap (λ (l : List Field). packed (flat_m
 -- the two calls, one after the other: what `read_tables` leaves of the bytes b, `write_job` writes as the bytes of the job that they are read as
 pub read_and_written : (b : List ℕ) (k₁ k₂ k₃ k₄ room : ℕ) (h : Header) (c x : ℕ) → ((k : ℕ) → k < length b → get_or b k 0 < 256)
     → let t = tabled (read_job b) k₁ k₂ k₃ k₄ in
-    t.reply ≡ Tables h c x
+    t.reply ≡ Ok (h, c, x)
     → (j : Job) × (read_job b ≡ accepted j) × (written (given_job h t.rows t.areas t.counts t.coordinates) room ≡ placed (bytes_of j) room)
 read_and_written = ProvedTrip.read_and_written
 

@@ -2,7 +2,7 @@
 // their entries and first buckets. Only crates of ours call these functions.
 #![tactic(auto)]
 
-ghost use Rattle.std.specs.Prelude.{◌≡◌, ◌+◌, ◌-◌, ◌*◌, ◌≤◌, ◌<◌, ◌++◌, length, take, drop};
+ghost use Rattle.std.specs.Prelude.{◌≡◌, ◌+◌, ◌*◌, ◌≤◌, ◌<◌, length, take};
 ghost use Rattle.numbers.specs.Numbers.{pos_zero};
 ghost use Rattle.trapezoid.specs.Strip.{capacity};
 ghost use Rattle.index.specs.Buckets.{strip_numbers, entries_of, firsts_of};
@@ -11,46 +11,13 @@ ghost use Rattle.filling.specs.Withdraw.{closed_up, strips_left};
 
 use index::{Bucket, Entry, Index};
 
-// Of the first m numbers that at n goes, those behind it move up, and v stands at their end.
-pub fn close_numbers(l: &mut [usize], n: usize, m: usize, v: usize)
-    requires { (n < m) × (m ≤ length l.old) }
-    ensures { l.new ≡ closed_up n m v l.old }
-{
-    let last = m - 1;
-    let mut i = n;
-    while i < last {
-        l[i] = l[i + 1];
-        i += 1;
-    }
-    l[last] = v;
-}
-
-// The same of doubles.
-pub fn close_doubles(xs: &mut [f64], n: usize, m: usize, v: f64)
+// Of the first m elements that at n goes, those behind it move up, and v stands at their end.
+pub fn close<T: Copy>(xs: &mut [T], n: usize, m: usize, v: T)
     requires { (n < m) × (m ≤ length xs.old) }
     ensures { xs.new ≡ closed_up n m v xs.old }
 {
-    let last = m - 1;
-    let mut i = n;
-    while i < last {
-        xs[i] = xs[i + 1];
-        i += 1;
-    }
-    xs[last] = v;
-}
-
-// The slots from `from` + `by` up to `to` move down by `by`.
-fn move_down(room: &mut [f64], from: usize, by: usize, to: usize)
-    requires { (from + by ≤ to) × (to ≤ length room.old) }
-    ensures { (length room.new ≡ length room.old)
-        × (take (to - by) room.new ≡ take from room.old ++ drop (from + by) (take to room.old)) }
-{
-    let stop = to - by;
-    let mut i = from;
-    while i < stop {
-        room[i] = room[i + by];
-        i += 1;
-    }
+    xs.copy_within(n + 1..m, n);
+    xs[m - 1] = v;
 }
 
 // Of the first n strips the k from number a on go, those behind them move up, and zeros follow to the
@@ -62,8 +29,8 @@ pub fn close_strips(placed: &mut [f64], a: usize, k: usize, n: usize)
     let by = 6 * k;
     let to = 6 * n;
     let end = to - by;
-    move_down(placed, 6 * a, by, to);
-    rooms::zero(&mut placed[end..]);
+    placed.copy_within(6 * a + by..to, 6 * a);
+    placed[end..].fill(0.0);
 }
 
 // Of the first n placed strips the k from number a on go: strips, entries and first buckets close up,
@@ -86,10 +53,10 @@ pub fn close_rooms(
         (capacity (strips_left a k (take (6 * n) placed.old)))) (zeros 0 firsts.old)) }
 {
     close_strips(placed, a, k, n);
-    rooms::zero_numbers(entries);
-    rooms::zero_numbers(firsts);
-    let mut starts = [0usize; 513];
-    let mut gains = [0usize; 512];
+    entries.fill(0);
+    firsts.fill(0);
+    let mut starts = [0; Index::BUCKETS + 1];
+    let mut gains = [0; Index::BUCKETS];
     let left = n - k;
     let end = 6 * left;
     enter::enter_copy(

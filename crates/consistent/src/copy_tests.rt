@@ -1,65 +1,32 @@
 // What refusal 31 asks of the standing copies (document 02, W4): an orientation that the kind has, a
 // position within bounds, and that the placed strips are theirs, in order and no others. Only crates
 // of ours call them.
-ghost use Rattle.std.specs.Prelude.{◌≡◌, ℕ, ◌+◌, ◌*◌, ◌≤◌, ◌<◌, length, get_or};
-ghost use Rattle.consistent.specs.copy_tests.inner.Copies.{held, same_strip, lies_test, turn_test, past_copy, copies_test};
+ghost use Rattle.std.specs.Prelude.{◌≡◌, ◌&&◌, ℕ, ◌+◌, ◌*◌, ◌≤◌, ◌<◌, length, get_or};
+ghost use Rattle.filling.specs.Consistent.{bounded};
+ghost use Rattle.consistent.specs.copy_tests.inner.Copies.{held, lies_test, turn_test, past_copy, copies_test};
 
 use crate::{slot_tests, strip_tests};
-use index::entries::Walked;
-use trapezoid::Trapezoid;
-
-// Whether two strips have equal numbers; minus zero is zero.
-fn same_strip(p: Trapezoid, q: Trapezoid) -> bool
-    ensures { result ≡ same_strip p q }
-{
-    if p.x0 != q.x0 {
-        return false;
-    }
-    if p.x1 != q.x1 {
-        return false;
-    }
-    if p.low0 != q.low0 {
-        return false;
-    }
-    if p.low1 != q.low1 {
-        return false;
-    }
-    if p.high0 != q.high0 {
-        return false;
-    }
-    p.high1 == q.high1
-}
 
 // Whether the strips of a part, moved by x and y, lie in the room from strip `at` on.
 fn strips_lie(part: &[f64], x: f64, y: f64, placed: &[f64], at: usize) -> bool
     ensures { result ≡ lies_test part.now x y placed.now at }
 {
     let n = trapezoid::capacity(part);
-    if !slot_tests::within(at, n, trapezoid::capacity(placed)) {
-        return false;
-    }
-    let mut i = 0;
-    while i < n {
-        let p = trapezoid::load(part, i);
-        let q = trapezoid::load(placed, at + i);
-        if same_strip(q, p.moved(x, y)) {
-            i += 1;
-        } else {
-            return false;
-        }
-    }
-    true
+    slot_tests::within(at, n, trapezoid::capacity(placed))
+        && (0..n).all(|i| trapezoid::load(placed, at + i) == trapezoid::load(part, i).moved(x, y))
 }
 
-// Whether the kind has this orientation; rows hold how many each has, four numbers to a kind.
-fn turn_fits(rows: &[u64], kinds: usize, kind: usize, o: usize) -> bool
+// Whether a copy of the kind may stand so: an orientation that the kind has, a position within bounds.
+// Rows hold how many orientations each kind has, four numbers to a kind.
+#[tactic(auto, unfolding(crate::specs::copy_tests::inner::Copies::turn_test))]
+fn may_stand(rows: &[u64], kinds: usize, kind: usize, o: usize, x: f64, y: f64) -> bool
     requires { (kinds ≤ 64) × (256 ≤ length rows.now) }
-    ensures { result ≡ turn_test rows.now kinds kind o }
+    ensures { result ≡ (turn_test rows.now kinds kind o && (bounded x && bounded y)) }
 {
-    if kind < kinds {
-        return o < rows[4 * kind + 3] as usize;
-    }
-    false
+    kind < kinds
+        && o < rows[4 * kind + 3] as usize
+        && strip_tests::bounded(x)
+        && strip_tests::bounded(y)
 }
 
 // Past the strips of a copy, which are to begin at strip `at`; its number in the layout is 0 where it
@@ -75,30 +42,23 @@ fn past_copy(
     y: f64,
     number: usize,
     at: usize,
-) -> Walked
+) -> Option<usize>
     requires { (kinds ≤ 64) × (256 ≤ length rows.now) × ((k : ℕ) → k < kinds → get_or rows.now (4 * k + 3) 0 ≤ 16) × (4096 ≤ length parts.now) }
     ensures { result ≡ past_copy (held rows.now kinds parts.now apart.now placed.now) kind x y number at }
 {
     if number == 0 {
-        return Walked::At(at);
+        return Some(at);
     }
     let o = number - 1;
-    if !turn_fits(rows, kinds, kind, o) {
-        return Walked::Wrong;
-    }
-    if !strip_tests::bounded(x) {
-        return Walked::Wrong;
-    }
-    if !strip_tests::bounded(y) {
-        return Walked::Wrong;
+    if !may_stand(rows, kinds, kind, o, x, y) {
+        return None;
     }
     let p = choose::part_at(parts, 16 * kind + o);
     let part = trapezoid::part_of(apart, p.apart_start, p.apart_count);
     if !strips_lie(part, x, y, placed, at) {
-        return Walked::Wrong;
+        return None;
     }
-    let end = at + trapezoid::capacity(part);
-    Walked::At(end)
+    Some(at + trapezoid::capacity(part))
 }
 
 // Whether the first `taken` copies stand as they may, and the placed strips are theirs.
@@ -120,9 +80,8 @@ pub fn copies_fit(
         orientation.now x.now y.now taken 0 0 }
 {
     let mut at = 0;
-    let mut i = 0;
-    while i < taken {
-        match past_copy(
+    for i in 0..taken {
+        let Some(end) = past_copy(
             rows,
             kinds,
             parts,
@@ -133,15 +92,10 @@ pub fn copies_fit(
             y[i],
             orientation[i],
             at,
-        ) {
-            Walked::At(end) => {
-                at = end;
-                i += 1;
-            }
-            Walked::Wrong => {
-                return false;
-            }
-        }
+        ) else {
+            return false;
+        };
+        at = end;
     }
     at == trapezoid::capacity(placed)
 }

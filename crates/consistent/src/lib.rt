@@ -24,14 +24,8 @@ ghost use Rattle.consistent.specs.inner.Tests.{state_of, slots_of, state_test, c
 use index::{Bucket, Entry};
 use strips::Rect;
 
-// The copies taken: at most the job's.
-fn taken_fits(taken: usize, copies: usize) -> bool
-    ensures { result ≡ leb taken copies }
-{
-    taken <= copies
-}
-
 // The copies taken, resolution, sheet bounds, right and unplaced area.
+#[tactic(auto, unfolding(crate::specs::inner::Tests::state_test))]
 fn state_fits(
     taken: usize,
     copies: usize,
@@ -43,16 +37,10 @@ fn state_fits(
     ensures { (result ≡ state_test taken copies resolution bounds right unplaced_area)
         × (result ≡ true → (taken ≤ copies) × BoundedRect bounds × Resolving resolution) }
 {
-    if !taken_fits(taken, copies) {
-        return false;
-    }
-    if !strip_tests::resolution_fits(resolution) {
-        return false;
-    }
-    if !strip_tests::bounds_fit(bounds) {
-        return false;
-    }
-    strip_tests::layout_fits(right, unplaced_area)
+    taken <= copies
+        && strip_tests::resolution_fits(resolution)
+        && strip_tests::bounds_fit(bounds)
+        && strip_tests::layout_fits(right, unplaced_area)
 }
 
 // What is tested with the rooms, and then that the placed strips are the standing copies'.
@@ -101,7 +89,7 @@ fn rooms_agree(
         sheet_firsts.now × FirstBuckets (sheet_index bounds) (take (6 * placed_strips) placed.now)
         (capacity (take (6 * placed_strips) placed.now)) placed_firsts.now) }
 {
-    if !room_tests::rooms_fit(
+    room_tests::rooms_fit(
         taken,
         placed_strips,
         resolution,
@@ -123,12 +111,7 @@ fn rooms_agree(
         placed_starts,
         sheet_firsts,
         placed_firsts,
-    ) {
-        return false;
-    }
-    let apart_end = 6 * apart_strips;
-    let placed_end = 6 * placed_strips;
-    copy_tests::copies_fit(
+    ) && copy_tests::copies_fit(
         rows,
         kinds,
         order,
@@ -137,8 +120,8 @@ fn rooms_agree(
         y,
         taken,
         parts,
-        &shapes[..apart_end],
-        &placed[..placed_end],
+        &shapes[..6 * apart_strips],
+        &placed[..6 * placed_strips],
     )
 }
 
@@ -193,40 +176,34 @@ pub fn consistent(
         sheet_firsts.now × FirstBuckets (sheet_index bounds) (take (6 * placed_strips) placed.now)
         (capacity (take (6 * placed_strips) placed.now)) placed_firsts.now) }
 {
-    if !state_fits(taken, copies, right, unplaced_area, resolution, bounds) {
-        return false;
-    }
-    if !accounts::order::rearranged(&order[..copies], rows, kinds, copies) {
-        return false;
-    }
-    if !strip_tests::gaps_fit(orientation, gap, taken) {
-        return false;
-    }
-    rooms_agree(
-        taken,
-        placed_strips,
-        resolution,
-        bounds,
-        sheet_strips,
-        apart_strips,
-        inset_bounds,
-        parts,
-        next_column,
-        look_counts,
-        rows,
-        kinds,
-        shapes,
-        sheet,
-        placed,
-        sheet_entries,
-        placed_entries,
-        sheet_starts,
-        placed_starts,
-        sheet_firsts,
-        placed_firsts,
-        order,
-        orientation,
-        x,
-        y,
-    )
+    state_fits(taken, copies, right, unplaced_area, resolution, bounds)
+        && accounts::order::rearranged(&order[..copies], rows, kinds, copies)
+        && strip_tests::gaps_fit(orientation, gap, taken)
+        && rooms_agree(
+            taken,
+            placed_strips,
+            resolution,
+            bounds,
+            sheet_strips,
+            apart_strips,
+            inset_bounds,
+            parts,
+            next_column,
+            look_counts,
+            rows,
+            kinds,
+            shapes,
+            sheet,
+            placed,
+            sheet_entries,
+            placed_entries,
+            sheet_starts,
+            placed_starts,
+            sheet_firsts,
+            placed_firsts,
+            order,
+            orientation,
+            x,
+            y,
+        )
 }

@@ -9,11 +9,11 @@ ghost use Rattle.consistent.specs.slot_tests.inner.Slots.{Given, slots_test};
 ghost use Rattle.consistent.specs.inner.Tests.{slots_of, counts_test, strip_room_test, standing_test, rooms_test};
 
 use crate::{slot_tests, strip_tests};
-use index::entries::Walked;
 use index::{Bucket, Entry, Index};
 use strips::Rect;
 
 // Strips lie within their rooms.
+#[tactic(auto, unfolding(crate::specs::inner::Tests::counts_test))]
 fn strip_counts_fit(
     sheet_strips: usize,
     apart_strips: usize,
@@ -29,13 +29,9 @@ fn strip_counts_fit(
         × (result ≡ true → (6 * sheet_strips ≤ length sheet.now) × (6 * apart_strips ≤ length shapes.now)
         × (6 * placed_strips ≤ length placed.now)) }
 {
-    if sheet_strips > index::standing_capacity(sheet, sheet_firsts) {
-        return false;
-    }
-    if apart_strips > trapezoid::capacity(shapes) {
-        return false;
-    }
-    placed_strips <= index::standing_capacity(placed, placed_firsts)
+    sheet_strips <= index::standing_capacity(sheet, sheet_firsts)
+        && apart_strips <= trapezoid::capacity(shapes)
+        && placed_strips <= index::standing_capacity(placed, placed_firsts)
 }
 
 // The room begins with the strips' first buckets (document 02, W3).
@@ -44,19 +40,8 @@ fn firsts_lie(ix: Index, part: &[f64], firsts: &[Bucket]) -> bool
         × (result ≡ true → FirstBuckets ix part.now (capacity part.now) firsts.now) }
 {
     let n = trapezoid::capacity(part);
-    if firsts.len() < n {
-        return false;
-    }
-    let mut i = 0;
-    while i < n {
-        let p = trapezoid::load(part, i);
-        if ix.bucket(p.x0) == index::entry(firsts, i) {
-            i += 1;
-        } else {
-            return false;
-        }
-    }
-    true
+    n <= firsts.len()
+        && (0..n).all(|i| ix.bucket(trapezoid::load(part, i).x0) == index::entry(firsts, i))
 }
 
 // The room begins with the entries of the strips; if so, starts has where each bucket's begin.
@@ -71,13 +56,12 @@ fn entries_lie(
     ensures { (result ≡ numbers_lie (entries_of ix part.now (capacity part.now)) entries.now)
         × (result ≡ true → Laid ix part.now (capacity part.now) entries.now starts.new) }
 {
-    match index::entries::walk_all(ix, part, trapezoid::capacity(part), entries, starts, firsts) {
-        Walked::At(_) => true,
-        Walked::Wrong => false,
-    }
+    let n = trapezoid::capacity(part);
+    index::entries::walk_all(ix, part, n, entries, starts, firsts).is_some()
 }
 
 // The strips of a part, their first buckets and their entries.
+#[tactic(auto, unfolding(crate::specs::inner::Tests::strip_room_test))]
 fn strip_room_fits(
     bounds: Rect,
     part: &[f64],
@@ -90,17 +74,14 @@ fn strip_room_fits(
         × (result ≡ true → Laid (sheet_index bounds) part.now (capacity part.now) entries.now starts.new
         × FirstBuckets (sheet_index bounds) part.now (capacity part.now) firsts.now) }
 {
-    if !strip_tests::strips_fit(part) {
-        return false;
-    }
     let ix = Index::new(bounds.left, bounds.right);
-    if !firsts_lie(ix, part, firsts) {
-        return false;
-    }
-    entries_lie(ix, part, entries, starts, firsts)
+    strip_tests::strips_fit(part)
+        && firsts_lie(ix, part, firsts)
+        && entries_lie(ix, part, entries, starts, firsts)
 }
 
 // The strips of the sheet and of the placed copies.
+#[tactic(auto, unfolding(crate::specs::inner::Tests::standing_test))]
 fn standing_fit(
     bounds: Rect,
     sheet: &[f64],
@@ -120,10 +101,8 @@ fn standing_fit(
         × FirstBuckets (sheet_index bounds) sheet.now (capacity sheet.now) sheet_firsts.now
         × FirstBuckets (sheet_index bounds) placed.now (capacity placed.now) placed_firsts.now) }
 {
-    if !strip_room_fits(bounds, sheet, sheet_entries, sheet_starts, sheet_firsts) {
-        return false;
-    }
-    strip_room_fits(bounds, placed, placed_entries, placed_starts, placed_firsts)
+    strip_room_fits(bounds, sheet, sheet_entries, sheet_starts, sheet_firsts)
+        && strip_room_fits(bounds, placed, placed_entries, placed_starts, placed_firsts)
 }
 
 // Parts, shapes and tracks of every orientation.
@@ -162,6 +141,7 @@ fn shapes_fit<'a>(
 }
 
 // What is tested with the rooms.
+#[tactic(auto, unfolding(crate::specs::inner::Tests::rooms_test))]
 pub fn rooms_fit(
     taken: usize,
     placed_strips: usize,
@@ -200,7 +180,7 @@ pub fn rooms_fit(
         sheet_firsts.now × FirstBuckets (sheet_index bounds) (take (6 * placed_strips) placed.now)
         (capacity (take (6 * placed_strips) placed.now)) placed_firsts.now) }
 {
-    if !strip_counts_fit(
+    strip_counts_fit(
         sheet_strips,
         apart_strips,
         placed_strips,
@@ -209,10 +189,7 @@ pub fn rooms_fit(
         placed,
         sheet_firsts,
         placed_firsts,
-    ) {
-        return false;
-    }
-    if !shapes_fit(
+    ) && shapes_fit(
         taken,
         resolution,
         bounds,
@@ -224,15 +201,10 @@ pub fn rooms_fit(
         rows,
         kinds,
         shapes,
-    ) {
-        return false;
-    }
-    let sheet_end = 6 * sheet_strips;
-    let placed_end = 6 * placed_strips;
-    standing_fit(
+    ) && standing_fit(
         bounds,
-        &sheet[..sheet_end],
-        &placed[..placed_end],
+        &sheet[..6 * sheet_strips],
+        &placed[..6 * placed_strips],
         sheet_entries,
         placed_entries,
         sheet_starts,

@@ -14,62 +14,49 @@ use strips::Rect;
 pub fn within(start: usize, count: usize, whole: usize) -> bool
     ensures { result ≡ leb (start + count) whole }
 {
-    if count <= whole {
-        return start <= whole - count;
-    }
-    false
+    count <= whole && start <= whole - count
 }
 
 // An orientation's strips lie within the two parts of the shapes room.
+#[tactic(auto, unfolding(crate::specs::slot_tests::inner::Slots::part_test))]
 fn part_fits(p: Part, apart: usize, inset: usize) -> bool
     ensures { result ≡ part_test apart inset p }
 {
-    if within(p.apart_start, p.apart_count, apart) {
-        return within(p.inset_start, p.inset_count, inset);
-    }
-    false
+    within(p.apart_start, p.apart_count, apart) && within(p.inset_start, p.inset_count, inset)
 }
 
 // An orientation's strips and bounds.
+#[tactic(auto, unfolding(crate::specs::slot_tests::inner::Slots::shape_test))]
 fn shape_fits<'a>(p: Part, b: Rect, apart: &'a [f64], inset: &'a [f64]) -> bool
     ensures { (result ≡ shape_test p b apart.now inset.now) × (result ≡ true → BoundedRect b) }
 {
     let aparts = trapezoid::strips_of(apart, inset, false, p.apart_start, p.apart_count);
-    if !strip_tests::strips_fit(aparts) {
-        return false;
-    }
     let insets = trapezoid::strips_of(apart, inset, true, p.inset_start, p.inset_count);
-    if !strip_tests::strips_fit(insets) {
-        return false;
-    }
-    strip_tests::bounds_fit(b)
+    strip_tests::strips_fit(aparts) && strip_tests::strips_fit(insets) && strip_tests::bounds_fit(b)
 }
 
 // The last column; 0 where there is no look.
+#[tactic(auto, unfolding(crate::specs::slot_tests::inner::Slots::last_for))]
 fn last_for(k: Columns) -> usize
     requires { k.count ≤ 4000000000 }
     ensures { (result ≡ last_for k) × (result ≤ 4000000001) }
 {
-    if k.reversed() {
-        return 0;
-    }
-    k.last()
+    if k.reversed() { 0 } else { k.last() }
 }
 
 // The remembered column is one of the orientation's, or none; its look count is at most what the
 // copies taken can have cost. `next` is 0 for none, or one more than the column.
+#[tactic(auto, unfolding(crate::specs::slot_tests::inner::Slots::track_test))]
 pub fn track_fits(k: Columns, next: usize, looks: usize, taken: usize) -> bool
     requires { (k.count ≤ 4000000000) × (taken ≤ 4096) }
     ensures { result ≡ track_test taken (last_for k) next looks }
 {
     let last = last_for(k);
-    if next <= last + 1 {
-        return looks <= last + 1 + taken;
-    }
-    false
+    next <= last + 1 && looks <= last + 1 + taken
 }
 
 // The orientation of a slot.
+#[tactic(auto, unfolding(crate::specs::slot_tests::inner::Slots::slot_test))]
 fn slot_fits<'a>(
     bounds: Rect,
     resolution: f64,
@@ -88,15 +75,15 @@ fn slot_fits<'a>(
         next_column.now look_counts.now) slot }
 {
     let p = choose::part_at(parts, slot);
-    if !part_fits(p, trapezoid::capacity(apart), trapezoid::capacity(inset)) {
-        return false;
-    }
     let b = choose::bounds_at(inset_bounds, slot);
-    if !shape_fits(p, b, apart, inset) {
-        return false;
-    }
-    let k = Columns::new(bounds, b, resolution);
-    track_fits(k, next_column[slot], look_counts[slot], taken)
+    part_fits(p, trapezoid::capacity(apart), trapezoid::capacity(inset))
+        && shape_fits(p, b, apart, inset)
+        && track_fits(
+            Columns::new(bounds, b, resolution),
+            next_column[slot],
+            look_counts[slot],
+            taken,
+        )
 }
 
 // The orientations of a kind: the n slots from `first` on.
@@ -118,9 +105,8 @@ fn kind_fits<'a>(
     ensures { result ≡ kind_test (slots bounds resolution taken inset_bounds.now parts.now apart.now inset.now
         next_column.now look_counts.now) first n }
 {
-    let mut o = 0;
-    while o < n {
-        if slot_fits(
+    (0..n).all(|o| {
+        slot_fits(
             bounds,
             resolution,
             taken,
@@ -131,13 +117,8 @@ fn kind_fits<'a>(
             inset,
             next_column,
             look_counts,
-        ) {
-            o += 1;
-        } else {
-            return false;
-        }
-    }
-    true
+        )
+    })
 }
 
 // The orientations of every kind; rows hold how many each has, four numbers to a kind.
@@ -159,26 +140,19 @@ pub fn slots_fit<'a>(
     ensures { result ≡ slots_test (slots bounds resolution taken inset_bounds.now parts.now apart.now inset.now
         next_column.now look_counts.now) rows.now kinds }
 {
-    let mut k = 0;
-    while k < kinds {
-        let n = rows[4 * k + 3] as usize;
-        if kind_fits(
+    (0..kinds).all(|k| {
+        kind_fits(
             bounds,
             resolution,
             taken,
             16 * k,
-            n,
+            rows[4 * k + 3] as usize,
             inset_bounds,
             parts,
             apart,
             inset,
             next_column,
             look_counts,
-        ) {
-            k += 1;
-        } else {
-            return false;
-        }
-    }
-    true
+        )
+    })
 }

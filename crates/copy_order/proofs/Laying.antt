@@ -1,46 +1,33 @@
 -- Laws of copies laid one after another into the order. Assumes nothing.
 use Prim.Native.Nat.{ℕ, zero, suc, ◌+◌, ◌-◌, ◌*◌, ◌≤◌, ◌<◌}
 use native.Mathlib.Omega.{arith}
-use native.Mathlib.Numerals.{add-one}
-use mathlib.Core.Path.{◌≡◌, refl, ap, sym, ◌∙◌, subst}
-use mathlib.Core.List.{List, [], ◌∷◌, ◌++◌, flat_map, append_assoc, append-nil}
-use lib.ListN.{length, get_or, set, drop, replicate, length-append, length-drop, length-replicate, replicate-append-replicate}
-use lib.Seq.{drop-cons, set-append_seam, append_snoc}
+use mathlib.Core.Path.{◌≡◌, refl, ap, ap₂, sym, ◌∙◌, subst}
+use mathlib.Core.List.{List, [], ◌++◌, flat_map, append_assoc, append-nil}
+use lib.ListN.{length, get_or, take, drop, replicate, length-append, length-drop, length-replicate}
+use borrow.Rule.Slice.PartMut.{put_mid}
+use Rattle.std.proofs.lemmas.List.{length-take-le, take_at, drop_at, drop-drop}
 use Rattle.filling.specs.Rooms.{laid}
 use Rattle.slabs.specs.inner.Tables.{down}
 use Rattle.slabs.proofs.Sorting.{down-suc}
 use Rattle.copy_order.specs.inner.KindTables.{copies_at}
 
-length-laid : (xs room : List ℕ) → length (laid xs room) ≡ length xs + (length room - length xs)
-unfolding laid
-length-laid xs room = length-append xs (drop (length xs) room) ∙ ap (λ (n : ℕ). length xs + n) (length-drop (length xs) room)
-
 pub laid_none : (room : List ℕ) → laid [] room ≡ room
 unfolding laid
 laid_none room = refl
 
-laid_snoc : (xs room : List ℕ) (k : ℕ) → length xs < length room → set (laid xs room) (length xs) k ≡ laid (xs ++ (k ∷ [])) room
+-- n copies of kind k, from `at` on
+pub filled : (order ys xs room : List ℕ) (at n m k : ℕ) → at + n ≤ length order → m ≡ n → ys ≡ replicate (length (take m (drop at order))) k
+    → length xs ≡ at → order ≡ laid xs room → put_mid at m order ys ≡ laid (xs ++ replicate n k) room
 unfolding laid
-laid_snoc xs room k h =
-    let e : length (xs ++ (k ∷ [])) ≡ suc (length xs) = length-append xs (k ∷ []) ∙ add-one (length xs) in
-    ap (λ (r : List ℕ). set (xs ++ r) (length xs) k) (drop-cons room (length xs) 0 h)
-    ∙ (set-append_seam xs (get_or room (length xs) 0) (drop (suc (length xs)) room) k
-    ∙ (sym (append_snoc xs k (drop (suc (length xs)) room))
-    ∙ ap (λ (n : ℕ). (xs ++ (k ∷ [])) ++ drop n room) (sym e)))
-
--- one copy more
-pub put_copy : (order xs room : List ℕ) (at i k : ℕ) → length xs ≡ at → at + i < length order → order ≡ laid (xs ++ replicate i k) room → set order (at + i) k ≡ laid (xs ++ replicate (i + 1) k) room
-put_copy order xs room at i k e h s =
-    let ys = xs ++ replicate i k in
-    let l : length ys ≡ at + i = length-append xs (replicate i k) ∙ (ap (λ (n : ℕ). length xs + n) (length-replicate i k) ∙ ap (λ (n : ℕ). n + i) e) in
-    let w : length order ≡ length ys + (length room - length ys) = ap length s ∙ length-laid ys room in
-    ap (λ (o : List ℕ). set o (at + i) k) s
-    ∙ (ap (λ (n : ℕ). set (laid ys room) n k) (sym l)
-    ∙ (laid_snoc ys room k (omega arith)
-    ∙ ap (λ (t : List ℕ). laid t room) (append_assoc xs (replicate i k) (k ∷ []) ∙ ap (λ (t : List ℕ). xs ++ t) (replicate-append-replicate i 1 k))))
-
-pub no_copy : (order xs room : List ℕ) (k : ℕ) → order ≡ laid xs room → order ≡ laid (xs ++ replicate 0 k) room
-no_copy order xs room k s = s ∙ ap (λ (t : List ℕ). laid t room) (sym (append-nil xs))
+filled order ys xs room at n m k h q y e s =
+    let t : take at order ≡ xs = ap (take at) s ∙ take_at xs (drop (length xs) room) at e in
+    let d : drop at order ≡ drop (length xs) room = ap (drop at) s ∙ drop_at xs (drop (length xs) room) at e in
+    let w : length (take m (drop at order)) ≡ n = length-take-le m (drop at order) (let l = length-drop at order in omega arith) ∙ q in
+    let z : length xs + n ≡ length (xs ++ replicate n k) = sym (length-append xs (replicate n k) ∙ ap (λ (i : ℕ). length xs + i) (length-replicate n k)) in
+    let v : drop m (drop at order) ≡ drop (length (xs ++ replicate n k)) room =
+    ap (drop m) d ∙ (ap (λ (i : ℕ). drop i (drop (length xs) room)) q ∙ (drop-drop n (length xs) room ∙ ap (λ (i : ℕ). drop i room) z)) in
+    ap₂ (λ (a b : List ℕ). a ++ (b ++ drop m (drop at order))) t (y ∙ ap (λ (i : ℕ). replicate i k) w)
+    ∙ (ap (λ (l : List ℕ). xs ++ (replicate n k ++ l)) v ∙ sym (append_assoc xs (replicate n k) (drop (length (xs ++ replicate n k)) room)))
 
 -- the kinds' copies are laid from the line's end on; i kinds are left
 pub record Laying (c : ℕ → List ℕ) (f : ℕ → ℕ) (n i at : ℕ) (order₀ order : List ℕ) : Type 0 where

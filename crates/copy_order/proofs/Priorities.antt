@@ -1,20 +1,20 @@
 -- Laws of the comparisons of kinds. Assumes nothing.
-use Prim.Native.Nat.{ℕ, suc, ◌+◌, ◌-◌, ◌*◌, ◌≤◌}
+use Prim.Native.Nat.{ℕ, suc, ◌+◌, ◌-◌, ◌*◌, ◌≤◌, ◌<◌, min}
 use native.Mathlib.Omega.{arith}
-use mathlib.Core.Path.{◌≡◌, ap, sym, ◌∙◌}
+use mathlib.Core.Path.{◌≡◌, refl, ap, sym, ◌∙◌}
 use mathlib.Core.Bool.{Bool, true, false, not, ◌&&◌, ◌||◌, beq}
 use mathlib.Core.List.{List}
 use lib.ListN.{get_or}
 use lib.IntN.{negsuc}
 use lib.Dec.{ltb, eqb}
 use lib.Ieee.{Float, nan, lt, eq}
-use borrow.Author.Tests.{le-ltb, eq-eqb, ne_eqb}
+use borrow.Author.Tests.{le-ltb, ltb-true, ltb-false}
 use Rattle.kinds.specs.Kinds.{lower, signed}
 use Rattle.nesting.specs.CopyOrder.{Numbered, same_priority, larger_first, higher_first, ahead}
 use Rattle.copy_order.specs.inner.KindTables.{numbered_at}
 
 -- a number past 32 bits stands for −1, as 4,294,967,295 does
-pub past-bits : (p : ℕ) → 4294967296 ≤ p → signed 4294967295 ≡ signed p
+past-bits : (p : ℕ) → 4294967296 ≤ p → signed 4294967295 ≡ signed p
 unfolding signed
 past-bits p h = ap negsuc (sym e) ∙ sym negative
   where
@@ -24,11 +24,27 @@ past-bits p h = ap negsuc (sym e) ∙ sym negative
     negative : signed p ≡ negsuc (4294967296 - suc p)
     negative = rw (le-ltb p 2147483648 (omega arith), signed)
 
-both-fill : (f g h : Bool) → f ≡ true → g ≡ true → h ≡ ((not f && g) || beq f g && h)
-both-fill f g h e i = rw (e, i)
+-- a priority as 32 bits
+pub in_bits : (p m : ℕ) → m ≡ min p 4294967295 → (m < 4294967296) × (signed m ≡ signed p)
+in_bits p m e = (omega arith, go (ltb p 4294967296) refl)
+  where
+    go : (t : Bool) → ltb p 4294967296 ≡ t → signed m ≡ signed p
+    go true f = let h = ltb-true p 4294967296 f in let z : m ≡ p = omega arith in ap signed z
+    go false f = let h = ltb-false p 4294967296 f in let z : m ≡ 4294967295 = omega arith in ap signed z ∙ past-bits p h
 
-none_fills : (f g h : Bool) → f ≡ false → g ≡ false → h ≡ ((not f && g) || beq f g && h)
-none_fills f g h e i = rw (e, i)
+-- one of two alone is a fill kind
+apart : (f g h : Bool) → not (beq f g) ≡ true → g ≡ ((not f && g) || beq f g && h)
+apart true true h e = cc
+apart true false h e = refl
+apart false true h e = refl
+apart false false h e = cc
+
+-- both are, or neither
+alike : (f g h : Bool) → not (beq f g) ≡ false → h ≡ ((not f && g) || beq f g && h)
+alike true true h e = refl
+alike true false h e = cc
+alike false true h e = cc
+alike false false h e = refl
 
 module _ (rows : List ℕ) (areas : List Float) (a b : ℕ) where
   abbrev one : Numbered
@@ -43,30 +59,25 @@ module _ (rows : List ℕ) (areas : List Float) (a b : ℕ) where
   abbrev pub larger_at : Bool
   larger_at = lt (get_or areas b nan) (get_or areas a nan) || eq (get_or areas b nan) (get_or areas a nan) && ltb a b
 
-  pub higher_yes : (r : Bool) → r ≡ lower_at b a → r ≡ true → true ≡ higher_first one two
+  pub higher_yes : (r : Bool) → r ≡ lower_at b a → r ≡ true → r ≡ higher_first one two
   unfolding higher_first numbered_at
-  higher_yes r e t = rw (sym e ∙ t)
+  higher_yes r e t = rw (sym e ∙ t) t
 
-  pub higher_no : (r s : Bool) → r ≡ lower_at b a → r ≡ false → s ≡ lower_at a b → s ≡ true → false ≡ higher_first one two
+  pub higher_no : (r s : Bool) → r ≡ lower_at b a → r ≡ false → s ≡ lower_at a b → s ≡ true → not s ≡ higher_first one two
   unfolding higher_first same_priority numbered_at
-  higher_no r s e t f u = rw (sym e ∙ t, sym f ∙ u)
+  higher_no r s e t f u = rw (u, sym e ∙ t, sym f ∙ u)
 
   pub higher_same : (r s q : Bool) → r ≡ lower_at b a → r ≡ false → s ≡ lower_at a b → s ≡ false → q ≡ larger_at → q ≡ higher_first one two
   unfolding higher_first same_priority larger_first numbered_at
   higher_same r s q e t f u g = rw (sym e ∙ t, sym f ∙ u) g
 
-  pub ahead_fills : (q : Bool) → get_or rows (4 * a + 1) 0 ≡ 1 → get_or rows (4 * b + 1) 0 ≡ 1 → q ≡ higher_first one two → q ≡ ahead one two
-  unfolding ahead numbered_at
-  ahead_fills q f g e = e ∙ both-fill (eqb (get_or rows (4 * a + 1) 0) 1) (eqb (get_or rows (4 * b + 1) 0) 1) (higher_first one two) (eq-eqb (get_or rows (4 * a + 1) 0) 1 f) (eq-eqb (get_or rows (4 * b + 1) 0) 1 g)
+  abbrev fill_at : ℕ → Bool
+  fill_at k = eqb (get_or rows (4 * k + 1) 0) 1
 
-  pub ahead-fill : get_or rows (4 * a + 1) 0 ≡ 1 → (get_or rows (4 * b + 1) 0 ≡ 1 → ⊥) → false ≡ ahead one two
+  pub ahead_apart : not (beq (fill_at a) (fill_at b)) ≡ true → fill_at b ≡ ahead one two
   unfolding ahead numbered_at
-  ahead-fill f g = rw (f, ne_eqb (get_or rows (4 * b + 1) 0) 1 g)
+  ahead_apart e = apart (fill_at a) (fill_at b) (higher_first one two) e
 
-  pub ahead_ordinary : (get_or rows (4 * a + 1) 0 ≡ 1 → ⊥) → get_or rows (4 * b + 1) 0 ≡ 1 → true ≡ ahead one two
+  pub ahead_alike : (q : Bool) → not (beq (fill_at a) (fill_at b)) ≡ false → q ≡ higher_first one two → q ≡ ahead one two
   unfolding ahead numbered_at
-  ahead_ordinary f g = rw (g, ne_eqb (get_or rows (4 * a + 1) 0) 1 f)
-
-  pub ahead_ordinaries : (q : Bool) → (get_or rows (4 * a + 1) 0 ≡ 1 → ⊥) → (get_or rows (4 * b + 1) 0 ≡ 1 → ⊥) → q ≡ higher_first one two → q ≡ ahead one two
-  unfolding ahead numbered_at
-  ahead_ordinaries q f g e = e ∙ none_fills (eqb (get_or rows (4 * a + 1) 0) 1) (eqb (get_or rows (4 * b + 1) 0) 1) (higher_first one two) (ne_eqb (get_or rows (4 * a + 1) 0) 1 f) (ne_eqb (get_or rows (4 * b + 1) 0) 1 g)
+  ahead_alike q e f = f ∙ alike (fill_at a) (fill_at b) (higher_first one two) e

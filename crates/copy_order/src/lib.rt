@@ -21,11 +21,7 @@ fn priority_at(rows: &[u64], k: usize) -> u64
     requires { 4 * k + 4 ≤ length rows.now }
     ensures { (result < 4294967296) × (signed result ≡ signed (get_or rows.now (4 * k + 2) 0)) }
 {
-    let p = rows[4 * k + 2];
-    if p < 4294967296 {
-        return p;
-    }
-    4294967295
+    rows[4 * k + 2].min(4294967295)
 }
 
 // Whether kind a's priority is lower than kind b's.
@@ -44,13 +40,7 @@ fn larger_first(areas: &[f64], a: usize, b: usize) -> bool
 {
     let x = areas[a];
     let y = areas[b];
-    if y < x {
-        return true;
-    }
-    if y == x {
-        return a < b;
-    }
-    false
+    y < x || (y == x && a < b)
 }
 
 // Higher priority first.
@@ -58,13 +48,7 @@ fn higher_first(rows: &[u64], areas: &[f64], a: usize, b: usize) -> bool
     requires { (a < 64) × (b < 64) × (256 ≤ length rows.now) × (64 ≤ length areas.now) }
     ensures { result ≡ higher_first (numbered_at rows.now areas.now a) (numbered_at rows.now areas.now b) }
 {
-    if lower_at(rows, b, a) {
-        return true;
-    }
-    if lower_at(rows, a, b) {
-        return false;
-    }
-    larger_first(areas, a, b)
+    lower_at(rows, b, a) || (!lower_at(rows, a, b) && larger_first(areas, a, b))
 }
 
 // Whether kind a's copies come before kind b's.
@@ -72,16 +56,10 @@ fn ahead(rows: &[u64], areas: &[f64], a: usize, b: usize) -> bool
     requires { (a < 64) × (b < 64) × (256 ≤ length rows.now) × (64 ≤ length areas.now) }
     ensures { result ≡ ahead (numbered_at rows.now areas.now a) (numbered_at rows.now areas.now b) }
 {
-    let fill_a = rows[4 * a + 1];
-    let fill_b = rows[4 * b + 1];
-    if fill_a == 1 {
-        if fill_b == 1 {
-            return higher_first(rows, areas, a, b);
-        }
-        return false;
-    }
-    if fill_b == 1 {
-        return true;
+    let fill_a = rows[4 * a + 1] == 1;
+    let fill_b = rows[4 * b + 1] == 1;
+    if fill_a != fill_b {
+        return fill_b;
     }
     higher_first(rows, areas, a, b)
 }
@@ -94,17 +72,15 @@ fn insert_kind(rows: &[u64], areas: &[f64], line: &mut [usize], n: usize, k: usi
         (down (λ (i : ℕ). numbered_at rows.now areas.now (get_or line.old i 0)) n))
         × ((i : ℕ) → i < n + 1 → get_or line.new i 0 < 64) }
 {
-    let mut i = n;
-    while i > 0 {
-        let b = line[i - 1];
-        if ahead(rows, areas, b, k) {
-            line[i] = b;
-        } else {
-            break;
+    for i in (0..n).rev() {
+        let b = line[i];
+        if !ahead(rows, areas, b, k) {
+            line[i + 1] = k;
+            return;
         }
-        i -= 1;
+        line[i + 1] = b;
     }
-    line[i] = k;
+    line[0] = k;
 }
 
 // The kinds, sorted; the first stands last.
@@ -114,22 +90,8 @@ fn sort_kinds(rows: &[u64], areas: &[f64], kinds: usize, line: &mut [usize])
         ≡ sort ahead (up (numbered_at rows.now areas.now) 0 kinds))
         × ((i : ℕ) → i < kinds → get_or line.new i 0 < 64) }
 {
-    let mut k = kinds;
-    while k > 0 {
-        k -= 1;
+    for k in (0..kinds).rev() {
         insert_kind(rows, areas, line, kinds - k - 1, k);
-    }
-}
-
-// n copies of kind k, from place `at` on.
-fn put_copies(order: &mut [usize], at: usize, n: usize, k: usize)
-    requires { at + n ≤ length order.old }
-    ensures { (xs room : List ℕ) → length xs ≡ at → order.old ≡ laid xs room → order.new ≡ laid (xs ++ replicate n k) room }
-{
-    let mut i = 0;
-    while i < n {
-        order[at + i] = k;
-        i += 1;
     }
 }
 
@@ -140,13 +102,11 @@ fn put_kinds(rows: &[u64], kinds: usize, line: &[usize], order: &mut [usize]) ->
     ensures { (result ≡ length (flat_map (copies_at rows.now) (down (λ (i : ℕ). get_or line.now i 0) kinds)))
         × (order.new ≡ laid (flat_map (copies_at rows.now) (down (λ (i : ℕ). get_or line.now i 0) kinds)) order.old) }
 {
-    let mut i = kinds;
     let mut at = 0;
-    while i > 0 {
-        i -= 1;
+    for i in (0..kinds).rev() {
         let k = line[i];
         let n = rows[4 * k] as usize;
-        put_copies(order, at, n, k);
+        order[at..at + n].fill(k);
         at += n;
     }
     at
@@ -158,7 +118,7 @@ pub fn copy_order(rows: &[u64], areas: &[f64], kinds: usize, order: &mut [usize]
     ensures { (j : Job) → Tabled j rows.now areas.now → length j.kinds ≡ kinds → (result ≡ length (copy_order j))
         × (order.new ≡ laid (copy_order j) order.old) }
 {
-    let mut line = [0usize; 64];
+    let mut line = [0; 64];
     sort_kinds(rows, areas, kinds, &mut line);
     put_kinds(rows, kinds, &line, order)
 }

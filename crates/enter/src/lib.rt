@@ -4,7 +4,7 @@
 
 pub mod span_marks;
 
-ghost use Rattle.std.specs.Prelude.{◌≡◌, true, false, ℕ, ◌+◌, ◌-◌, ◌*◌, ◌≤◌, ◌<◌, max, length, get_or};
+ghost use Rattle.std.specs.Prelude.{◌≡◌, true, false, ℕ, ◌+◌, ◌-◌, ◌*◌, ◌≤◌, ◌<◌, length, get_or, IfSome, IfNone};
 ghost use Rattle.index.specs.Buckets.{buckets, strip_numbers};
 ghost use Rattle.index.specs.inner.Listing.{Laid, entered_from};
 ghost use Rattle.enter.specs.inner.EntryRoom.{start_of, enter_of, FirstsWritten};
@@ -16,20 +16,9 @@ use index::{Bucket, Entry, Index};
 // So many entries in all are 16 to a bucket.
 const LONG: usize = 8192;
 
-// The larger of two.
-fn later(a: usize, b: usize) -> usize
-    ensures { result ≡ max a b }
-{
-    if a < b {
-        return b;
-    }
-    a
-}
-
-// Whether the room holds the new entries; if so how many, from which bucket on and before which.
+// How many new entries there are, from which bucket on and before which.
 #[derive(Clone, Copy)]
 struct Window {
-    fits: bool,
     more: usize,
     first: usize,
     end: usize,
@@ -44,40 +33,28 @@ fn measure(
     left: usize,
     firsts: &mut [u16],
     lasts: &mut [u16],
-) -> Window
+) -> Option<Window>
     requires { (from ≤ to) × (6 * to ≤ length standing.now) × (length firsts.old ≡ 64) × (length lasts.old ≡ 64) }
-    ensures { (result.fits ≡ true → (start_of ix standing.now to buckets ≡ start_of ix standing.now from buckets + result.more)
-        × (result.more ≤ left) × (result.end ≤ buckets) × Within ix standing.now from to result.first result.end
-        × Kept ix standing.now from (to - from) firsts.new lasts.new)
-        × (result.fits ≡ false → start_of ix standing.now from buckets + left < start_of ix standing.now to buckets) }
+    ensures fits { IfSome result (λ w. (start_of ix standing.now to buckets ≡ start_of ix standing.now from buckets + w.more)
+        × (w.more ≤ left) × (w.end ≤ buckets) × Within ix standing.now from to w.first w.end
+        × Kept ix standing.now from (to - from) firsts.new lasts.new) }
+    ensures over { IfNone result (start_of ix standing.now from buckets + left < start_of ix standing.now to buckets) }
 {
     let mut more: usize = 0;
     let mut first: usize = Index::BUCKETS;
     let mut end: usize = 0;
-    let mut i = from;
-    while i < to {
+    for i in from..to {
         let s = span_marks::span_of(ix, standing, i);
-        let width = span_marks::width_of(s.lo, s.hi);
+        let width = s.width();
         if left - more < width {
-            return Window {
-                fits: false,
-                more: 0,
-                first: 0,
-                end: 0,
-            };
+            return None;
         }
         more += width;
-        first = index::fewer(first, s.lo);
-        end = later(end, s.hi + 1);
+        first = first.min(s.lo);
+        end = end.max(s.hi + 1);
         span_marks::keep(firsts, lasts, i - from, s.lo, s.hi);
-        i += 1;
     }
-    Window {
-        fits: true,
-        more: more,
-        first: first,
-        end: end,
-    }
+    Some(Window { more, first, end })
 }
 
 // Puts a strip's number at the end of each of the buckets lo to hi.
@@ -86,12 +63,11 @@ fn fill_strip(entries: &mut [Entry], starts: &mut [usize], number: usize, lo: us
         × (number < strip_numbers) }
     ensures { rooms entries.new starts.new ≡ filled number (hi + 1 - lo) lo (rooms entries.old starts.old) }
 {
-    let mut b = lo;
-    while b <= hi {
+    // not `lo..=hi`: its proof did not close
+    for b in lo..hi + 1 {
         let e = starts[b + 1];
         gaps::set_entry(entries, e, number);
         starts[b + 1] = e + 1;
-        b += 1;
     }
 }
 
@@ -112,11 +88,9 @@ fn fill(
     ensures { Blocks (start_of ix standing.now to) (entered_from ix standing.now to) entries.new starts.new
         × ((j : ℕ) → start_of ix standing.now to buckets ≤ j → get_or entries.new j 0 ≡ get_or entries.old j 0) }
 {
-    let mut i = from;
-    while i < to {
+    for i in from..to {
         let s = span_marks::kept_span(ix, standing, from, i, firsts, lasts);
         fill_strip(entries, starts, i, s.lo, s.hi);
-        i += 1;
     }
 }
 
@@ -138,16 +112,15 @@ fn enter_many(
     let mut firsts = [0u16; 64];
     let mut lasts = [0u16; 64];
     let left = entries.len() - starts[Index::BUCKETS];
-    let w = measure(ix, standing, from, to, left, &mut firsts, &mut lasts);
-    if w.fits {
-        span_marks::mark_all(
-            ix, standing, from, to, &firsts, &lasts, w.first, w.end, gains,
-        );
-        gaps::open_all(entries, starts, gains, to - from, w.more, w.end);
-        fill(ix, standing, from, to, &firsts, &lasts, entries, starts);
-        return true;
-    }
-    false
+    let Some(w) = measure(ix, standing, from, to, left, &mut firsts, &mut lasts) else {
+        return false;
+    };
+    span_marks::mark_all(
+        ix, standing, from, to, &firsts, &lasts, w.first, w.end, gains,
+    );
+    gaps::open_all(entries, starts, gains, to - from, w.more, w.end);
+    fill(ix, standing, from, to, &firsts, &lasts, entries, starts);
+    true
 }
 
 // Enters strip `from` alone, as `enter_copy` does: each of its buckets has one new entry.
@@ -165,7 +138,7 @@ fn enter_one(
 {
     let s = span_marks::span_of(ix, standing, from);
     let lo = s.lo;
-    let width = span_marks::width_of(lo, s.hi);
+    let width = s.width();
     let all = starts[Index::BUCKETS];
     if entries.len() - all < width {
         return false;
@@ -205,12 +178,10 @@ fn keep_firsts(ix: Index, standing: &[f64], from: usize, to: usize, firsts: &mut
     requires { (from ≤ to) × (6 * to ≤ length standing.now) × (to ≤ length firsts.old) }
     ensures { FirstsWritten ix standing.now from to firsts.old firsts.new }
 {
-    let mut i = from;
-    while i < to {
+    for i in from..to {
         let p = trapezoid::load(standing, i);
         let first = ix.bucket(p.x0);
         firsts[i] = first as u16;
-        i += 1;
     }
 }
 

@@ -6,22 +6,21 @@ ghost use Rattle.enter.specs.span_marks.inner.NewEntries.{new_in, one, Within, K
 
 use index::Index;
 
-// How many buckets there are from lo to hi.
-pub fn width_of(lo: usize, hi: usize) -> usize
-    requires { hi < buckets }
-    ensures { result ≡ hi + 1 - lo }
-{
-    if lo <= hi {
-        return hi + 1 - lo;
-    }
-    0
-}
-
 // The first and the last bucket of a strip.
 #[derive(Clone, Copy)]
 pub struct Span {
     pub lo: usize,
     pub hi: usize,
+}
+
+impl Span {
+    // How many buckets there are from lo to hi.
+    pub fn width(self) -> usize
+        requires { self.hi < buckets }
+        ensures { result ≡ self.hi + 1 - self.lo }
+    {
+        (self.hi + 1).saturating_sub(self.lo)
+    }
 }
 
 // The buckets of strip i.
@@ -32,7 +31,7 @@ pub fn span_of(ix: Index, standing: &[f64], i: usize) -> Span
     let p = trapezoid::load(standing, i);
     let lo = ix.bucket(p.x0);
     let hi = ix.bucket(p.x1);
-    Span { lo: lo, hi: hi }
+    Span { lo, hi }
 }
 
 // How many of a copy's strips have their buckets kept.
@@ -66,9 +65,9 @@ pub fn kept_span(
 {
     let j = i - from;
     if j < KEPT {
-        let lo = firsts[j] as usize;
-        let hi = lasts[j] as usize;
-        return Span { lo: lo, hi: hi };
+        let lo = usize::from(firsts[j]);
+        let hi = usize::from(lasts[j]);
+        return Span { lo, hi };
     }
     span_of(ix, standing, i)
 }
@@ -78,10 +77,9 @@ fn clear(marks: &mut [usize], first: usize, end: usize, count: usize)
     requires { end ≤ length marks.old }
     ensures { (b : ℕ) → first ≤ b → b < end → get_or marks.new b 0 ≡ count }
 {
-    let mut b = first;
-    while b < end {
+    // no `fill` of a slice: with no strips, `first` lies after `end`
+    for b in first..end {
         marks[b] = count;
-        b += 1;
     }
 }
 
@@ -92,9 +90,9 @@ fn mark(marks: &mut [usize], lo: usize, hi: usize, first: usize)
     ensures { (b : ℕ) → first ≤ b → get_or marks.new b 0 + one lo hi (b + 1) ≡ get_or marks.old b 0 + one lo hi b }
 {
     if lo <= hi {
-        marks[hi] = marks[hi] + 1;
+        marks[hi] += 1;
         if first < lo {
-            marks[lo - 1] = marks[lo - 1] - 1;
+            marks[lo - 1] -= 1;
         }
     }
 }
@@ -118,10 +116,8 @@ pub fn mark_all(
         ≡ to - from + length (new_in ix standing.now (to - from) from b) }
 {
     clear(marks, first, end, to - from);
-    let mut i = from;
-    while i < to {
+    for i in from..to {
         let s = kept_span(ix, standing, from, i, firsts, lasts);
         mark(marks, s.lo, s.hi, first);
-        i += 1;
     }
 }

@@ -10,9 +10,8 @@ ghost use Rattle.report.specs.inner.Replies.{reply, reply_of};
 ghost use Rattle.report.specs.Lent.{answered};
 ghost use Rattle.report.specs.readied.inner.Zeroed.{Zeroed};
 
-use filling::Refusal;
+use filling::{Plan, Refusal};
 use index::{Bucket, Entry};
-use job::JobRead;
 use report::NestResult;
 
 // The filling of the job that the bytes are, in rooms that are zero.
@@ -28,7 +27,7 @@ fn fill_bytes(
     positions: &mut [f64],
     sheet_firsts: &mut [Bucket],
     placed_firsts: &mut [Bucket],
-) -> NestResult
+) -> Result<Plan, Refusal>
     requires { (l : Lent) × Zeroed l shapes.old sheet.old placed.old sheet_entries.old placed_entries.old
         intervals.old positions.old sheet_firsts.old placed_firsts.old }
     ensures { (l : Lent) → Zeroed l shapes.old sheet.old placed.old sheet_entries.old
@@ -36,38 +35,30 @@ fn fill_bytes(
         → reply result positions.new ≡ reply_of (fill_of bytes.now order.now l) }
 {
     let j = job::read(bytes);
-    let rows = j.rows;
-    let areas = j.areas;
-    let places = j.places;
-    let answer = j.answer;
-    match answer {
-        JobRead::Good(h, at, copies) => {
-            let n = copies as usize;
-            plan_job::fill_job::fill_job(
-                bytes,
-                at,
-                h,
-                n,
-                order,
-                &rows,
-                &areas,
-                &places,
-                shapes,
-                sheet,
-                placed,
-                sheet_entries,
-                placed_entries,
-                intervals,
-                positions,
-                sheet_firsts,
-                placed_firsts,
-            )
-        }
-        JobRead::NoJob(k) => report::refused(Refusal::Job(k)),
-    }
+    let (h, at, copies) = j.answer?;
+    plan_job::fill_job::fill_job(
+        bytes,
+        at,
+        h,
+        copies as usize,
+        order,
+        &j.rows,
+        &j.areas,
+        &j.places,
+        shapes,
+        sheet,
+        placed,
+        sheet_entries,
+        placed_entries,
+        intervals,
+        positions,
+        sheet_firsts,
+        placed_firsts,
+    )
 }
 
 // The filling of the job in the given order: its verdict and plan; the positions lie in their room.
+// `nest` clears and answers alike: one function for both would take a closure over nine rooms.
 pub fn fill(
     bytes: &[u8],
     order: &[usize],
@@ -87,7 +78,7 @@ pub fn fill(
         (lent_of shapes.old sheet.old placed.old sheet_entries.old placed_entries.old
         sheet_firsts.old placed_firsts.old intervals.old positions.old) }
 {
-    rooms::zero(positions);
+    positions.fill(0.0);
     report::clear(
         shapes,
         sheet,
@@ -121,5 +112,5 @@ pub fn fill(
         sheet_firsts,
         placed_firsts,
     );
-    r
+    NestResult::from(r)
 }

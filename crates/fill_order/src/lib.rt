@@ -10,30 +10,13 @@ ghost use Rattle.filling.specs.Shapes.{planner_of};
 ghost use Rattle.filling.specs.Rooms.{Lent};
 ghost use Rattle.filling.specs.Order.{rearranged};
 ghost use Rattle.filling.specs.Fill.{fill_order};
-ghost use Rattle.filling_laws.specs.fill_laws.inner.Prepared.{given_in, Prepared, SheetFirsts, next_after, filling_in};
+ghost use Rattle.filling_laws.specs.fill_laws.inner.Prepared.{given_in, Prepared, SheetFirsts};
+ghost use Rattle.fill_order.specs.inner.Filled.{filled_in};
 
 use choose::Grid;
-use filling::Verdict;
+use filling::Refusal;
 use index::{Bucket, Entry};
 use place::Totals;
-
-// What a filling answers beside the layout: accepted, or the refusal first met.
-#[derive(Clone, Copy)]
-pub struct Filled {
-    pub verdict: Verdict,
-    pub totals: Totals,
-}
-
-// The copy or turn that comes after number i of n: none after a refusal.
-pub fn next_after(v: Verdict, i: usize, n: usize) -> usize
-    requires { i < n }
-    ensures { result ≡ next_after v i n }
-{
-    match v {
-        Verdict::Accepted => i + 1,
-        Verdict::Refused(_) => n,
-    }
-}
 
 // Every copy of the order, from no copy on.
 fn fill_copies(
@@ -56,7 +39,7 @@ fn fill_copies(
     spots: &mut [f64],
     sheet_firsts: &[Bucket],
     firsts: &mut [Bucket],
-) -> Filled
+) -> Result<Totals, Refusal>
     requires { ((j : Job) × Prepared j (given_in g rows.now areas.now inset_bounds.now parts.now shapes.now sheet.now
         sheet_entries.now sheet_starts.now) × (rearranged j order.now ≡ true))
         × (6 * g.apart_strips ≤ length shapes.now) × (track_numbers ≤ length tracks.old) × (spot_numbers ≤ length spots.old)
@@ -68,18 +51,14 @@ fn fill_copies(
         shapes.now sheet.now sheet_entries.now sheet_starts.now) → rearranged j order.now ≡ true
         → (l : Lent) → length l.rooms.placed ≡ length placed.old → length l.rooms.placed_entries ≡ length entries.old
         → length l.intervals ≡ length room.old → length l.rooms.placed_firsts ≡ length firsts.old
-        → filling_in result.verdict (planner_of j) order.now tracks.new result.totals spots.new
-        ≡ fill_order j l order.now }
+        → filled_in result (planner_of j) order.now tracks.new spots.new ≡ fill_order j l order.now }
 {
-    let n = order.len();
-    let mut verdict = Verdict::Accepted;
     let mut t = Totals {
         placed_strips: 0,
         right: g.bounds.left,
         unplaced_area: 0.0,
     };
-    let mut i = 0;
-    while i < n {
+    for i in 0..order.len() {
         let step = place::next::place_next(
             g,
             place::copy_at(order, rows, areas, i),
@@ -101,30 +80,10 @@ fn fill_copies(
             sheet_firsts,
             firsts,
         );
-        let totals = step.totals;
-        t = totals;
-        let o = step.outcome;
-        verdict = place::verdict_of(o);
-        i = next_after(verdict, i, n);
+        step.outcome?;
+        t = step.totals;
     }
-    Filled {
-        verdict: verdict,
-        totals: t,
-    }
-}
-
-// The starts of the buckets before the first copy.
-fn no_starts() -> [usize; 513]
-    ensures { result ≡ replicate 513 0 }
-{
-    [0; 513]
-}
-
-// A table of work.
-fn no_gains() -> [usize; 512]
-    ensures { length result ≡ buckets }
-{
-    [0; 512]
+    Ok(t)
 }
 
 // The filling in the given order. What placed rooms, tracks, spots and intervals hold before does not
@@ -147,7 +106,7 @@ pub fn fill_order(
     spots: &mut [f64],
     sheet_firsts: &[Bucket],
     firsts: &mut [Bucket],
-) -> Filled
+) -> Result<Totals, Refusal>
     requires { ((j : Job) × Prepared j (given_in g rows.now areas.now inset_bounds.now parts.now shapes.now sheet.now
         sheet_entries.now sheet_starts.now) × (rearranged j order.now ≡ true))
         × (6 * g.apart_strips ≤ length shapes.now) × (track_numbers ≤ length tracks.old) × (spot_numbers ≤ length spots.old)
@@ -157,12 +116,11 @@ pub fn fill_order(
         shapes.now sheet.now sheet_entries.now sheet_starts.now) → rearranged j order.now ≡ true
         → (l : Lent) → length l.rooms.placed ≡ length placed.old → length l.rooms.placed_entries ≡ length entries.old
         → length l.intervals ≡ length room.old → length l.rooms.placed_firsts ≡ length firsts.old
-        → filling_in result.verdict (planner_of j) order.now tracks.new result.totals spots.new
-        ≡ fill_order j l order.now }
+        → filled_in result (planner_of j) order.now tracks.new spots.new ≡ fill_order j l order.now }
 {
     rooms::tracks::reset(tracks);
-    let mut starts = no_starts();
-    let mut gains = no_gains();
+    let mut starts = [0; 513];
+    let mut gains = [0; 512];
     fill_copies(
         g,
         order,

@@ -1,4 +1,5 @@
 -- An accepted start: state and rooms are those of the job's own planner. Assumes nothing.
+use Rattle.std.specs.Prelude.{Result, Ok, Err}
 use mathlib.Core.Path.{◌≡◌, refl, sym, ap, ap₂, subst, ◌∙◌}
 use mathlib.Core.Logic.{◌⊎◌, inl, inr}
 use mathlib.Core.Bool.{Bool, true, false, not, ◌&&◌}
@@ -21,8 +22,6 @@ use Rattle.frames.specs.Frames.{framed}
 use Rattle.job.specs.Jobs.{Job, frame_of, accepted, read_job}
 use Rattle.filling.specs.declared.Refusal.{Refusal}
 use Rattle.filling.specs.declared.Refusal.TheVariants as Why
-use Rattle.filling.specs.declared.Verdict.{Verdict}
-use Rattle.filling.specs.declared.Verdict.TheVariants.{Accepted, Refused}
 use Rattle.filling.specs.Shapes.{Shape, Planner, planner_of, set_strips, shape_for, no_shape, shape_of, copies_from, standing_strips}
 use Rattle.filling.specs.Search.{column, Track}
 use Rattle.filling.specs.Rooms.{Rooms, Lent, laid, zeros}
@@ -344,9 +343,9 @@ rearranged-length j order e = eqb→eq (length order) j.copies (rw (both_first (
 
 pub record Begun (j : Job) (order : List ℕ) (l : Lent) : Type 0 where
   pub rearranges : rearranged j order ≡ true
-  pub prepared : prepare_verdict (planner_of j) l.rooms ≡ Accepted
+  pub prepared : prepare_verdict (planner_of j) l.rooms ≡ Ok tt
 
-pub begun : (j : Job) (order : List ℕ) (l : Lent) → start_verdict j order l ≡ Accepted → Begun j order l
+pub begun : (j : Job) (order : List ℕ) (l : Lent) → start_verdict j order l ≡ Ok tt → Begun j order l
 unfolding start_verdict
 begun j order l e =
     let a = (later_accepted _ Why.PositionRoom _ e).1 in
@@ -358,7 +357,7 @@ begun j order l e =
     back false q = sym q
 
 -- an accepted start's sheet has at most as many strips as its room is used for
-pub prepared-few : (p : Planner) (w : Rooms) → prepare_verdict p w ≡ Accepted → capacity p.sheet ≤ strip_numbers
+pub prepared-few : (p : Planner) (w : Rooms) → prepare_verdict p w ≡ Ok tt → capacity p.sheet ≤ strip_numbers
 unfolding prepare_verdict
 prepared-few p w e =
     let n = standing_capacity w.sheet w.sheet_firsts in
@@ -366,28 +365,28 @@ prepared-few p w e =
     standing-few (capacity p.sheet) w.sheet w.sheet_firsts (nltb→le n (capacity p.sheet) (rw a tt))
 
 pub record Started (j : Job) (order : List ℕ) (l : Lent) (r : Start) : Type 0 where
-  pub verdict_is : start_verdict j order l ≡ Accepted
+  pub verdict_is : start_verdict j order l ≡ Ok tt
   pub state_is : r.state ≡ first_state (planner_of j) order
   pub rooms_is : r.lent.rooms ≡ first_rooms (planner_of j) l.rooms
 
 module _ (j : Job) (order : List ℕ) (l : Lent) where
-  pub start-refused : (k : Refusal) → start_verdict j order l ≡ Refused k → start_job j order l ≡ no_start k l
+  pub start-refused : (k : Refusal) → start_verdict j order l ≡ Err k → start_job j order l ≡ no_start k l
   unfolding start_job
   start-refused k e = rw (e, start_job)
 
-  pub start-good : start_verdict j order l ≡ Accepted → start_job j order l ≡ good_start (planner_of j) order l
+  pub start-good : start_verdict j order l ≡ Ok tt → start_job j order l ≡ good_start (planner_of j) order l
   unfolding start_job
   start-good e = rw (e, start_job)
 
-  job_started : (start_job j order l).verdict ≡ Accepted → Started j order l (start_job j order l)
+  job_started : (start_job j order l).verdict ≡ Ok tt → Started j order l (start_job j order l)
   unfolding good_start no_start
   job_started e = go (start_verdict j order l) refl
     where
-      go : (v : Verdict) → start_verdict j order l ≡ v → Started j order l (start_job j order l)
-      go (Refused k) d = absurd (refused≢accepted (sym (ap (λ r. r.verdict) (start-refused k d)) ∙ e))
-      go Accepted d = record { verdict_is = d; state_is = ap (λ r. r.state) (start-good d); rooms_is = ap (λ r. r.lent.rooms) (start-good d) }
+      go : (v : Result (Unit {0}) Refusal) → start_verdict j order l ≡ v → Started j order l (start_job j order l)
+      go (Err k) d = absurd (refused≢accepted (sym (ap (λ r. r.verdict) (start-refused k d)) ∙ e))
+      go (Ok tt) d = record { verdict_is = d; state_is = ap (λ r. r.state) (start-good d); rooms_is = ap (λ r. r.lent.rooms) (start-good d) }
 
-pub start-accepted : (bytes order : List ℕ) (l : Lent) (j : Job) → read_job bytes ≡ accepted j → (start_of bytes order l).verdict ≡ Accepted → Started j order l
+pub start-accepted : (bytes order : List ℕ) (l : Lent) (j : Job) → read_job bytes ≡ accepted j → (start_of bytes order l).verdict ≡ Ok tt → Started j order l
     (start_of bytes order l)
 unfolding start_of start_given
 start-accepted bytes order l j d e = rw d (job_started j order l (rw d at e))

@@ -14,16 +14,15 @@ use Rattle.filling.specs.State.{remembered_number, track_at, tracks_of, zero_tab
 use Rattle.filling.specs.Order.{count_in, in_full, rearranged}
 use Rattle.filling.specs.Consistent.{every, bounded, strip_fits, strips_fit, bounds_fit, taken_fits, strip_counts_fit, part_fits, parts_fit, column_fits}
 use Rattle.filling.specs.Consistent.{track_fits, tracks_fit, track_table_fits, resolution_fits, shape_fits}
-use Rattle.filling.specs.Consistent.{planner_fits, layout_fits, gap_fits, gaps_fit, same_numbers, numbers_lie}
-use Rattle.filling.specs.Consistent.{orientation_fits, position_fits, same_doubles, copies_fit}
+use Rattle.filling.specs.Consistent.{planner_fits, layout_fits, gap_fits, gaps_fit, same, numbers_lie}
+use Rattle.filling.specs.Consistent.{orientation_fits, position_fits, copies_fit}
 use Rattle.filling.specs.Consistent.{sheet_index, entries_for, entries_fit, sheet_strips_of, placed_strips_of, firsts_for, firsts_fit, consistent}
 use Rattle.filling.specs.Start.{apart_strips_of, inset_strips, parts_from, tables_of, first_state, first_rooms, prepare_verdict, start_verdict, no_start, good_start}
 use Rattle.filling.specs.Start.{start_job, start_given, start_of}
 use Rattle.filling.specs.NextCopy.{interval_counts, any_above, new_strips, store_verdict, winner_verdict, copy_verdict, entered, state_with, layout_after}
 use Rattle.filling.specs.NextCopy.{state_after, stored, rooms_after, no_step, place_found, place_copy, place_next, core_step, step_job, step_given, next_copy_of}
 use Rattle.filling.specs.Accounts.{positions_of_kind, framed_positions, place_on_sheet, on_sheet, positions, flat_positions}
-use Rattle.filling.specs.Accounts.{placed_of_kind, unplaced_of_kind, looks_by_slot, look_counts_of, reach_of, not_below_zero}
-use Rattle.filling.specs.Accounts.{offcut_of, plan_of, no_plan}
+use Rattle.filling.specs.Accounts.{placed_of_kind, unplaced_of_kind, looks_by_slot, look_counts_of, reach_of, not_below_zero, offcut_of, plan_of, no_plan}
 use Rattle.filling.specs.Fill.{fill_from, fill_order, not_planned, planned_with, planned_by, fill_job, fill_given, fill_of}
 use Rattle.filling.specs.Withdraw.{closed_up, strips_left, strips_without, right_of, layout_without, state_without, rooms_without, no_withdrawal, standing_here}
 use Rattle.filling.specs.Withdraw.{withdrawn, withdraw_job, withdraw_given, withdraw_of}
@@ -74,12 +73,12 @@ unfolding every neg bounded strip_fits strips_fit bounds_fit taken_fits strip_co
 consistent_computes-1 = tt
 
 unfoldable pub consistent_computes-2 : Unit {0}
-unfolding resolution_fits shape_fits planner_fits layout_fits gap_fits gaps_fit same_numbers numbers_lie sheet_index entries_for entries_fit sheet_strips_of placed_strips_of
+unfolding resolution_fits shape_fits planner_fits layout_fits gap_fits gaps_fit same numbers_lie sheet_index entries_for entries_fit sheet_strips_of placed_strips_of
     firsts_for firsts_fit consistent
 consistent_computes-2 = tt
 
 unfoldable pub consistent_computes-3 : Unit {0}
-unfolding orientation_fits position_fits same_doubles copies_fit
+unfolding orientation_fits position_fits same copies_fit
 consistent_computes-3 = tt
 
 unfoldable pub consistent_computes : Unit {0}

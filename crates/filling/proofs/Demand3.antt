@@ -1,5 +1,6 @@
 -- Demand 3: after an accepted start and every list of next copies and withdrawals, and after every filling that is not refused, the copies stand where the
 -- plain planner has them, those without a place are its own, and each look count is that of its searches. Assumes nothing.
+use Rattle.std.specs.Prelude.{Ok}
 use mathlib.Core.Path.{◌≡◌, refl, sym, ap, ap₂, subst, subst₂, ◌∙◌}
 use mathlib.Core.Bool.{false}
 use mathlib.Core.List.{List, [], ◌∷◌, ◌++◌, map}
@@ -9,7 +10,6 @@ use lib.ListN.{length, get_or, set, replicate}
 use lib.Ieee.{Float}
 use Rattle.job.specs.Jobs.{Job, accepted, read_job}
 use Rattle.filling.specs.declared.State.{State}
-use Rattle.filling.specs.declared.Verdict.TheVariants.{Accepted}
 use Rattle.filling.specs.Shapes.{Planner, planner_of, Shape, Copy, Standing, copies_from, named, others, standing_strips}
 use Rattle.filling.specs.Search.{Found, Track}
 use Rattle.filling.specs.Choice.{Choice, choices, best, standing_at}
@@ -183,7 +183,7 @@ module _ (j : Job) (z : Sized j) (s : State) (w : Rooms) (q : Plain) (a : Kept j
 
 -- ---- the start
 
-pub first-kept : (j : Job) (z : Sized j) (order : List ℕ) (l : Lent) → start_verdict j order l ≡ Accepted → Kept j (first_state (planner_of j) order)
+pub first-kept : (j : Job) (z : Sized j) (order : List ℕ) (l : Lent) → start_verdict j order l ≡ Ok tt → Kept j (first_state (planner_of j) order)
     (first_rooms (planner_of j) l.rooms) (plain_start (planner_of j) order)
 unfolding plain_start no_searches first_state finds
 first-kept j z order l v =
@@ -212,7 +212,7 @@ outcome_is j s q a =
           (λ s' t fs f. expects (planner_of j) (standing_strips (planner_of j) (standing_of s)) s' t fs f.0) a.table,
     )
 
-after_calls_lem : (bytes order : List ℕ) (l : Lent) (j : Job) → read_job bytes ≡ accepted j → (start_of bytes order l).verdict ≡ Accepted → (calls : List Call)
+after_calls_lem : (bytes order : List ℕ) (l : Lent) (j : Job) → read_job bytes ≡ accepted j → (start_of bytes order l).verdict ≡ Ok tt → (calls : List Call)
     → let r = after_calls bytes calls (start_of bytes order l).state (start_of bytes order l).lent.rooms in state_outcome j r.state ≡ plain_after j order
     (map request_of calls) (refusals r.verdicts)
 unfolding plain_after plain_planner
@@ -224,7 +224,7 @@ after_calls_lem bytes order l j e v calls =
     outcome_is j _ _ (calls_keep j (Kept j) (λ s w q k. k.linked) (took_keeps j z) (λ s w q k n r t. back-kept j z s w q k n r t) bytes e calls
     (start_of bytes order l).state (start_of bytes order l).lent.rooms (plain_start (planner_of j) order) a).paired
 
-after-fill : (bytes order : List ℕ) (l : Lent) (j : Job) → read_job bytes ≡ accepted j → (fill_of bytes order l).verdict ≡ Accepted → Reports j l
+after-fill : (bytes order : List ℕ) (l : Lent) (j : Job) → read_job bytes ≡ accepted j → (fill_of bytes order l).verdict ≡ Ok tt → Reports j l
     (fill_of bytes order l) (plain_after j order (replicate (length order) take_next) (replicate (length order) false))
 unfolding fill_of fill_given fill_order plain_after plain_planner
 after-fill bytes order l j e v =
@@ -243,10 +243,10 @@ after-fill bytes order l j e v =
 -- reversed, or not yet searched. For one filling in a given order that is not refused, all this holds as after one call for every copy of that order,
 -- none refused." Document 02, W4: "Demand 3 then takes lists of both calls .. the look equation speaks of those since."
 pub demand-3 : (bytes order : List ℕ) (l : Lent) (j : Job) → read_job bytes ≡ accepted j
-    → ((start_of bytes order l).verdict ≡ Accepted
+    → ((start_of bytes order l).verdict ≡ Ok tt
     → (calls : List Call)
     → let r = after_calls bytes calls (start_of bytes order l).state (start_of bytes order l).lent.rooms in state_outcome j r.state ≡ plain_after j order
     (map request_of calls) (refusals r.verdicts))
-    × ((fill_of bytes order l).verdict ≡ Accepted → Reports j l (fill_of bytes order l)
+    × ((fill_of bytes order l).verdict ≡ Ok tt → Reports j l (fill_of bytes order l)
     (plain_after j order (replicate (length order) take_next) (replicate (length order) false)))
 demand-3 bytes order l j e = (after_calls_lem bytes order l j e, after-fill bytes order l j e)

@@ -1,4 +1,5 @@
 -- The walk along the entries (`index::entries`) ends exactly where the room begins with them: what 31 asks of the entries. Assumes nothing.
+use Rattle.std.specs.Prelude.{Option, Some, None}
 use Prim.Native.Nat.{ℕ, suc, ◌≤◌, ◌<◌}
 use native.Mathlib.Nat.{eq-or-lt_of_le}
 use native.Mathlib.Numerals.{add-one}
@@ -11,22 +12,20 @@ use lib.ListN.{length, get_or, take, drop, length-drop}
 use lib.Seq.{drop-cons}
 use lib.Dec.{eqb, eqb→eq, eqb_refl}
 use Rattle.numbers.proofs.Truth.{either, is_true, clash}
-use Rattle.index.specs.declared.entries.Walked.{Walked}
-use Rattle.index.specs.declared.entries.Walked.TheVariants.{At, Wrong}
 use Rattle.index.specs.entries.inner.Walk.{follows}
 use Rattle.index.proofs.entries.Following.{follows_on, follows_short, follows-other, follows-none}
-use Rattle.filling.specs.Consistent.{same_numbers, numbers_lie}
+use Rattle.filling.specs.Consistent.{same, same_numbers, numbers_lie}
 
-abbrev pub ends : Walked → Bool
-ends (At e) = true
-ends Wrong = false
+abbrev pub ends : Option ℕ → Bool
+ends (Some e) = true
+ends None = false
 
 same_cons : (a x : ℕ) (es xs : List ℕ) → same_numbers (a ∷ es) (x ∷ xs) ≡ eqb a x && same_numbers es xs
-unfolding same_numbers
+unfolding same
 same_cons a x es xs = refl
 
 same_short : (a : ℕ) (es : List ℕ) → same_numbers (a ∷ es) [] ≡ false
-unfolding same_numbers
+unfolding same
 same_short a es = refl
 
 none_left : (room : List ℕ) (e : ℕ) → length room ≤ e → drop e room ≡ []
@@ -37,7 +36,7 @@ none_left room e h = empty (drop e room) (let l = length-drop e room in omega ar
     empty (a ∷ l) z = absurd (omega arith)
 
 walk_from : (es room : List ℕ) (e : ℕ) → e ≤ length room → ends (follows room e es) ≡ same_numbers es (take (length es) (drop e room))
-unfolding ends same_numbers
+unfolding same
 walk_from [] room e h = ap ends (follows-none room e)
 walk_from (a ∷ es) room e h = go (λ k. walk_from es room (suc e) k) (eq-or-lt_of_le h)
   where

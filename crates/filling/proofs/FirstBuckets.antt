@@ -1,5 +1,6 @@
 -- The bucket numbers of the standing strips (document 02, W3): "true for every standing strip after every operation that is given true ones", and a false
 -- one is refused with 31. Assumes nothing.
+use Rattle.std.specs.Prelude.{Result, Ok, Err}
 use mathlib.Core.Path.{◌≡◌, refl, sym, ap, ap₂, ◌∙◌}
 use mathlib.Core.Bool.{true, ◌&&◌}
 use mathlib.Core.List.{List, [], ◌∷◌, ◌++◌}
@@ -21,27 +22,24 @@ use Rattle.job.specs.Jobs.{Job, Answer, accepted, refused, read_job}
 use Rattle.filling.specs.declared.State.{State}
 use Rattle.filling.specs.declared.Refusal.{Refusal}
 use Rattle.filling.specs.declared.Refusal.TheVariants as Why
-use Rattle.filling.specs.declared.Verdict.{Verdict}
-use Rattle.filling.specs.declared.Verdict.TheVariants.{Accepted, Refused}
 use Rattle.filling.specs.Shapes.{Planner, planner_of}
 use Rattle.filling.specs.Rooms.{Rooms, Lent, laid, zeros, zero_rooms, only_positions}
 use Rattle.filling.specs.State.{zero_tables, zero_state}
-use Rattle.filling.specs.Consistent.{same_numbers, numbers_lie, sheet_index, sheet_strips_of, placed_strips_of, firsts_for, firsts_fit}
+use Rattle.filling.specs.Consistent.{same, same_numbers, numbers_lie, sheet_index, sheet_strips_of, placed_strips_of, firsts_for, firsts_fit}
 use Rattle.filling.specs.Start.{tables_of, first_state, first_rooms, start_verdict, no_start, good_start, start_job, start_given, start_of}
 use Rattle.filling.specs.Fill.{Filling, filled, stopped, fill_order, not_planned, planned_with, planned_by, fill_job, fill_given, fill_of}
+use Rattle.filling.proofs.Same.{same_self}
 use Rattle.filling.proofs.Reading.{take-laid}
 use Rattle.filling.proofs.Begin.{sheet-read, start-refused, start-good, start-accepted}
 use Rattle.filling.proofs.Runs.{fill-stopped, fill-runs}
 
 -- ---- a room that begins with given numbers
 
-same_self : (l : List ℕ) → same_numbers l l ≡ true
-unfolding same_numbers
-same_self [] = refl
-same_self (a ∷ l) = rw (eq-eqb a a refl, same_self l)
+itself : (l : List ℕ) → same_numbers l l ≡ true
+itself l = same_self eqb l 0 (λ i b. eq-eqb _ _ refl)
 
 same_is : (l m : List ℕ) → same_numbers l m ≡ true → l ≡ m
-unfolding same_numbers
+unfolding same
 same_is [] [] h = refl
 same_is [] (b ∷ m) h = absurd (clash h refl)
 same_is (a ∷ l) [] h = absurd (clash h refl)
@@ -50,10 +48,10 @@ same_is (a ∷ l) (b ∷ m) h =
 
 pub numbers-laid : (ns room : List ℕ) → numbers_lie ns (laid ns room) ≡ true
 unfolding numbers_lie
-numbers-laid ns room = ap (same_numbers ns) (take-laid ns room (length ns) refl) ∙ same_self ns
+numbers-laid ns room = ap (same_numbers ns) (take-laid ns room (length ns) refl) ∙ itself ns
 
 pub numbers-none : (room : List ℕ) → numbers_lie [] room ≡ true
-unfolding numbers_lie same_numbers
+unfolding numbers_lie same
 numbers-none room = refl
 
 -- ---- what the test says of each number
@@ -76,7 +74,7 @@ module _ (ix : Index) (part : List Float) (n : ℕ) (firsts : List ℕ) where
   unfolding numbers_lie
   numbers_lie_lem F =
       ap (same_numbers (firsts_of ix part n)) (ap (λ (m : ℕ). take m firsts) (length_firsts ix part n) ∙ firsts_list ix part n firsts F)
-      ∙ same_self (firsts_of ix part n)
+      ∙ itself (firsts_of ix part n)
 
 -- ---- numbers written in front of a room
 
@@ -149,12 +147,12 @@ pub first_firsts : (j : Job) (order : List ℕ) (lent w : Rooms)
 unfolding firsts_fit sheet_strips_of placed_strips_of first_state tables_of
 first_firsts j order lent w a b = ap₂ ◌&&◌ (sheet_lie j lent w a b) (none_lie (planner_of j).bounds w.placed_firsts)
 
-start-true : (j : Job) (order : List ℕ) (l : Lent) (v : Verdict) → start_verdict j order l ≡ v
+start-true : (j : Job) (order : List ℕ) (l : Lent) (v : Result (Unit {0}) Refusal) → start_verdict j order l ≡ v
     → firsts_fit (start_job j order l).state (start_job j order l).lent.rooms ≡ true
 unfolding good_start no_start
-start-true j order l Accepted d =
+start-true j order l (Ok tt) d =
     rw (start-good j order l d) (first_firsts j order l.rooms (first_rooms (planner_of j) l.rooms) refl refl)
-start-true j order l (Refused k) d = rw (start-refused j order l k d) (zero_firsts (only_positions l []).rooms)
+start-true j order l (Err k) d = rw (start-refused j order l k d) (zero_firsts (only_positions l []).rooms)
 
 -- a start, accepted or refused, whatever it is given
 pub start_firsts : (bytes order : List ℕ) (l : Lent) → firsts_fit (start_of bytes order l).state (start_of bytes order l).lent.rooms ≡ true
@@ -166,7 +164,7 @@ start_firsts bytes order l = go (read_job bytes)
     go (accepted j) = unfold start_given in start-true j order l (start_verdict j order l) refl
 
 -- the numbers that an accepted start leaves for the sheet: those of its strips, then zeros
-pub accepted-start_firsts : (bytes order : List ℕ) (l : Lent) (j : Job) → read_job bytes ≡ accepted j → (start_of bytes order l).verdict ≡ Accepted
+pub accepted-start_firsts : (bytes order : List ℕ) (l : Lent) (j : Job) → read_job bytes ≡ accepted j → (start_of bytes order l).verdict ≡ Ok tt
     → (start_of bytes order l).lent.rooms.sheet_firsts ≡ laid (firsts_for (planner_of j).bounds (planner_of j).sheet) (zeros 0 l.rooms.sheet_firsts)
 unfolding first_rooms
 accepted-start_firsts bytes order l j e v = ap (λ (w : Rooms). w.sheet_firsts) (start-accepted bytes order l j e v).rooms_is
@@ -189,9 +187,9 @@ fill-rooms bytes order l = go (read_job bytes)
     by j (filled s) = unfold planned_by in planned_rooms j l s 0
     by j (stopped r) = unfold planned_by in not_planned_rooms r l
 
-    made : (j : Job) (v : Verdict) → start_verdict j order l ≡ v → (fill_job j order l).lent.rooms ≡ zero_rooms l.rooms
-    made j Accepted d = rw (fill-runs j order l d) (by j (fill_order j l order))
-    made j (Refused r) d = rw (fill-stopped j order l r d) (not_planned_rooms r l)
+    made : (j : Job) (v : Result (Unit {0}) Refusal) → start_verdict j order l ≡ v → (fill_job j order l).lent.rooms ≡ zero_rooms l.rooms
+    made j (Ok tt) d = rw (fill-runs j order l d) (by j (fill_order j l order))
+    made j (Err r) d = rw (fill-stopped j order l r d) (not_planned_rooms r l)
 
     go : (a : Answer) → (fill_given a order l).lent.rooms ≡ zero_rooms l.rooms
     go (refused k) = unfold fill_given in not_planned_rooms (Why.Job k) l

@@ -1,4 +1,5 @@
 -- The first free column of some, and a full column that stays full where more copies stand. Assumes nothing.
+use Rattle.std.specs.Prelude.{Option, Some, None}
 use mathlib.Core.Path.{◌≡◌, refl, sym, ap, ◌∙◌}
 use mathlib.Core.Logic.{◌⊎◌, inl, inr}
 use mathlib.Core.Bool.{Bool, true, false}
@@ -16,12 +17,9 @@ use Rattle.trapezoid.specs.declared.Trapezoid.{Trapezoid}
 use Rattle.trapezoid.specs.declared.Heights.{Heights}
 use Rattle.trapezoid.specs.Strip.{strip_at, capacity, heights_at}
 use Rattle.index.specs.declared.Interval.{Interval}
-use Rattle.index.specs.declared.Meeting.TheVariants.{Apart, Forbidden}
 use Rattle.index.specs.Buckets.{up_from}
 use Rattle.index.specs.Intervals.{interval_of, meeting_of, interval_in, forbidden_of, counts_of, counted_of}
 use Rattle.index.proofs.Flat.{up_from_mem, flat_map_mem}
-use Rattle.look.specs.declared.height.Look.{Look}
-use Rattle.look.specs.declared.height.Look.TheVariants.{Free, Full}
 use Rattle.look.proofs.height.SmallestHeight.{keep_mem}
 use Rattle.look.specs.Looking.{counted_in}
 use Rattle.filling.specs.Columns.{ranges, column_at}
@@ -36,21 +34,21 @@ use Rattle.filling.proofs.Reading.{Sixfold}
 nowhere≢at : {c : ℕ} {y g : Float} → nowhere ≡ at c y g → ⊥
 nowhere≢at e = let z : ◌≡◌ {A = ℕ} 0 1 = cc in omega arith
 
-answers : (l : Look) → (l ≡ Full) ⊎ ((y : Float) × (g : Float) × (l ≡ Free y g))
-answers Full = inl refl
-answers (Free y g) = inr (y, g, refl)
+answers : (l : Option (Float × Float)) → (l ≡ None) ⊎ ((y : Float) × (g : Float) × (l ≡ Some (y, g)))
+answers None = inl refl
+answers (Some (y, g)) = inr (y, g, refl)
 
-module _ (f : ℕ → Look) where
-  pub first_full : (n c : ℕ) → f c ≡ Full → first_free f (suc n) c ≡ first_free f n (suc c)
+module _ (f : ℕ → Option (Float × Float)) where
+  pub first_full : (n c : ℕ) → f c ≡ None → first_free f (suc n) c ≡ first_free f n (suc c)
   unfolding first_free
   first_full n c e = rw (e, first_free)
 
-  pub first_free_lem : (n c : ℕ) (y g : Float) → f c ≡ Free y g → first_free f (suc n) c ≡ at c y g
+  pub first_free_lem : (n c : ℕ) (y g : Float) → f c ≡ Some (y, g) → first_free f (suc n) c ≡ at c y g
   unfolding first_free
   first_free_lem n c y g e = rw (e, first_free)
 
   abbrev pub FullFrom : ℕ → ℕ → Type 0
-  FullFrom b e = (d : ℕ) → b ≤ d → d < e → f d ≡ Full
+  FullFrom b e = (d : ℕ) → b ≤ d → d < e → f d ≡ None
 
   pub skip : (k n b m : ℕ) → m ≡ k + n → FullFrom b (b + k) → first_free f m b ≡ first_free f n (b + k)
   skip zero n b m e h = ap (λ x. first_free f x b) (low m n e) ∙ ap (first_free f n) (high b)
@@ -79,21 +77,21 @@ module _ (f : ℕ → Look) where
     pub from : b ≤ c
     pub before : c < e
     pub fulls : FullFrom b c
-    pub frees : f c ≡ Free y g
+    pub frees : f c ≡ Some (y, g)
 
   pub found_at : (n b c : ℕ) (y g : Float) → first_free f n b ≡ at c y g → FoundAt b (b + n) c y g
   unfolding first_free
   found_at zero b c y g e = absurd (nowhere≢at e)
   found_at (suc n) b c y g e = go (found_at n (suc b) c y g) (answers (f b))
     where
-      go : (first_free f n (suc b) ≡ at c y g → FoundAt (suc b) (suc b + n) c y g) → (f b ≡ Full) ⊎ ((z : Float) × (v : Float) × (f b ≡ Free z v)) → FoundAt b (b + suc n) c y g
+      go : (first_free f n (suc b) ≡ at c y g → FoundAt (suc b) (suc b + n) c y g) → (f b ≡ None) ⊎ ((z : Float) × (v : Float) × (f b ≡ Some (z, v))) → FoundAt b (b + suc n) c y g
       go below (inl h) =
           let r = below (sym (first_full n b h) ∙ e) in
           let i = r.from in
           let j = r.before in
           record { from = omega arith; before = omega arith; fulls = λ d p q. first (λ p' q'. r.fulls d p' q') q h (eq-or-lt_of_le p); frees = r.frees }
         where
-          first : {d : ℕ} → (suc b ≤ d → d < c → f d ≡ Full) → d < c → f b ≡ Full → (b ≡ d) ⊎ (b < d) → f d ≡ Full
+          first : {d : ℕ} → (suc b ≤ d → d < c → f d ≡ None) → d < c → f b ≡ None → (b ≡ d) ⊎ (b < d) → f d ≡ None
           first r q h (inl z) = ap f (sym z) ∙ h
           first r q h (inr z) = r z q
       go below (inr h) =
@@ -105,7 +103,7 @@ module _ (f : ℕ → Look) where
   found_nowhere zero b e d p q = absurd (omega arith)
   found_nowhere (suc n) b e d p q = go (λ e' p'. found_nowhere n (suc b) e' d p' (omega arith)) (answers (f b)) (eq-or-lt_of_le p)
     where
-      go : (first_free f n (suc b) ≡ nowhere → suc b ≤ d → f d ≡ Full) → (f b ≡ Full) ⊎ ((z : Float) × (v : Float) × (f b ≡ Free z v)) → (b ≡ d) ⊎ (b < d) → f d ≡ Full
+      go : (first_free f n (suc b) ≡ nowhere → suc b ≤ d → f d ≡ None) → (f b ≡ None) ⊎ ((z : Float) × (v : Float) × (f b ≡ Some (z, v))) → (b ≡ d) ⊎ (b < d) → f d ≡ None
       go below (inl h) (inl z) = ap f (sym z) ∙ h
       go below (inl h) (inr z) = below (sym (first_full n b h) ∙ e) z
       go below (inr h) w = absurd (nowhere≢at (sym e ∙ first_free_lem n b h.0 h.1 h.2))
@@ -161,7 +159,7 @@ meeting_fits q x p i m = go (lt a b) m
     only pa pb qa qb (inl e) = rw e (ends-fit pa pb qa qb)
     only pa pb qa qb (inr n) = absurd (mathlib.Core.List.Memᴰ.not-nil n)
 
-    go : (t : Bool) → Memᴰ i (interval_in (elim t [ true ↦ Forbidden (interval_of (heights_at p a) (heights_at p b) (heights_at q (a ⊖ x)) (heights_at q (b ⊖ x))) | false ↦ Apart ])) → EndsFit i
+    go : (t : Bool) → Memᴰ i (interval_in (elim t [ true ↦ Some (interval_of (heights_at p a) (heights_at p b) (heights_at q (a ⊖ x)) (heights_at q (b ⊖ x))) | false ↦ None ])) → EndsFit i
     go true m = only (heights_at p a) (heights_at p b) (heights_at q (a ⊖ x)) (heights_at q (b ⊖ x)) (mathlib.Core.List.Memᴰ.cases_cons m)
     go false m = absurd (mathlib.Core.List.Memᴰ.not-nil m)
 
@@ -209,7 +207,7 @@ module _ (yl yh : Float) where
       go (inr n) = b i n
 
 -- "Placed parts only add obstacles": a column that is full stays full
-pub look_grows : (p : Planner) (st st' : List Float) (s : Shape) (c : ℕ) → Grows st st' → look_at p st s c ≡ Full → look_at p st' s c ≡ Full
+pub look_grows : (p : Planner) (st st' : List Float) (s : Shape) (c : ℕ) → Grows st st' → look_at p st s c ≡ None → look_at p st' s c ≡ None
 unfolding look_at intervals_at counted_in ranges_of ranges
 look_grows p st st' s c g e =
     let r = ranges_of p s in

@@ -1,4 +1,5 @@
 -- Every call leaves true bucket numbers where it is given true ones (document 02, W3 and W4), and a false one is refused with 31. Assumes nothing.
+use Rattle.std.specs.Prelude.{Result, Ok, Err}
 use mathlib.Core.Path.{◌≡◌, refl, ap₂, ◌∙◌}
 use mathlib.Core.Logic.{◌⊎◌, inl, inr}
 use mathlib.Core.Bool.{true, false, ◌&&◌}
@@ -20,8 +21,6 @@ use Rattle.job.specs.Jobs.{Job, Answer, accepted, refused, read_job}
 use Rattle.filling.specs.declared.State.{State}
 use Rattle.filling.specs.declared.Refusal.{Refusal}
 use Rattle.filling.specs.declared.Refusal.TheVariants as Why
-use Rattle.filling.specs.declared.Verdict.{Verdict}
-use Rattle.filling.specs.declared.Verdict.TheVariants.{Accepted, Refused}
 use Rattle.filling.specs.Refusals.{number_of, verdict_number}
 use Rattle.filling.specs.Shapes.{Shape, Planner, Standing, copy_strips, standing_strips}
 use Rattle.filling.specs.Search.{Found, Track, search_all, searched_all}
@@ -30,8 +29,7 @@ use Rattle.filling.specs.Rooms.{Rooms, Lent, laid, zeros}
 use Rattle.filling.specs.Order.{rearranged}
 use Rattle.filling.specs.State.{planner_at, order_of, standing_to, standing_of, tracks_of}
 use Rattle.filling.specs.Consistent.{taken_fits, strip_counts_fit, parts_fit, strips_fit, planner_fits, layout_fits, gaps_fit, track_table_fits, copies_fit}
-use Rattle.filling.specs.Consistent.{entries_fit, consistent}
-use Rattle.filling.specs.Consistent.{numbers_lie, sheet_strips_of, placed_strips_of, firsts_for, firsts_fit}
+use Rattle.filling.specs.Consistent.{entries_fit, consistent, numbers_lie, sheet_strips_of, placed_strips_of, firsts_for, firsts_fit}
 use Rattle.filling.specs.Start.{start_of}
 use Rattle.filling.specs.NextCopy.{new_strips, copy_verdict, state_with, state_after, stored, rooms_after, Step, no_step}
 use Rattle.filling.specs.NextCopy.{place_copy, place_next, core_step, step_job, step_given, next_copy_of}
@@ -101,9 +99,9 @@ module _ (p : Planner) (st : List Float) (ts : List Track) (k : ℕ) (s : State)
   place_firsts : p.bounds ≡ s.tables.sheet_bounds → Sixfold st → firsts_fit s w ≡ true → TrueAfter (place_copy p st ts k s w iv)
   place_firsts e q h = go (copy_verdict p w iv k st Ss ts Fs) refl
     where
-      go : (v : Verdict) → copy_verdict p w iv k st Ss ts Fs ≡ v → TrueAfter (place_copy p st ts k s w iv)
-      go Accepted d = rw (place-taken p st ts k s w iv d) (after_firsts p k (searched_all p Ss ts Fs) s w st (choices p 0 Ss Fs) e q h)
-      go (Refused r) d = rw (place-refused p st ts k s w iv r d) (no_step_lem r s w iv h)
+      go : (v : Result (Unit {0}) Refusal) → copy_verdict p w iv k st Ss ts Fs ≡ v → TrueAfter (place_copy p st ts k s w iv)
+      go (Ok tt) d = rw (place-taken p st ts k s w iv d) (after_firsts p k (searched_all p Ss ts Fs) s w st (choices p 0 Ss Fs) e q h)
+      go (Err r) d = rw (place-refused p st ts k s w iv r d) (no_step_lem r s w iv h)
 
 -- 31's tests that speak of strips and their numbers
 module _ (j : Job) (s : State) (w : Rooms) (c : consistent j s w ≡ true) where

@@ -20,6 +20,7 @@ pub mod FirstsKept
 pub mod Searches
 pub mod Demand3
 pub mod Numbers31
+pub mod Same
 pub mod Stood
 pub mod WithinBoundsNumbers
 pub mod WithinBoundsPlaces

@@ -1,4 +1,5 @@
 -- After an accepted start no call is refused with 31. Assumes nothing.
+use Rattle.std.specs.Prelude.{Result, Ok, Err}
 use mathlib.Core.Path.{◌≡◌, refl, sym, ap, ◌∙◌}
 use mathlib.Core.Logic.{◌⊎◌, inl, inr, ◌≢◌}
 use mathlib.Core.Bool.{Bool, true, false}
@@ -12,8 +13,6 @@ use Rattle.job.specs.Jobs.{Job, Answer, accepted, refused, read_job}
 use Rattle.filling.specs.declared.State.{State}
 use Rattle.filling.specs.declared.Refusal.{Refusal}
 use Rattle.filling.specs.declared.Refusal.TheVariants as Why
-use Rattle.filling.specs.declared.Verdict.{Verdict}
-use Rattle.filling.specs.declared.Verdict.TheVariants.{Accepted, Refused}
 use Rattle.filling.specs.Refusals.{number_of, verdict_number, refuse_if}
 use Rattle.filling.specs.Shapes.{Planner, planner_of, Standing}
 use Rattle.filling.specs.Search.{Track, search_all}
@@ -34,48 +33,47 @@ use Rattle.filling.proofs.Runs.{step-consistent, call_keeps}
 use Rattle.filling.proofs.Withdrawn.{Went, withdraw-consistent}
 use Rattle.filling.proofs.Numbers31.{WithinBounds}
 use Rattle.filling.proofs.WithinBounds.{jobs_within}
-use Rattle.filling.proofs.WithinBounds.{jobs_within}
 use Rattle.filling.proofs.OwnStates.{Own, own_consistent, own_start}
 use Rattle.filling.proofs.OwnKept.{own_took, own_back, back-rearranged}
 
 -- ---- the core step is never refused with 31
 
-abbrev Not31 : Verdict → Type 0
-Not31 v = v ≡ Refused Why.Inconsistent → ⊥
+abbrev Not31 : Result (Unit {0}) Refusal → Type 0
+Not31 v = v ≡ Err Why.Inconsistent → ⊥
 
-number-not : (v : Verdict) (n : ℕ) → verdict_number v ≡ n → n ≢ 31 → Not31 v
+number-not : (v : Result (Unit {0}) Refusal) (n : ℕ) → verdict_number v ≡ n → n ≢ 31 → Not31 v
 unfolding verdict_number number_of
 number-not v n e d f = d (sym e ∙ ap verdict_number f)
 
-refuse_not : (t : Bool) (k : Refusal) (v : Verdict) → Not31 (Refused k) → Not31 v → Not31 (refuse_if t k v)
+refuse_not : (t : Bool) (k : Refusal) (v : Result (Unit {0}) Refusal) → Not31 (Err k) → Not31 v → Not31 (refuse_if t k v)
 unfolding refuse_if
 refuse_not true k v a b = a
 refuse_not false k v a b = b
 
-strip-not : Not31 (Refused Why.StripRoom)
+strip-not : Not31 (Err Why.StripRoom)
 unfolding verdict_number number_of
-strip-not = number-not (Refused Why.StripRoom) 20 refl (λ e. omega arith)
+strip-not = number-not (Err Why.StripRoom) 20 refl (λ e. omega arith)
 
-entry_not : Not31 (Refused Why.EntryRoom)
+entry_not : Not31 (Err Why.EntryRoom)
 unfolding verdict_number number_of
-entry_not = number-not (Refused Why.EntryRoom) 21 refl (λ e. omega arith)
+entry_not = number-not (Err Why.EntryRoom) 21 refl (λ e. omega arith)
 
-interval_not : Not31 (Refused Why.IntervalRoom)
+interval_not : Not31 (Err Why.IntervalRoom)
 unfolding verdict_number number_of
-interval_not = number-not (Refused Why.IntervalRoom) 22 refl (λ e. omega arith)
+interval_not = number-not (Err Why.IntervalRoom) 22 refl (λ e. omega arith)
 
-used_not : Not31 (Refused Why.OrderUsedUp)
+used_not : Not31 (Err Why.OrderUsedUp)
 unfolding verdict_number number_of
-used_not = number-not (Refused Why.OrderUsedUp) 23 refl (λ e. omega arith)
+used_not = number-not (Err Why.OrderUsedUp) 23 refl (λ e. omega arith)
 
-accepted-not : Not31 Accepted
+accepted-not : Not31 (Ok tt)
 unfolding verdict_number
-accepted-not = number-not Accepted 0 refl (λ e. omega arith)
+accepted-not = number-not (Ok tt) 0 refl (λ e. omega arith)
 
 winner-not : (p : Planner) (w : Rooms) (k : ℕ) (st : List Float) (cs : List Choice) → Not31 (winner_verdict p w k st cs)
 unfolding winner_verdict store_verdict
 winner-not p w k st [] = accepted-not
-winner-not p w k st (c ∷ cs) = refuse_not _ Why.StripRoom _ strip-not (refuse_not _ Why.EntryRoom Accepted entry_not accepted-not)
+winner-not p w k st (c ∷ cs) = refuse_not _ Why.StripRoom _ strip-not (refuse_not _ Why.EntryRoom (Ok tt) entry_not accepted-not)
 
 place-not : (p : Planner) (st : List Float) (ts : List Track) (k : ℕ) (s : State) (w : Rooms) (iv : List Float) → Not31 (place_copy p st ts k s w iv).verdict
 unfolding no_step
@@ -84,10 +82,10 @@ place-not p st ts k s w iv = go (copy_verdict p w iv k st (get_or p.shapes k [])
     verdict-not : Not31 (copy_verdict p w iv k st (get_or p.shapes k []) ts (search_all p st (get_or p.shapes k []) ts))
     verdict-not = unfold copy_verdict in refuse_not _ Why.IntervalRoom _ interval_not (winner-not p w k st _)
 
-    go : (v : Verdict) → copy_verdict p w iv k st (get_or p.shapes k []) ts (search_all p st (get_or p.shapes k []) ts) ≡ v → Not31
+    go : (v : Result (Unit {0}) Refusal) → copy_verdict p w iv k st (get_or p.shapes k []) ts (search_all p st (get_or p.shapes k []) ts) ≡ v → Not31
         (place_copy p st ts k s w iv).verdict
-    go Accepted d = rw (place-taken p st ts k s w iv d) accepted-not
-    go (Refused r) d = rw (place-refused p st ts k s w iv r d) (rw d at verdict-not)
+    go (Ok tt) d = rw (place-taken p st ts k s w iv d) accepted-not
+    go (Err r) d = rw (place-refused p st ts k s w iv r d) (rw d at verdict-not)
 
 core_not : (j : Job) (s : State) (w : Rooms) (iv : List Float) → Not31 (core_step j s w iv).verdict
 unfolding core_step
@@ -103,8 +101,8 @@ withdrawn-not : (j : Job) (p : Planner) (s : State) (w : Rooms) (n : ℕ) (cs : 
 unfolding withdrawn no_withdrawal
 withdrawn-not j p s w n [] = not-standing
   where
-    not-standing : Not31 (Refused Why.NotStanding)
-    not-standing = unfold verdict_number in (unfold number_of in number-not (Refused Why.NotStanding) 24 refl (λ e. omega arith))
+    not-standing : Not31 (Err Why.NotStanding)
+    not-standing = unfold verdict_number in (unfold number_of in number-not (Err Why.NotStanding) 24 refl (λ e. omega arith))
 withdrawn-not j p s w n (c ∷ cs) = accepted-not
 
 call_consistent : (bytes : List ℕ) (j : Job) → read_job bytes ≡ accepted j → (s : State) (w : Rooms) → consistent j s w ≡ true → (c : Call) → Not31
@@ -133,7 +131,7 @@ owned_back j z b s w q h n r t = record {
 }
 
 module _ (bytes : List ℕ) (j : Job) (e : read_job bytes ≡ accepted j) (b : WithinBounds (planner_of j)) where
-  run_not : (cs : List Call) (s : State) (w : Rooms) (q : Plain) → Owned j s w q → Memᴰ (Refused Why.Inconsistent) (after_calls bytes cs s w).verdicts → ⊥
+  run_not : (cs : List Call) (s : State) (w : Rooms) (q : Plain) → Owned j s w q → Memᴰ (Err Why.Inconsistent) (after_calls bytes cs s w).verdicts → ⊥
   unfolding after_calls
   run_not [] s w q h m = Memᴰ.not-nil m
   run_not (c ∷ cs) s w q h m =
@@ -142,23 +140,23 @@ module _ (bytes : List ℕ) (j : Job) (e : read_job bytes ≡ accepted j) (b : W
       let h' = call_keeps j (Owned j) (λ s w q h. h.own.kept.linked) (owned_took j z b) (owned_back j z b) bytes e c s w q h in
       go (run_not cs t.state t.rooms _ h') (Memᴰ.cases_cons m)
     where
-      go : (Memᴰ (Refused Why.Inconsistent) (after_calls bytes cs (call_step bytes c s w).state (call_step bytes c s w).rooms).verdicts → ⊥)
-          → (Refused Why.Inconsistent ≡ (call_step bytes c s w).verdict) ⊎ Memᴰ (Refused Why.Inconsistent)
+      go : (Memᴰ (Err Why.Inconsistent) (after_calls bytes cs (call_step bytes c s w).state (call_step bytes c s w).rooms).verdicts → ⊥)
+          → (Err Why.Inconsistent ≡ (call_step bytes c s w).verdict) ⊎ Memᴰ (Err Why.Inconsistent)
           (after_calls bytes cs (call_step bytes c s w).state (call_step bytes c s w).rooms).verdicts → ⊥
       go below (inl d) = call_consistent bytes j e s w (own_consistent j h.order s w q (sized bytes j e) b h.rearranges h.own) c (sym d)
       go below (inr n) = below n
 
-given-job : (bytes order : List ℕ) (l : Lent) → (start_of bytes order l).verdict ≡ Accepted → (j : Job) × (read_job bytes ≡ accepted j)
+given-job : (bytes order : List ℕ) (l : Lent) → (start_of bytes order l).verdict ≡ Ok tt → (j : Job) × (read_job bytes ≡ accepted j)
 unfolding start_of start_given no_start
 given-job bytes order l v = go (read_job bytes) refl v
   where
-    go : (g : Answer) → read_job bytes ≡ g → (start_given g order l).verdict ≡ Accepted → (j : Job) × (read_job bytes ≡ accepted j)
+    go : (g : Answer) → read_job bytes ≡ g → (start_given g order l).verdict ≡ Ok tt → (j : Job) × (read_job bytes ≡ accepted j)
     go (refused k) d v = absurd (refused≢accepted v)
     go (accepted j) d v = (j, d)
 
 -- after an accepted start, whatever list of calls with whatever interval rooms: none is refused with 31
-pub never-31 : (bytes order : List ℕ) (l : Lent) → (start_of bytes order l).verdict ≡ Accepted → (calls : List Call)
-    → Memᴰ (Refused Why.Inconsistent) (after_calls bytes calls (start_of bytes order l).state (start_of bytes order l).lent.rooms).verdicts → ⊥
+pub never-31 : (bytes order : List ℕ) (l : Lent) → (start_of bytes order l).verdict ≡ Ok tt → (calls : List Call)
+    → Memᴰ (Err Why.Inconsistent) (after_calls bytes calls (start_of bytes order l).state (start_of bytes order l).lent.rooms).verdicts → ⊥
 never-31 bytes order l v calls m =
     let g = given-job bytes order l v in
     let j = g.0 in

@@ -1,5 +1,6 @@
 -- The numbers that 31 judges, along every copy taken, if a job's own are within its bounds (WithinBounds.antt): the planner's, a copy's at each free place of
 -- a column, and sums of areas. Assumes nothing.
+use Rattle.std.specs.Prelude.{Some}
 use mathlib.Core.Path.{◌≡◌, refl, sym, ap, subst, ◌∙◌}
 use mathlib.Core.Logic.{◌⊎◌, inl, inr}
 use mathlib.Core.Bool.{Bool, true, false, not, cond}
@@ -13,7 +14,6 @@ use Rattle.numbers.proofs.Truth.{either, both_first, both_second}
 use Rattle.numbers.specs.Numbers.{◌⊕◌, larger, from_int, pos_zero}
 use Rattle.trapezoid.specs.Strip.{strip_at, capacity}
 use Rattle.index.specs.Buckets.{up_from}
-use Rattle.look.specs.declared.height.Look.TheVariants.{Free}
 use Rattle.job.specs.Jobs.{Job}
 use Rattle.filling.specs.declared.State.{State}
 use Rattle.filling.specs.Columns.{column_at}
@@ -21,8 +21,7 @@ use Rattle.filling.specs.Shapes.{Planner, planner_of, Shape, Copy, Standing, no_
 use Rattle.filling.specs.Search.{Found, at, nowhere, Remembered, column, none, Track, ranges_of, look_at, last_of, reversed_for, search, search_all}
 use Rattle.filling.specs.Choice.{Choice, choice_of, choices, wins, best, standing_at}
 use Rattle.filling.specs.State.{standing_of, without_of}
-use Rattle.filling.specs.Consistent.{every, bounded, strip_fits, strips_fit, bounds_fit, planner_fits, resolution_fits, layout_fits, gap_fits}
-use Rattle.filling.specs.Consistent.{gaps_fit}
+use Rattle.filling.specs.Consistent.{every, bounded, strip_fits, strips_fit, bounds_fit, planner_fits, resolution_fits, layout_fits, gap_fits, gaps_fit}
 use Rattle.filling.specs.NextCopy.{new_strips, entered, state_with, layout_after, state_after}
 use Rattle.filling.proofs.FirstFree.{found_at, grows_append}
 use Rattle.filling.proofs.Reading.{Sixfold, capacity_append}
@@ -36,7 +35,7 @@ pub record Yielded (p : Planner) (s : Shape) (x y g : Float) : Type 0 where
   pub within : column_number ≤ last_of p s
   pub x_is : x ≡ column_at p.resolution (ranges_of p s) column_number
   pub standing : List Float
-  pub freed : look_at p standing s column_number ≡ Free y g
+  pub freed : look_at p standing s column_number ≡ Some (y, g)
 
 -- areas, added in order
 unfoldable pub summed : Planner → Float → List Copy → Float

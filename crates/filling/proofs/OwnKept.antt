@@ -1,4 +1,5 @@
 -- A copy taken, and a copy taken back, leaves an own state. Assumes nothing.
+use Rattle.std.specs.Prelude.{Ok}
 use mathlib.Core.Path.{◌≡◌, refl, sym, ap, subst, ◌∙◌}
 use mathlib.Core.Bool.{Bool, true, false, not, ◌&&◌}
 use mathlib.Core.List.{List, [], ◌∷◌, ◌++◌, map}
@@ -15,7 +16,6 @@ use Rattle.slabs.proofs.Merging.{All}
 use Rattle.job.specs.Jobs.{Job}
 use Rattle.filling.specs.declared.State.{State}
 use Rattle.filling.specs.declared.Refusal.TheVariants as Why
-use Rattle.filling.specs.declared.Verdict.TheVariants.{Accepted}
 use Rattle.filling.specs.Shapes.{Planner, planner_of, shape_of, others, copy_strips, standing_strips}
 use Rattle.filling.specs.Search.{Track, search_all}
 use Rattle.filling.specs.Choice.{Choice, best, standing_at}
@@ -149,7 +149,7 @@ module _ (j : Job) (z : Sized j) (b : WithinBounds (planner_of j)) (order : List
         choices-under P (get_or (orientation_counts j) k 0) 0 ss (search_all P St ss (get_or (tracks_of j s) k []))
         (let a = Steps.rows_of_shapes j s w h.kept.linked k in omega arith)
 
-    counts_now : (cs : List Choice) → winner_verdict P w k St cs ≡ Accepted → strip_counts_fit (Now cs).tables (Now cs).placed_strips (rooms_after P k w St cs)
+    counts_now : (cs : List Choice) → winner_verdict P w k St cs ≡ Ok tt → strip_counts_fit (Now cs).tables (Now cs).placed_strips (rooms_after P k w St cs)
         ≡ true
     unfolding state_after state_with rooms_after stored winner_verdict store_verdict strip_counts_fit
     counts_now [] v = h.counts

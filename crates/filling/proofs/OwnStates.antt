@@ -1,4 +1,5 @@
 -- The states and rooms that a start makes and every call keeps: 31 lets them pass. Assumes nothing.
+use Rattle.std.specs.Prelude.{Ok}
 use mathlib.Core.Path.{◌≡◌, refl, sym, ap, ◌∙◌}
 use mathlib.Core.Bool.{Bool, true}
 use mathlib.Core.List.{List, [], ◌∷◌, flat_map}
@@ -13,7 +14,6 @@ use Rattle.index.specs.Buckets.{up_from, entries_of, by_bucket, numbers_in}
 use Rattle.strips.specs.declared.Rect.{Rect}
 use Rattle.job.specs.Jobs.{Job}
 use Rattle.filling.specs.declared.State.{State}
-use Rattle.filling.specs.declared.Verdict.TheVariants.{Accepted}
 use Rattle.filling.specs.Shapes.{Planner, planner_of, Shape, Standing, standing_strips}
 use Rattle.filling.specs.Search.{Found, Track, last_of}
 use Rattle.filling.specs.Plain.{Plain, plain_start}
@@ -155,7 +155,7 @@ pub first_passes : (j : Job) (z : Sized j) (order : List ℕ) → length order �
 unfolding every
 first_passes j z order n test = ap (every test) (first-standing j z order n)
 
-pub own_start : (j : Job) (z : Sized j) → WithinBounds (planner_of j) → (order : List ℕ) (l : Lent) → start_verdict j order l ≡ Accepted
+pub own_start : (j : Job) (z : Sized j) → WithinBounds (planner_of j) → (order : List ℕ) (l : Lent) → start_verdict j order l ≡ Ok tt
     → Own j order (first_state (planner_of j) order) (first_rooms (planner_of j) l.rooms) (plain_start (planner_of j) order)
 unfolding first_state
 own_start j z b order l v =

@@ -1,5 +1,6 @@
 -- A call is refused exactly where a line of the tables holds, with the number first met: a next copy, a withdrawal, a start, a filling. A refused next copy or
 -- withdrawal changes nothing. Of every state and every room. Assumes nothing.
+use Rattle.std.specs.Prelude.{Result, Ok, Err}
 use mathlib.Core.Path.{◌≡◌, refl, sym, ap, ◌∙◌}
 use mathlib.Core.Logic.{◌⊎◌, inl, inr}
 use mathlib.Core.Bool.{Bool, true, false}
@@ -16,8 +17,6 @@ use Rattle.job.specs.Jobs.{Job, Answer, accepted, refused, read_job}
 use Rattle.filling.specs.declared.State.{State}
 use Rattle.filling.specs.declared.Refusal.{Refusal}
 use Rattle.filling.specs.declared.Refusal.TheVariants as Why
-use Rattle.filling.specs.declared.Verdict.{Verdict}
-use Rattle.filling.specs.declared.Verdict.TheVariants.{Accepted, Refused}
 use Rattle.filling.specs.Refusals.{refuse_if}
 use Rattle.filling.specs.Shapes.{Planner, planner_of, Shape, Standing}
 use Rattle.filling.specs.Search.{Found, Track, search_all}
@@ -53,10 +52,10 @@ place-verdict : (p : Planner) (st : List Float) (ts : List Track) (k : ℕ) (s :
 unfolding no_step
 place-verdict p st ts k s w iv = go (copy_verdict p w iv k st (get_or p.shapes k []) ts (search_all p st (get_or p.shapes k []) ts)) refl
   where
-    go : (v : Verdict) → copy_verdict p w iv k st (get_or p.shapes k []) ts (search_all p st (get_or p.shapes k []) ts) ≡ v → (place_copy p st ts k s w
+    go : (v : Result (Unit {0}) Refusal) → copy_verdict p w iv k st (get_or p.shapes k []) ts (search_all p st (get_or p.shapes k []) ts) ≡ v → (place_copy p st ts k s w
         iv).verdict ≡ copy_verdict p w iv k st (get_or p.shapes k []) ts (search_all p st (get_or p.shapes k []) ts)
-    go Accepted d = ap (λ r. r.verdict) (place-taken p st ts k s w iv d) ∙ sym d
-    go (Refused r) d = ap (λ r. r.verdict) (place-refused p st ts k s w iv r d) ∙ sym d
+    go (Ok tt) d = ap (λ r. r.verdict) (place-taken p st ts k s w iv d) ∙ sym d
+    go (Err r) d = ap (λ r. r.verdict) (place-refused p st ts k s w iv r d) ∙ sym d
 
 next_met : (j : Job) (s : State) (w : Rooms) (iv : List Float) (l : List ℕ) → (place_next j s w iv l).verdict ≡ first_met (next_lines j s w iv l)
 unfolding place_next next_lines first_met no_step refuse_if copy_verdict
@@ -98,7 +97,7 @@ strips-together j s w h p k c =
 -- ---- a withdrawal
 
 withdrawn_met : (j : Job) (p : Planner) (s : State) (w : Rooms) (n : ℕ) (cs : List Standing)
-    → (withdrawn j p s w n cs).verdict ≡ refuse_if (none_stands cs) Why.NotStanding Accepted
+    → (withdrawn j p s w n cs).verdict ≡ refuse_if (none_stands cs) Why.NotStanding (Ok tt)
 unfolding withdrawn no_withdrawal refuse_if none_stands
 withdrawn_met j p s w n [] = refl
 withdrawn_met j p s w n (c ∷ cs) = refl
@@ -124,9 +123,9 @@ withdraw-refused bytes s w n = go (read_job bytes)
 -- ---- lines after lines
 
 -- a verdict, or what is met later
-abbrev pub or_later : Verdict → Verdict → Verdict
-or_later Accepted v = v
-or_later (Refused k) v = Refused k
+abbrev pub or_later : Result (Unit {0}) Refusal → Result (Unit {0}) Refusal → Result (Unit {0}) Refusal
+or_later (Ok tt) v = v
+or_later (Err k) v = Err k
 
 pub met_append : (ls ms : List Line) → first_met (ls ++ ms) ≡ or_later (first_met ls) (first_met ms)
 unfolding first_met refuse_if
@@ -152,9 +151,9 @@ pub start-verdict : (j : Job) (order : List ℕ) (l : Lent) → (start_job j ord
 unfolding no_start good_start
 start-verdict j order l = go (start_verdict j order l) refl
   where
-    go : (v : Verdict) → start_verdict j order l ≡ v → (start_job j order l).verdict ≡ start_verdict j order l
-    go Accepted d = ap (λ r. r.verdict) (start-good j order l d) ∙ sym d
-    go (Refused k) d = ap (λ r. r.verdict) (start-refused j order l k d) ∙ sym d
+    go : (v : Result (Unit {0}) Refusal) → start_verdict j order l ≡ v → (start_job j order l).verdict ≡ start_verdict j order l
+    go (Ok tt) d = ap (λ r. r.verdict) (start-good j order l d) ∙ sym d
+    go (Err k) d = ap (λ r. r.verdict) (start-refused j order l k d) ∙ sym d
 
 -- the same of a start
 pub start-refused_where : (bytes order : List ℕ) (l : Lent) → (start_of bytes order l).verdict ≡ first_met (given_lines (read_job bytes) (λ j. start_lines j order l))
@@ -168,9 +167,9 @@ start-refused_where bytes order l = go (read_job bytes)
 -- ---- a filling
 
 -- what a filling is refused with
-abbrev pub filling_verdict : Filling → Verdict
-filling_verdict (filled s) = Accepted
-filling_verdict (stopped k) = Refused k
+abbrev pub filling_verdict : Filling → Result (Unit {0}) Refusal
+filling_verdict (filled s) = Ok tt
+filling_verdict (stopped k) = Err k
 
 copies_met : (j : Job) (iv : List Float) (n : ℕ) (s : State) (w : Rooms) → filling_verdict (fill_from j iv n s w) ≡ first_met (copies_lines j iv n s w)
 unfolding fill_from copies_lines
@@ -184,9 +183,9 @@ copies_met j iv (suc n) s w =
     later : Filling
     later = fill_from j iv n (core_step j s w iv).state (core_step j s w iv).rooms
 
-    step : (v : Verdict) → filling_verdict (elim v [ Accepted ↦ later | Refused k ↦ stopped k ]) ≡ or_later v (filling_verdict later)
-    step Accepted = refl
-    step (Refused k) = refl
+    step : (v : Result (Unit {0}) Refusal) → filling_verdict (elim v [ Ok tt ↦ later | Err k ↦ stopped k ]) ≡ or_later v (filling_verdict later)
+    step (Ok tt) = refl
+    step (Err k) = refl
 
     core_met : (core_step j s w iv).verdict ≡ first_met (next_lines j s w iv (drop s.taken (order_of j s)))
     core_met = unfold core_step in next_met j s w iv (drop s.taken (order_of j s))
@@ -205,14 +204,14 @@ fill_met : (j : Job) (order : List ℕ) (l : Lent) → (fill_job j order l).verd
 unfolding fill_lines not_planned
 fill_met j order l = go (start_verdict j order l) refl ∙ sym (met_append (start_lines j order l) (order_lines j l order))
   where
-    later : Verdict
+    later : Result (Unit {0}) Refusal
     later = first_met (order_lines j l order)
 
-    go : (v : Verdict) → start_verdict j order l ≡ v → (fill_job j order l).verdict ≡ or_later (first_met (start_lines j order l)) later
-    go Accepted d =
+    go : (v : Result (Unit {0}) Refusal) → start_verdict j order l ≡ v → (fill_job j order l).verdict ≡ or_later (first_met (start_lines j order l)) later
+    go (Ok tt) d =
         ap (λ r. r.verdict) (fill-runs j order l d) ∙ planned_verdict j l (fill_order j l order) ∙ order_met j l order
         ∙ ap (λ v. or_later v later) (sym d ∙ start_met j order l)
-    go (Refused k) d = ap (λ r. r.verdict) (fill-stopped j order l k d) ∙ ap (λ v. or_later v later) (sym d ∙ start_met j order l)
+    go (Err k) d = ap (λ r. r.verdict) (fill-stopped j order l k d) ∙ ap (λ v. or_later v later) (sym d ∙ start_met j order l)
 
 -- the same of a filling in a given order
 pub fill-refused_where : (bytes order : List ℕ) (l : Lent) → (fill_of bytes order l).verdict ≡ first_met (given_lines (read_job bytes) (λ j. fill_lines j order l))
@@ -227,7 +226,7 @@ fill-refused_where bytes order l = go (read_job bytes)
 
 data Leaves (s : State) (w : Rooms) (iv : List Float) (r : Step) : Type 0 where
   unchanged : r.state ≡ s → r.rooms ≡ w → r.intervals ≡ zeros pos_zero iv → Leaves s w iv r
-  taken : r.verdict ≡ Accepted → r.intervals ≡ zeros pos_zero iv → Leaves s w iv r
+  taken : r.verdict ≡ Ok tt → r.intervals ≡ zeros pos_zero iv → Leaves s w iv r
 
 no_step_lem : (k : Refusal) (s : State) (w : Rooms) (iv : List Float) → Leaves s w iv (no_step k s w iv)
 unfolding no_step
@@ -236,10 +235,10 @@ no_step_lem k s w iv = unchanged refl refl refl
 place_leaves : (p : Planner) (st : List Float) (ts : List Track) (k : ℕ) (s : State) (w : Rooms) (iv : List Float) → Leaves s w iv (place_copy p st ts k s w iv)
 place_leaves p st ts k s w iv = go (copy_verdict p w iv k st (get_or p.shapes k []) ts (search_all p st (get_or p.shapes k []) ts)) refl
   where
-    go : (v : Verdict) → copy_verdict p w iv k st (get_or p.shapes k []) ts (search_all p st (get_or p.shapes k []) ts) ≡ v → Leaves s w iv
+    go : (v : Result (Unit {0}) Refusal) → copy_verdict p w iv k st (get_or p.shapes k []) ts (search_all p st (get_or p.shapes k []) ts) ≡ v → Leaves s w iv
         (place_copy p st ts k s w iv)
-    go Accepted d = rw (place-taken p st ts k s w iv d) (taken refl refl)
-    go (Refused r) d = rw (place-refused p st ts k s w iv r d) (no_step_lem r s w iv)
+    go (Ok tt) d = rw (place-taken p st ts k s w iv d) (taken refl refl)
+    go (Err r) d = rw (place-refused p st ts k s w iv r d) (no_step_lem r s w iv)
 
 core_leaves : (j : Job) (s : State) (w : Rooms) (iv : List Float) → Leaves s w iv (core_step j s w iv)
 unfolding core_step place_next
@@ -268,12 +267,12 @@ leaves bytes s w iv = go (read_job bytes)
 -- interval room."
 pub next-copy_leaves : (bytes : List ℕ) (s : State) (w : Rooms) (iv : List Float)
     → ((next_copy_of bytes s w iv).intervals ≡ zeros pos_zero iv)
-    × ((k : Refusal) → (next_copy_of bytes s w iv).verdict ≡ Refused k → ((next_copy_of bytes s w iv).state ≡ s) × ((next_copy_of bytes s w iv).rooms ≡ w))
+    × ((k : Refusal) → (next_copy_of bytes s w iv).verdict ≡ Err k → ((next_copy_of bytes s w iv).state ≡ s) × ((next_copy_of bytes s w iv).rooms ≡ w))
 next-copy_leaves bytes s w iv = go (leaves bytes s w iv)
   where
     go : Leaves s w iv (next_copy_of bytes s w iv)
         → ((next_copy_of bytes s w iv).intervals ≡ zeros pos_zero iv)
-        × ((k : Refusal) → (next_copy_of bytes s w iv).verdict ≡ Refused k → ((next_copy_of bytes s w iv).state ≡ s) × ((next_copy_of bytes s w iv).rooms ≡ w))
+        × ((k : Refusal) → (next_copy_of bytes s w iv).verdict ≡ Err k → ((next_copy_of bytes s w iv).state ≡ s) × ((next_copy_of bytes s w iv).rooms ≡ w))
     go (unchanged a b c) = (c, λ k f. (a, b))
     go (taken a c) = (c, λ k f. absurd (refused≢accepted (sym f ∙ a)))
 
@@ -281,7 +280,7 @@ next-copy_leaves bytes s w iv = go (leaves bytes s w iv)
 
 data Rests (s : State) (w : Rooms) (r : Reply) : Type 0 where
   rests : r.state ≡ s → r.rooms ≡ w → Rests s w r
-  gone : r.verdict ≡ Accepted → Rests s w r
+  gone : r.verdict ≡ Ok tt → Rests s w r
 
 module _ (s : State) (w : Rooms) (n : ℕ) where
   no_withdrawal_lem : (k : Refusal) → Rests s w (no_withdrawal k s w)
@@ -306,7 +305,7 @@ module _ (s : State) (w : Rooms) (n : ℕ) where
   given-rests (accepted j) = job-rests j
 
 -- document 02, W4: "state and rooms unchanged"
-pub withdraw-rests : (bytes : List ℕ) (s : State) (w : Rooms) (n : ℕ) (k : Refusal) → (withdraw_of bytes s w n).verdict ≡ Refused k
+pub withdraw-rests : (bytes : List ℕ) (s : State) (w : Rooms) (n : ℕ) (k : Refusal) → (withdraw_of bytes s w n).verdict ≡ Err k
     → ((withdraw_of bytes s w n).state ≡ s) × ((withdraw_of bytes s w n).rooms ≡ w)
 unfolding withdraw_of
 withdraw-rests bytes s w n k f = go (given-rests s w n (read_job bytes))

@@ -1,4 +1,5 @@
 -- After an accepted start, whatever the calls: right is the largest x + b2 of the standing copies, from s0. Assumes nothing.
+use Rattle.std.specs.Prelude.{Ok}
 use mathlib.Core.Path.{◌≡◌, refl, sym, ap, ◌∙◌}
 use mathlib.Core.List.{List, [], ◌∷◌, ◌++◌, map}
 use Prim.Native.Nat.{ℕ}
@@ -7,7 +8,6 @@ use lib.Ieee.{Float}
 use Rattle.numbers.specs.Numbers.{◌⊕◌, larger}
 use Rattle.job.specs.Jobs.{Job, accepted, read_job}
 use Rattle.filling.specs.declared.State.{State}
-use Rattle.filling.specs.declared.Verdict.TheVariants.{Accepted}
 use Rattle.filling.specs.Shapes.{Planner, planner_of, Standing, shape_of, others, standing_strips}
 use Rattle.filling.specs.Choice.{Choice, best, standing_at}
 use Rattle.filling.specs.Plain.{Plain, plain_start, plain_take, plain_back, copy_after, standing_after}
@@ -93,7 +93,7 @@ module _ (j : Job) (z : Sized j) (s : State) (w : Rooms) (q : Plain) (h : With j
       anew = unfold state_without in (unfold layout_without in refl)
 
 -- "Right is the largest winning x + b2, from s0", "found anew from the standing copies"
-pub right-found : (bytes order : List ℕ) (l : Lent) (j : Job) → read_job bytes ≡ accepted j → (start_of bytes order l).verdict ≡ Accepted → (calls : List Call)
+pub right-found : (bytes order : List ℕ) (l : Lent) (j : Job) → read_job bytes ≡ accepted j → (start_of bytes order l).verdict ≡ Ok tt → (calls : List Call)
     → let s = (after_calls bytes calls (start_of bytes order l).state (start_of bytes order l).lent.rooms).state in s.layout.right ≡ right_of (planner_of j)
     (planner_of j).bounds.left (standing_of s)
 right-found bytes order l j e v calls =

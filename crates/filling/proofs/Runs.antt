@@ -1,5 +1,6 @@
 -- What every copy taken and every withdrawal keeps, every list of calls keeps; what every copy taken keeps, every filling that is not refused
 -- keeps. Assumes nothing.
+use Rattle.std.specs.Prelude.{Result, Ok, Err}
 use mathlib.Core.Path.{◌≡◌, refl, sym, ap, ◌∙◌}
 use mathlib.Core.Logic.{◌⊎◌, inl, inr}
 use mathlib.Core.Bool.{Bool, true, false}
@@ -13,8 +14,6 @@ use Rattle.job.specs.Jobs.{Job, accepted, read_job}
 use Rattle.filling.specs.declared.State.{State}
 use Rattle.filling.specs.declared.Refusal.{Refusal}
 use Rattle.filling.specs.declared.Refusal.TheVariants as Why
-use Rattle.filling.specs.declared.Verdict.{Verdict}
-use Rattle.filling.specs.declared.Verdict.TheVariants.{Accepted, Refused}
 use Rattle.filling.specs.Refusals.{is_refused}
 use Rattle.filling.specs.Shapes.{Planner, planner_of}
 use Rattle.filling.specs.Plain.{Plain, Request, take_next, take_back, plain_take, plain_back, plain_call, plain_calls}
@@ -116,12 +115,12 @@ module _ (j : Job) (K : State → Rooms → Plain → Type 0) (linked : (s : Sta
 
       go : (Took j s w r → fill_from j iv n r.state r.rooms ≡ filled s' → (w' : Rooms) × K s' w'
           (plain_calls (planner_of j) (replicate n take_next) (replicate n false) (plain_take (planner_of j) q q.to_come_lem)))
-          → (v : Verdict) → r.verdict ≡ v → Steps.Outcome j s w r
-          → ◌≡◌ {A = Filling} (elim v [ Accepted ↦ fill_from j iv n r.state r.rooms | Refused k ↦ stopped k ]) (filled s') → (w' : Rooms) × K s' w'
+          → (v : Result (Unit {0}) Refusal) → r.verdict ≡ v → Steps.Outcome j s w r
+          → ◌≡◌ {A = Filling} (elim v [ Ok tt ↦ fill_from j iv n r.state r.rooms | Err k ↦ stopped k ]) (filled s') → (w' : Rooms) × K s' w'
           (plain_calls (planner_of j) (replicate n take_next) (replicate n false) (plain_take (planner_of j) q q.to_come_lem))
-      go more (Refused k) d o e = absurd (stopped≢filled e)
-      go more Accepted d (unchanged k v b c) e = absurd (refused≢accepted (sym v ∙ d))
-      go more Accepted d (took t) e = more t e
+      go more (Err k) d o e = absurd (stopped≢filled e)
+      go more (Ok tt) d (unchanged k v b c) e = absurd (refused≢accepted (sym v ∙ d))
+      go more (Ok tt) d (took t) e = more t e
 
 -- ---- what a filling's reply and position room say of an outcome
 
@@ -130,26 +129,26 @@ unfolding planned_with plan_of only_positions state_outcome
 state_reports j l s n = record { placed = refl; placed_of = refl; positions_are = refl; unplaced = refl; unplaced_of = refl; look_counts = refl }
 
 module _ (j : Job) (order : List ℕ) (l : Lent) where
-  pub fill-stopped : (k : Refusal) → start_verdict j order l ≡ Refused k → fill_job j order l ≡ not_planned k l
+  pub fill-stopped : (k : Refusal) → start_verdict j order l ≡ Err k → fill_job j order l ≡ not_planned k l
   unfolding fill_job
   fill-stopped k e = rw (e, fill_job)
 
-  pub fill-runs : start_verdict j order l ≡ Accepted → fill_job j order l ≡ planned_by j l (fill_order j l order)
+  pub fill-runs : start_verdict j order l ≡ Ok tt → fill_job j order l ≡ planned_by j l (fill_order j l order)
   unfolding fill_job
   fill-runs e = rw (e, fill_job)
 
-module _ (j : Job) (order : List ℕ) (l : Lent) (o : Outcome) (is : start_verdict j order l ≡ Accepted → (s : State) → fill_order j l order ≡ filled s →
+module _ (j : Job) (order : List ℕ) (l : Lent) (o : Outcome) (is : start_verdict j order l ≡ Ok tt → (s : State) → fill_order j l order ≡ filled s →
     state_outcome j s ≡ o) where
-  by_filling : start_verdict j order l ≡ Accepted → (f : Filling) → fill_order j l order ≡ f → (planned_by j l f).verdict ≡ Accepted → Reports j l (planned_by j l f)
+  by_filling : start_verdict j order l ≡ Ok tt → (f : Filling) → fill_order j l order ≡ f → (planned_by j l f).verdict ≡ Ok tt → Reports j l (planned_by j l f)
       o
   unfolding planned_by not_planned
   by_filling v (stopped k) d e = absurd (refused≢accepted e)
   by_filling v (filled s) d e = rw (← is v s d) (state_reports j l s 0)
 
-  pub fill_reports : (fill_job j order l).verdict ≡ Accepted → Reports j l (fill_job j order l) o
+  pub fill_reports : (fill_job j order l).verdict ≡ Ok tt → Reports j l (fill_job j order l) o
   unfolding not_planned
   fill_reports e = go (start_verdict j order l) refl
     where
-      go : (v : Verdict) → start_verdict j order l ≡ v → Reports j l (fill_job j order l) o
-      go (Refused k) d = absurd (refused≢accepted (sym (ap (λ r. r.verdict) (fill-stopped j order l k d)) ∙ e))
-      go Accepted d = rw (fill-runs j order l d) (by_filling d (fill_order j l order) refl (rw (fill-runs j order l d) at e))
+      go : (v : Result (Unit {0}) Refusal) → start_verdict j order l ≡ v → Reports j l (fill_job j order l) o
+      go (Err k) d = absurd (refused≢accepted (sym (ap (λ r. r.verdict) (fill-stopped j order l k d)) ∙ e))
+      go (Ok tt) d = rw (fill-runs j order l d) (by_filling d (fill_order j l order) refl (rw (fill-runs j order l d) at e))

@@ -1,4 +1,5 @@
 -- What the core step does to a state and its rooms. Assumes nothing.
+use Rattle.std.specs.Prelude.{Result, Ok, Err}
 use mathlib.Core.Path.{◌≡◌, refl, sym, ap, ◌∙◌}
 use mathlib.Core.Bool.{Bool, true, false}
 use mathlib.Core.List.{List, [], ◌∷◌, ◌++◌, map, flat_map, append-nil, append_assoc}
@@ -16,8 +17,6 @@ use Rattle.filling.specs.declared.Tables.{Tables}
 use Rattle.filling.specs.declared.Layout.{Layout}
 use Rattle.filling.specs.declared.Refusal.{Refusal}
 use Rattle.filling.specs.declared.Refusal.TheVariants as Why
-use Rattle.filling.specs.declared.Verdict.{Verdict}
-use Rattle.filling.specs.declared.Verdict.TheVariants.{Accepted, Refused}
 use Rattle.filling.specs.Refusals.{refuse_if}
 use Rattle.filling.specs.Shapes.{Shape, Planner, planner_of, Copy, Standing, copies_from, shape_of, moved_strips, copy_strips, standing_strips}
 use Rattle.filling.specs.Search.{Found, Track, search_all, searched_all}
@@ -85,39 +84,39 @@ pub record Took (j : Job) (s : State) (w : Rooms) (r : Step) : Type 0 where
   pub kind : ℕ
   pub rest : List ℕ
   pub order_is : drop s.taken (order_of j s) ≡ kind ∷ rest
-  pub accepted : r.verdict ≡ Accepted
-  pub fits : winner_verdict (planner_of j) w kind (Here j s) (ChoicesNow j s kind) ≡ Accepted
+  pub accepted : r.verdict ≡ Ok tt
+  pub fits : winner_verdict (planner_of j) w kind (Here j s) (ChoicesNow j s kind) ≡ Ok tt
   pub state_is : r.state ≡ state_after (planner_of j) kind (TracksNow j s kind) s (Here j s) (ChoicesNow j s kind)
   pub rooms_is : r.rooms ≡ rooms_after (planner_of j) kind w (Here j s) (ChoicesNow j s kind)
 
 pub data Outcome (j : Job) (s : State) (w : Rooms) (r : Step) : Type 0 where
-  unchanged : (k : Refusal) → r.verdict ≡ Refused k → r.state ≡ s → r.rooms ≡ w → Outcome j s w r
+  unchanged : (k : Refusal) → r.verdict ≡ Err k → r.state ≡ s → r.rooms ≡ w → Outcome j s w r
   took : Took j s w r → Outcome j s w r
 
 -- ---- the core step
 
-pub refused≢accepted : {k : Refusal} → Refused k ≡ Accepted → ⊥
+pub refused≢accepted : {k : Refusal} → ◌≡◌ {A = Result (Unit {0}) Refusal} (Err k) (Ok tt) → ⊥
 refused≢accepted e = let z : ◌≡◌ {A = ℕ} 0 1 = cc in omega arith
 
-pub accepted≢refused : {k : Refusal} → Accepted ≡ Refused k → ⊥
+pub accepted≢refused : {k : Refusal} → ◌≡◌ {A = Result (Unit {0}) Refusal} (Ok tt) (Err k) → ⊥
 accepted≢refused e = refused≢accepted (sym e)
 
-pub same-refusal : {k r : Refusal} → Refused k ≡ Refused r → k ≡ r
+pub same-refusal : {k r : Refusal} → ◌≡◌ {A = Result (Unit {0}) Refusal} (Err k) (Err r) → k ≡ r
 same-refusal e = cc
 
-pub no_step-refused : (k : Refusal) (s : State) (w : Rooms) (iv : List Float) → (no_step k s w iv).verdict ≡ Refused k
+pub no_step-refused : (k : Refusal) (s : State) (w : Rooms) (iv : List Float) → (no_step k s w iv).verdict ≡ Err k
 unfolding no_step
 no_step-refused k s w iv = refl
 
-pub refuse_yes : (t : Bool) (k : Refusal) (v : Verdict) → t ≡ true → refuse_if t k v ≡ Refused k
+pub refuse_yes : (t : Bool) (k : Refusal) (v : Result (Unit {0}) Refusal) → t ≡ true → refuse_if t k v ≡ Err k
 unfolding refuse_if
 refuse_yes t k v e = rw (e, refuse_if)
 
-pub refuse_no : (t : Bool) (k : Refusal) (v : Verdict) → t ≡ false → refuse_if t k v ≡ v
+pub refuse_no : (t : Bool) (k : Refusal) (v : Result (Unit {0}) Refusal) → t ≡ false → refuse_if t k v ≡ v
 unfolding refuse_if
 refuse_no t k v e = rw (e, refuse_if)
 
-pub later_accepted : (t : Bool) (k : Refusal) (v : Verdict) → refuse_if t k v ≡ Accepted → (t ≡ false) × (v ≡ Accepted)
+pub later_accepted : (t : Bool) (k : Refusal) (v : Result (Unit {0}) Refusal) → refuse_if t k v ≡ Ok tt → (t ≡ false) × (v ≡ Ok tt)
 unfolding refuse_if
 later_accepted true k v e = absurd (refused≢accepted e)
 later_accepted false k v e = (refl, e)
@@ -129,14 +128,14 @@ module _ (p : Planner) (st : List Float) (ts : List Track) (k : ℕ) (s : State)
   abbrev Fs : List Found
   Fs = search_all p st (get_or p.shapes k []) ts
 
-  pub place-refused : (r : Refusal) → copy_verdict p w iv k st Ss ts Fs ≡ Refused r → place_copy p st ts k s w iv ≡ no_step r s w iv
+  pub place-refused : (r : Refusal) → copy_verdict p w iv k st Ss ts Fs ≡ Err r → place_copy p st ts k s w iv ≡ no_step r s w iv
   unfolding place_copy place_found
   place-refused r e = rw (e, place_found)
 
-  pub place-taken : copy_verdict p w iv k st Ss ts Fs ≡ Accepted
+  pub place-taken : copy_verdict p w iv k st Ss ts Fs ≡ Ok tt
       → place_copy p st ts k s w iv
       ≡ record {
-        verdict = Accepted;
+        verdict = Ok tt;
         state = state_after p k (searched_all p Ss ts (search_all p st Ss ts)) s st (choices p 0 Ss (search_all p st Ss ts));
         rooms = rooms_after p k w st (choices p 0 Ss (search_all p st Ss ts));
         intervals = zeros pos_zero iv;
@@ -144,7 +143,7 @@ module _ (p : Planner) (st : List Float) (ts : List Track) (k : ℕ) (s : State)
   unfolding place_copy place_found
   place-taken e = rw (e, place_found)
 
-  pub winner-accepted : copy_verdict p w iv k st Ss ts Fs ≡ Accepted → winner_verdict p w k st (choices p 0 Ss (search_all p st Ss ts)) ≡ Accepted
+  pub winner-accepted : copy_verdict p w iv k st Ss ts Fs ≡ Ok tt → winner_verdict p w k st (choices p 0 Ss (search_all p st Ss ts)) ≡ Ok tt
   unfolding copy_verdict
   winner-accepted e = (later_accepted (any_above (interval_capacity iv) (interval_counts p st Ss ts Fs)) Why.IntervalRoom _ e).1
 
@@ -156,11 +155,11 @@ module _ (j : Job) (s : State) (w : Rooms) (h : Linked j s w) (iv : List Float) 
   placed : (k : ℕ) (ks : List ℕ) → drop s.taken (order_of j s) ≡ k ∷ ks → Outcome j s w (place_copy (planner_of j) (Here j s) (get_or (tracks_of j s) k []) k s w iv)
   placed k ks e = go (copy_verdict (planner_of j) w iv k (Here j s) (get_or (planner_of j).shapes k []) (get_or (tracks_of j s) k []) (FoundOf j s k)) refl
     where
-      go : (v : Verdict) → copy_verdict (planner_of j) w iv k (Here j s) (get_or (planner_of j).shapes k []) (get_or (tracks_of j s) k []) (FoundOf j s k) ≡ v → Outcome j s w (place_copy (planner_of j) (Here j s) (get_or (tracks_of j s) k []) k s w iv)
-      go Accepted d =
+      go : (v : Result (Unit {0}) Refusal) → copy_verdict (planner_of j) w iv k (Here j s) (get_or (planner_of j).shapes k []) (get_or (tracks_of j s) k []) (FoundOf j s k) ≡ v → Outcome j s w (place_copy (planner_of j) (Here j s) (get_or (tracks_of j s) k []) k s w iv)
+      go (Ok tt) d =
           rw (place-taken (planner_of j) (Here j s) (get_or (tracks_of j s) k []) k s w iv d)
           (took (record { kind = k; rest = ks; order_is = e; accepted = refl; fits = winner-accepted (planner_of j) (Here j s) (get_or (tracks_of j s) k []) k s w iv d; state_is = refl; rooms_is = refl }))
-      go (Refused r) d = rw (place-refused (planner_of j) (Here j s) (get_or (tracks_of j s) k []) k s w iv r d) (no_step_lem r)
+      go (Err r) d = rw (place-refused (planner_of j) (Here j s) (get_or (tracks_of j s) k []) k s w iv r d) (no_step_lem r)
 
   next-placed : (l : List ℕ) → drop s.taken (order_of j s) ≡ l → Outcome j s w (place_next j s w iv l)
   unfolding place_next

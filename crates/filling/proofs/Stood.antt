@@ -22,6 +22,7 @@ use Rattle.filling.specs.Search.{Found, at, nowhere}
 use Rattle.filling.specs.Choice.{Choice, choice_of, choices, wins, best}
 use Rattle.filling.specs.Plain.{copy_after, standing_after}
 use Rattle.filling.specs.State.{orientation_counts}
+use Rattle.filling.proofs.Same.{same_self}
 use Rattle.filling.specs.Consistent.{every, bounded, strip_fits, strips_fit, orientation_fits, position_fits, same_doubles}
 use Rattle.filling.specs.Withdraw.{right_of}
 use Rattle.filling.proofs.Reading.{Sixfold, capacity_append}
@@ -44,11 +45,6 @@ itself x f = go (either (eq x x))
 bounded_finite : (x : Float) → bounded x ≡ true → finite x ≡ true
 unfolding bounded
 bounded_finite x h = both_first (finite x) _ h
-
-same_all : (l : List Float) → ((i : ℕ) → i < length l → finite (get_or l i nan) ≡ true) → same_doubles l l ≡ true
-unfolding same_doubles
-same_all [] h = refl
-same_all (a ∷ l) h = rw (itself a (h 0 (omega arith)), same_all l (λ i b. h (suc i) (omega arith)))
 
 module _ (l : List Float) (i : ℕ) (h : strip_fits (strip_at l i) ≡ true) where
   abbrev Fits : ℕ → Bool
@@ -81,11 +77,11 @@ module _ (l : List Float) (i : ℕ) (h : strip_fits (strip_at l i) ≡ true) whe
 pub same-strips : (l : List Float) → Sixfold l → strips_fit l ≡ true → same_doubles l l ≡ true
 unfolding strips_fit capacity
 same-strips l s h =
-    same_all l
+    same_self eq l nan
     (λ i b.
     let e : i ≡ 6 * (i / 6) + i % 6 = omega arith in
-    ap (λ (n : ℕ). finite (get_or l n nan)) e ∙ bounded_finite (get_or l (6 * (i / 6) + i % 6) nan)
-    (number_fits l (i / 6) (up_from-every (λ n. strip_fits (strip_at l n)) (length l / 6) 0 h (i / 6) (omega arith) (omega arith)) (i % 6) (omega arith)))
+    itself (get_or l i nan) (ap (λ (n : ℕ). finite (get_or l n nan)) e ∙ bounded_finite (get_or l (6 * (i / 6) + i % 6) nan)
+    (number_fits l (i / 6) (up_from-every (λ n. strip_fits (strip_at l n)) (length l / 6) 0 h (i / 6) (omega arith) (omega arith)) (i % 6) (omega arith))))
 
 -- ---- strips of some of the copies
 

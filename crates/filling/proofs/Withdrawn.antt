@@ -1,4 +1,5 @@
 -- What a withdrawal does to a state and its rooms. Assumes nothing.
+use Rattle.std.specs.Prelude.{Ok, Err}
 use mathlib.Core.Path.{◌≡◌, refl, sym, ap, ap₂, subst, ◌∙◌}
 use mathlib.Core.Logic.{◌⊎◌, inl, inr}
 use mathlib.Core.Bool.{true, false}
@@ -17,7 +18,6 @@ use Rattle.job.specs.Jobs.{Job, accepted, read_job}
 use Rattle.filling.specs.declared.State.{State}
 use Rattle.filling.specs.declared.Refusal.{Refusal}
 use Rattle.filling.specs.declared.Refusal.TheVariants as Why
-use Rattle.filling.specs.declared.Verdict.TheVariants.{Accepted, Refused}
 use Rattle.filling.specs.Shapes.{planner_of, Copy, Standing, copies_from, named, others, standing_strips}
 use Rattle.filling.specs.Plain.{copy_after, standing_after}
 use Rattle.filling.specs.Rooms.{Rooms, zeros}
@@ -236,12 +236,12 @@ pub record Went (j : Job) (s : State) (w : Rooms) (n : ℕ) (r : Reply) : Type 0
   pub copy : Standing
   pub copy_is : stands_at s n (get_or s.layout.orientation n 0) ≡ copy ∷ []
   pub kind_is : get_or s.order n 0 ≡ copy.copy.kind
-  pub accepted : r.verdict ≡ Accepted
+  pub accepted : r.verdict ≡ Ok tt
   pub state_is : r.state ≡ state_without j (planner_of j) s n copy (Left j s n)
   pub rooms_is : r.rooms ≡ rooms_without (planner_of j) w (Left j s n)
 
 pub data Answered (j : Job) (s : State) (w : Rooms) (n : ℕ) (r : Reply) : Type 0 where
-  stays : (k : Refusal) → r.verdict ≡ Refused k → r.state ≡ s → r.rooms ≡ w → Answered j s w n r
+  stays : (k : Refusal) → r.verdict ≡ Err k → r.state ≡ s → r.rooms ≡ w → Answered j s w n r
   went : Went j s w n r → Answered j s w n r
 
 -- 31 is the first test

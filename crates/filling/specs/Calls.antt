@@ -1,9 +1,9 @@
 -- Demand 3 and document 02, W4: a list of next copies and withdrawals after a start, what its state says, and what the plain planner says.
 -- Definitions only. Assumes nothing.
-use Rattle.std.specs.Prelude.{ℕ, Bool, List, [], ◌∷◌, map, Float}
+use Rattle.std.specs.Prelude.{Result, ℕ, Bool, List, [], ◌∷◌, map, Float}
+use Rattle.filling.specs.declared.Refusal.{Refusal}
 use Rattle.job.specs.Jobs.{Job}
 use Rattle.filling.specs.declared.State.{State}
-use Rattle.filling.specs.declared.Verdict.{Verdict}
 use Rattle.filling.specs.Refusals.{is_refused}
 use Rattle.filling.specs.Shapes.{Planner, planner_of, Copy, Standing}
 use Rattle.filling.specs.Rooms.{Rooms}
@@ -25,7 +25,7 @@ request_of (withdraw n) = take_back n
 
 -- what is left after some calls, and what each of them answered
 pub record After : Type 0 where
-  pub verdicts : List Verdict
+  pub verdicts : List (Result (Unit {0}) Refusal)
   pub state : State
   pub rooms : Rooms
 
@@ -47,7 +47,7 @@ after_calls bytes (c ∷ cs) s w =
     record { verdicts = r.verdict ∷ a.verdicts; state = a.state; rooms = a.rooms }
 
 -- "whether each call was refused"
-unfoldable pub refusals : List Verdict → List Bool
+unfoldable pub refusals : List (Result (Unit {0}) Refusal) → List Bool
 refusals vs = map is_refused vs
 
 -- what demand 3 compares: "the copies standing, with orientation, x and y, and those without a place", and "each orientation's look count"

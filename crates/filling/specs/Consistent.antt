@@ -117,12 +117,16 @@ gaps_fit s = every (λ c. gap_fits c.gap) (standing_of s)
 
 -- ---- "entries that are not those of the standing strips"
 
--- equal lists
-unfoldable pub same_numbers : List ℕ → List ℕ → Bool
-same_numbers [] [] = true
-same_numbers [] (b ∷ bs) = false
-same_numbers (a ∷ as') [] = false
-same_numbers (a ∷ as') (b ∷ bs) = eqb a b && same_numbers as' bs
+-- equal lists, by a test of their elements
+unfoldable pub same {ℓ} : {A : Type ℓ} → (A → A → Bool) → List A → List A → Bool
+same test [] [] = true
+same test [] (b ∷ bs) = false
+same test (a ∷ as') [] = false
+same test (a ∷ as') (b ∷ bs) = test a b && same test as' bs
+
+-- equal lists of numbers
+abbrev pub same_numbers : List ℕ → List ℕ → Bool
+same_numbers = same eqb
 
 -- the room begins with these numbers
 unfoldable pub numbers_lie : List ℕ → List ℕ → Bool
@@ -151,12 +155,9 @@ orientation_fits ns c = ltb c.orientation (get_or ns c.copy.kind 0)
 unfoldable pub position_fits : Standing → Bool
 position_fits c = bounded c.x && bounded c.y
 
--- equal numbers; minus zero is zero
-unfoldable pub same_doubles : List Float → List Float → Bool
-same_doubles [] [] = true
-same_doubles [] (b ∷ bs) = false
-same_doubles (a ∷ as') [] = false
-same_doubles (a ∷ as') (b ∷ bs) = eq a b && same_doubles as' bs
+-- equal lists of doubles; minus zero is zero
+abbrev pub same_doubles : List Float → List Float → Bool
+same_doubles = same eq
 
 -- ", or strips that are not its orientation's moved to its position": the placed strips are those of the standing copies, in order, and no others
 unfoldable pub copies_fit : Job → Planner → List Standing → List Float → Bool

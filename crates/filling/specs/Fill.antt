@@ -1,12 +1,10 @@
 -- Document 01, the filling in a given order: start, then the core step once for every copy. Definitions only. Assumes nothing.
-use Rattle.std.specs.Prelude.{ℕ, zero, suc, List, [], length, Float}
+use Rattle.std.specs.Prelude.{Result, Ok, Err, ℕ, zero, suc, List, [], length, Float}
 use Rattle.job.specs.Jobs.{Job, Answer, accepted, refused, read_job}
 use Rattle.filling.specs.declared.State.{State}
 use Rattle.filling.specs.declared.Plan.{Plan}
 use Rattle.filling.specs.declared.Refusal.{Refusal}
 use Rattle.filling.specs.declared.Refusal.TheVariants as Why
-use Rattle.filling.specs.declared.Verdict.{Verdict}
-use Rattle.filling.specs.declared.Verdict.TheVariants.{Accepted, Refused}
 use Rattle.filling.specs.Shapes.{planner_of}
 use Rattle.filling.specs.Rooms.{Rooms, Lent, only_positions}
 use Rattle.filling.specs.State.{standing_of}
@@ -24,7 +22,7 @@ unfoldable pub fill_from : Job → List Float → ℕ → State → Rooms → Fi
 fill_from j intervals zero s w = filled s
 fill_from j intervals (suc n) s w =
     let r = core_step j s w intervals in
-    elim r.verdict [ Accepted ↦ fill_from j intervals n r.state r.rooms | Refused k ↦ stopped k ]
+    elim r.verdict [ Ok tt ↦ fill_from j intervals n r.state r.rooms | Err k ↦ stopped k ]
 
 -- nesting.rs's fill: from the start's state and rooms, one step for each copy of the order
 unfoldable pub fill_order : Job → Lent → List ℕ → Filling
@@ -36,18 +34,18 @@ fill_order j l order =
 
 -- what a filling or a whole plan answers, and its rooms after
 pub record Planned : Type 0 where
-  pub verdict : Verdict
+  pub verdict : Result (Unit {0}) Refusal
   pub plan : Plan
   pub lent : Lent
 
 -- "A refused whole plan returns only the number and zeros every lent room"
 unfoldable pub not_planned : Refusal → Lent → Planned
-not_planned r l = record { verdict = Refused r; plan = no_plan; lent = only_positions l [] }
+not_planned r l = record { verdict = Err r; plan = no_plan; lent = only_positions l [] }
 
 -- "an accepted one leaves its positions, with zeros after them and in the work rooms"
 unfoldable pub planned_with : Job → Lent → State → ℕ → Planned
 planned_with j l s improvements =
-    record { verdict = Accepted; plan = plan_of j s improvements; lent = only_positions l (flat_positions (positions j (standing_of s))) }
+    record { verdict = Ok tt; plan = plan_of j s improvements; lent = only_positions l (flat_positions (positions j (standing_of s))) }
 
 -- of a filling, with no improvements
 unfoldable pub planned_by : Job → Lent → Filling → Planned
@@ -56,7 +54,7 @@ planned_by j l (stopped r) = not_planned r l
 
 -- "A filling in a given order and a start .. count as whole plans, 10 right after 30."
 unfoldable pub fill_job : Job → List ℕ → Lent → Planned
-fill_job j order l = elim (start_verdict j order l) [ Accepted ↦ planned_by j l (fill_order j l order) | Refused r ↦ not_planned r l ]
+fill_job j order l = elim (start_verdict j order l) [ Ok tt ↦ planned_by j l (fill_order j l order) | Err r ↦ not_planned r l ]
 
 -- a job that is refused: its number
 unfoldable pub fill_given : Answer → List ℕ → Lent → Planned

@@ -1,10 +1,9 @@
 -- Document 01, "one leaf hands back the inset strips or the apart strips of one orientation", and refusal 9. Definitions only. Assumes nothing.
-use Rattle.std.specs.Prelude.{ℕ, ◌+◌, ◌*◌, Bool, not, ◌&&◌, cond, List, [], length, get_or, ltb, Float}
+use Rattle.std.specs.Prelude.{Result, Ok, Err, ℕ, ◌+◌, ◌*◌, Bool, not, ◌&&◌, cond, List, [], length, get_or, ltb, Float}
+use Rattle.filling.specs.declared.Refusal.{Refusal}
 use Rattle.trapezoid.specs.Strip.{part_of}
 use Rattle.job.specs.Jobs.{Job, Answer, accepted, refused, read_job}
 use Rattle.filling.specs.declared.Refusal.TheVariants as Why
-use Rattle.filling.specs.declared.Verdict.{Verdict}
-use Rattle.filling.specs.declared.Verdict.TheVariants.{Accepted, Refused}
 use Rattle.filling.specs.Refusals.{is_refused, refuse_if}
 use Rattle.filling.specs.State.{orientation_counts, Part, part_at}
 
@@ -13,12 +12,12 @@ unfoldable pub lacks : Job → ℕ → ℕ → Bool
 lacks j k o = not (ltb k (length j.kinds) && ltb o (get_or (orientation_counts j) k 0))
 
 -- a job that is refused: its number; then 9
-unfoldable pub shape_given : Answer → ℕ → ℕ → Verdict
-shape_given (refused r) k o = Refused (Why.Job r)
-shape_given (accepted j) k o = refuse_if (lacks j k o) Why.MissingShape Accepted
+unfoldable pub shape_given : Answer → ℕ → ℕ → Result (Unit {0}) Refusal
+shape_given (refused r) k o = Err (Why.Job r)
+shape_given (accepted j) k o = refuse_if (lacks j k o) Why.MissingShape (Ok tt)
 
 -- the public operation `shape_verdict`: whether the job has the orientation of the kind
-unfoldable pub shape_verdict : List ℕ → ℕ → ℕ → Verdict
+unfoldable pub shape_verdict : List ℕ → ℕ → ℕ → Result (Unit {0}) Refusal
 shape_verdict bytes k o = shape_given (read_job bytes) k o
 
 -- where the strips of one orientation lie, by its part of the table and the flag

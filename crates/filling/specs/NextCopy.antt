@@ -1,5 +1,5 @@
 -- Document 01, the next copy: a single step over a state and the contents of the rooms. Definitions only. Assumes nothing.
-use Rattle.std.specs.Prelude.{ℕ, suc, ◌*◌, Bool, true, false, ◌||◌, List, [], ◌∷◌, ◌++◌, map, length, get_or, set, drop, ltb, Float}
+use Rattle.std.specs.Prelude.{Result, Ok, Err, ℕ, suc, ◌*◌, Bool, true, false, ◌||◌, List, [], ◌∷◌, ◌++◌, map, length, get_or, set, drop, ltb, Float}
 use Rattle.std.proofs.lemmas.List.Edits.{sets}
 use Rattle.numbers.specs.Numbers.{◌⊕◌, larger, pos_zero}
 use Rattle.trapezoid.specs.Strip.{capacity}
@@ -9,8 +9,6 @@ use Rattle.filling.specs.declared.State.{State}
 use Rattle.filling.specs.declared.Layout.{Layout}
 use Rattle.filling.specs.declared.Refusal.{Refusal}
 use Rattle.filling.specs.declared.Refusal.TheVariants as Why
-use Rattle.filling.specs.declared.Verdict.{Verdict}
-use Rattle.filling.specs.declared.Verdict.TheVariants.{Accepted, Refused}
 use Rattle.filling.specs.Refusals.{refuse_if}
 use Rattle.filling.specs.Shapes.{Shape, Planner, shape_of, moved_strips}
 use Rattle.filling.specs.Search.{Found, Track, intervals_at, looks, search_all, searched_all}
@@ -41,18 +39,18 @@ unfoldable pub new_strips : Planner → ℕ → Choice → List Float
 new_strips p k c = moved_strips (shape_of p k c.orientation).apart c.x c.y
 
 -- "strips to be stored exceed the lent strip room" before "bucket entries exceed their room"
-unfoldable pub store_verdict : Planner → Rooms → List Float → Verdict
+unfoldable pub store_verdict : Planner → Rooms → List Float → Result (Unit {0}) Refusal
 store_verdict p w strips =
     refuse_if (ltb (standing_capacity w.placed w.placed_firsts) (capacity strips)) Why.StripRoom
-    (refuse_if (ltb (length w.placed_entries) (length (entries_for p.bounds strips))) Why.EntryRoom Accepted)
+    (refuse_if (ltb (length w.placed_entries) (length (entries_for p.bounds strips))) Why.EntryRoom (Ok tt))
 
 -- a copy without a place stores nothing
-unfoldable pub winner_verdict : Planner → Rooms → ℕ → List Float → List Choice → Verdict
-winner_verdict p w k standing [] = Accepted
+unfoldable pub winner_verdict : Planner → Rooms → ℕ → List Float → List Choice → Result (Unit {0}) Refusal
+winner_verdict p w k standing [] = Ok tt
 winner_verdict p w k standing (a ∷ as') = store_verdict p w (standing ++ new_strips p k (best a as'))
 
 -- every orientation is searched before the winner is stored
-unfoldable pub copy_verdict : Planner → Rooms → List Float → ℕ → List Float → List Shape → List Track → List Found → Verdict
+unfoldable pub copy_verdict : Planner → Rooms → List Float → ℕ → List Float → List Shape → List Track → List Found → Result (Unit {0}) Refusal
 copy_verdict p w intervals k standing ss ts fs =
     refuse_if (any_above (interval_capacity intervals) (interval_counts p standing ss ts fs)) Why.IntervalRoom
     (winner_verdict p w k standing (choices p 0 ss fs))
@@ -119,28 +117,28 @@ rooms_after p k w standing (a ∷ as') = stored p w (standing ++ new_strips p k 
 
 -- what a single step answers, and its rooms after
 pub record Step : Type 0 where
-  pub verdict : Verdict
+  pub verdict : Result (Unit {0}) Refusal
   pub state : State
   pub rooms : Rooms
   pub intervals : List Float
 
 -- "A refused single step returns state, strip and entry rooms unchanged; every single step leaves zeros in the interval room."
 unfoldable pub no_step : Refusal → State → Rooms → List Float → Step
-no_step r s w intervals = record { verdict = Refused r; state = s; rooms = w; intervals = zeros pos_zero intervals }
+no_step r s w intervals = record { verdict = Err r; state = s; rooms = w; intervals = zeros pos_zero intervals }
 
 -- a copy of kind k whose orientations ss found fs
 unfoldable pub place_found : Planner → List Float → List Shape → List Track → List Found → ℕ → State → Rooms → List Float → Step
 place_found p standing ss ts fs k s w intervals =
     elim (copy_verdict p w intervals k standing ss ts fs) [
-      | Accepted ↦
+      | Ok tt ↦
           let cs = choices p 0 ss fs in
           record {
-            verdict = Accepted;
+            verdict = Ok tt;
             state = state_after p k (searched_all p ss ts fs) s standing cs;
             rooms = rooms_after p k w standing cs;
             intervals = zeros pos_zero intervals;
           }
-      | Refused r ↦ no_step r s w intervals
+      | Err r ↦ no_step r s w intervals
     ]
 
 -- a copy of kind k, where p and standing are what state and rooms hold

@@ -1,14 +1,12 @@
 -- Document 01, "Refused because of the input" and "Refused because of the state": the lines that a call meets, in their order.
 -- Definitions only. Assumes nothing.
-use Rattle.std.specs.Prelude.{ℕ, zero, suc, Bool, true, false, not, List, [], ◌∷◌, ◌++◌, length, get_or, drop, ltb, Float}
+use Rattle.std.specs.Prelude.{Result, Ok, ℕ, zero, suc, Bool, true, false, not, List, [], ◌∷◌, ◌++◌, length, get_or, drop, ltb, Float}
 use Rattle.trapezoid.specs.Strip.{capacity}
 use Rattle.index.specs.Buckets.{standing_capacity}
 use Rattle.job.specs.Jobs.{Job, Answer, accepted, refused}
 use Rattle.filling.specs.declared.State.{State}
 use Rattle.filling.specs.declared.Refusal.{Refusal}
 use Rattle.filling.specs.declared.Refusal.TheVariants as Why
-use Rattle.filling.specs.declared.Verdict.{Verdict}
-use Rattle.filling.specs.declared.Verdict.TheVariants.{Accepted}
 use Rattle.filling.specs.Refusals.{refuse_if}
 use Rattle.filling.specs.Shapes.{Planner, planner_of, Shape, Standing}
 use Rattle.filling.specs.Search.{Found, Track, search_all}
@@ -27,8 +25,8 @@ pub record Line : Type 0 where
   pub refusal : Refusal
 
 -- "A call is refused exactly where a line of the tables holds for it, with the number first met"
-unfoldable pub first_met : List Line → Verdict
-first_met [] = Accepted
+unfoldable pub first_met : List Line → Result (Unit {0}) Refusal
+first_met [] = Ok tt
 first_met (l ∷ ls) = refuse_if l.holds l.refusal (first_met ls)
 
 -- 1 to 8: a job that is refused has its own line alone, an accepted one those of the call

@@ -1,11 +1,11 @@
 -- Document 01, "Refused because of the input" and "Refused because of the state": the numbers. Definitions only. Assumes nothing.
-use Rattle.std.specs.Prelude.{ℕ, Bool, true, false}
+use Rattle.std.specs.Prelude.{Result, Ok, Err, ℕ, Bool, true, false}
 use Rattle.bits.specs.Reading as Reading
+use Rattle.index.specs.declared.Overrun.{Overrun}
+use Rattle.index.specs.declared.Overrun.TheVariants as Room
 use Rattle.filling.specs.declared.Refusal.{Refusal}
 use Rattle.filling.specs.declared.Refusal.TheVariants.{Job, MissingShape, WrongOrder, StripRoom, EntryRoom, IntervalRoom, OrderUsedUp, NotStanding}
 use Rattle.filling.specs.declared.Refusal.TheVariants.{TooManyOfKind, OutsideRange, InTheWay, PositionRoom, Inconsistent}
-use Rattle.filling.specs.declared.Verdict.{Verdict}
-use Rattle.filling.specs.declared.Verdict.TheVariants.{Accepted, Refused}
 
 -- the tables' numbers
 unfoldable pub number_of : Refusal → ℕ
@@ -36,16 +36,22 @@ number_of PositionRoom = 30
 -- "a single step's state and rooms disagree"
 number_of Inconsistent = 31
 
+-- 20, 21 and 22 by the room that is overrun
+abbrev pub refusal_of : Overrun → Refusal
+refusal_of Room.StripRoom = StripRoom
+refusal_of Room.EntryRoom = EntryRoom
+refusal_of Room.IntervalRoom = IntervalRoom
+
 -- a call's number, 0 for one that is not refused
-unfoldable pub verdict_number : Verdict → ℕ
-verdict_number Accepted = 0
-verdict_number (Refused r) = number_of r
+unfoldable pub verdict_number : Result (Unit {0}) Refusal → ℕ
+verdict_number (Ok tt) = 0
+verdict_number (Err r) = number_of r
 
 -- whether a call was refused
-unfoldable pub is_refused : Verdict → Bool
-is_refused Accepted = false
-is_refused (Refused r) = true
+unfoldable pub is_refused : Result (Unit {0}) Refusal → Bool
+is_refused (Ok tt) = false
+is_refused (Err r) = true
 
 -- "In a filling the first met is given": r where the test holds, else what is met later
-unfoldable pub refuse_if : Bool → Refusal → Verdict → Verdict
-refuse_if t r later = elim t [ true ↦ Refused r | false ↦ later ]
+unfoldable pub refuse_if : Bool → Refusal → Result (Unit {0}) Refusal → Result (Unit {0}) Refusal
+refuse_if t r later = elim t [ true ↦ Err r | false ↦ later ]

@@ -1,5 +1,5 @@
 -- Document 01, the start: what it refuses, the state that it returns and the rooms that it leaves. Definitions only. Assumes nothing.
-use Rattle.std.specs.Prelude.{ℕ, ◌+◌, not, length, replicate, ltb, Float}
+use Rattle.std.specs.Prelude.{Result, Ok, Err, ℕ, ◌+◌, not, length, replicate, ltb, Float}
 use mathlib.Core.List.{List, [], ◌∷◌, ◌++◌, map, flat_map}
 use Rattle.numbers.specs.Numbers.{pos_zero}
 use Rattle.trapezoid.specs.Strip.{capacity}
@@ -9,8 +9,6 @@ use Rattle.filling.specs.declared.Tables.{Tables}
 use Rattle.filling.specs.declared.State.{State}
 use Rattle.filling.specs.declared.Refusal.{Refusal}
 use Rattle.filling.specs.declared.Refusal.TheVariants as Why
-use Rattle.filling.specs.declared.Verdict.{Verdict}
-use Rattle.filling.specs.declared.Verdict.TheVariants.{Accepted, Refused}
 use Rattle.filling.specs.Refusals.{refuse_if}
 use Rattle.filling.specs.Shapes.{Shape, Planner, planner_of}
 use Rattle.filling.specs.Rooms.{Rooms, Lent, position_capacity, laid, zeros, only_positions}
@@ -77,15 +75,15 @@ first_rooms p w =
 -- ---- what is refused
 
 -- "Then come the sheet's strips (20) and entries (21), the shapes' strips by kind and orientation, apart before inset (20)"
-unfoldable pub prepare_verdict : Planner → Rooms → Verdict
+unfoldable pub prepare_verdict : Planner → Rooms → Result (Unit {0}) Refusal
 prepare_verdict p w =
     refuse_if (ltb (standing_capacity w.sheet w.sheet_firsts) (capacity p.sheet)) Why.StripRoom
     (refuse_if (ltb (length w.sheet_entries) (length (entries_for p.bounds p.sheet))) Why.EntryRoom
     (refuse_if (ltb (capacity w.shapes) (capacity (apart_strips_of p ++ inset_strips p))) Why.StripRoom
-    Accepted))
+    (Ok tt)))
 
 -- "30 is tested as soon as the job is accepted", "10 right after 30"
-unfoldable pub start_verdict : Job → List ℕ → Lent → Verdict
+unfoldable pub start_verdict : Job → List ℕ → Lent → Result (Unit {0}) Refusal
 start_verdict j order l =
     refuse_if (ltb (position_capacity l.positions) j.copies) Why.PositionRoom
     (refuse_if (not (rearranged j order)) Why.WrongOrder
@@ -95,26 +93,26 @@ start_verdict j order l =
 
 -- what a start answers, and its rooms after
 pub record Start : Type 0 where
-  pub verdict : Verdict
+  pub verdict : Result (Unit {0}) Refusal
   pub state : State
   pub lent : Lent
 
 -- "A refused whole plan returns only the number and zeros every lent room"
 unfoldable pub no_start : Refusal → Lent → Start
-no_start r l = record { verdict = Refused r; state = zero_state; lent = only_positions l [] }
+no_start r l = record { verdict = Err r; state = zero_state; lent = only_positions l [] }
 
 -- an accepted start: strips and entries are left, zeros elsewhere
 unfoldable pub good_start : Planner → List ℕ → Lent → Start
 good_start p order l =
     record {
-      verdict = Accepted;
+      verdict = Ok tt;
       state = first_state p order;
       lent = record { rooms = first_rooms p l.rooms; intervals = zeros pos_zero l.intervals; positions = zeros pos_zero l.positions };
     }
 
 -- the start of an accepted job
 unfoldable pub start_job : Job → List ℕ → Lent → Start
-start_job j order l = elim (start_verdict j order l) [ Accepted ↦ good_start (planner_of j) order l | Refused r ↦ no_start r l ]
+start_job j order l = elim (start_verdict j order l) [ Ok tt ↦ good_start (planner_of j) order l | Err r ↦ no_start r l ]
 
 -- a job that is refused: its number
 unfoldable pub start_given : Answer → List ℕ → Lent → Start

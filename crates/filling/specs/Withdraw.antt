@@ -1,6 +1,6 @@
 -- Document 02, W4, "Take a copy back": the withdrawal of a standing copy, a single step over a state and the contents of the rooms.
 -- Definitions only. Assumes nothing.
-use Rattle.std.specs.Prelude.{ℕ, suc, ◌+◌, ◌-◌, ◌*◌, true, false, List, [], ◌∷◌, ◌++◌, get_or, take, drop, replicate, ltb, Float}
+use Rattle.std.specs.Prelude.{Result, Ok, Err, ℕ, suc, ◌+◌, ◌-◌, ◌*◌, true, false, List, [], ◌∷◌, ◌++◌, get_or, take, drop, replicate, ltb, Float}
 use Rattle.numbers.specs.Numbers.{◌⊕◌, larger, pos_zero}
 use Rattle.trapezoid.specs.Strip.{capacity}
 use Rattle.job.specs.Jobs.{Job, Answer, accepted, refused, read_job}
@@ -8,8 +8,6 @@ use Rattle.filling.specs.declared.State.{State}
 use Rattle.filling.specs.declared.Layout.{Layout}
 use Rattle.filling.specs.declared.Refusal.{Refusal}
 use Rattle.filling.specs.declared.Refusal.TheVariants as Why
-use Rattle.filling.specs.declared.Verdict.{Verdict}
-use Rattle.filling.specs.declared.Verdict.TheVariants.{Accepted, Refused}
 use Rattle.filling.specs.Shapes.{Planner, Standing, shape_of, others, copy_strips, standing_strips}
 use Rattle.filling.specs.Rooms.{Rooms, laid, zeros}
 use Rattle.filling.specs.State.{planner_at, stands_at, standing_to, standing_of}
@@ -78,13 +76,13 @@ rooms_without p w strips =
 
 -- what a call answers and leaves, but for its interval room; a withdrawal is lent none
 pub record Reply : Type 0 where
-  pub verdict : Verdict
+  pub verdict : Result (Unit {0}) Refusal
   pub state : State
   pub rooms : Rooms
 
 -- "state and rooms unchanged"
 unfoldable pub no_withdrawal : Refusal → State → Rooms → Reply
-no_withdrawal r s w = record { verdict = Refused r; state = s; rooms = w }
+no_withdrawal r s w = record { verdict = Err r; state = s; rooms = w }
 
 -- the copy at place n of the order, if it stands
 unfoldable pub standing_here : State → ℕ → List Standing
@@ -95,7 +93,7 @@ unfoldable pub withdrawn : Job → Planner → State → Rooms → ℕ → List 
 withdrawn j p s w n [] = no_withdrawal Why.NotStanding s w
 withdrawn j p s w n (c ∷ cs) =
     let strips = strips_without p s n c (placed_strips_of s w) in
-    record { verdict = Accepted; state = state_without j p s n c strips; rooms = rooms_without p w strips }
+    record { verdict = Ok tt; state = state_without j p s n c strips; rooms = rooms_without p w strips }
 
 -- "It refuses with 31 .., then .."
 unfoldable pub withdraw_job : Job → State → Rooms → ℕ → Reply

@@ -4,8 +4,14 @@
 
 pub mod promises;
 
+ghost use Rattle.std.specs.Prelude.{◌≡◌};
+ghost use Rattle.filling.specs.declared.Refusal.TheVariants.{Job};
+ghost use Rattle.filling.specs.Refusals.{refusal_of};
+
+use index::Overrun;
+
 // Why a call is refused: document 01's tables; `number_of` of specs/Refusals.antt gives the numbers.
-#[derive(Clone, Copy)]
+#[derive(Clone, Copy, Debug, PartialEq, Eq)]
 pub enum Refusal {
     Job(bits::Refusal),
     MissingShape,
@@ -22,10 +28,26 @@ pub enum Refusal {
     Inconsistent,
 }
 
-#[derive(Clone, Copy)]
-pub enum Verdict {
-    Accepted,
-    Refused(Refusal),
+// A room that is overrun below is the refusal of that name.
+impl From<Overrun> for Refusal {
+    ghost from_gives = { λ e r. r ≡ refusal_of e };
+
+    fn from(e: Overrun) -> Refusal {
+        match e {
+            Overrun::StripRoom => Refusal::StripRoom,
+            Overrun::EntryRoom => Refusal::EntryRoom,
+            Overrun::IntervalRoom => Refusal::IntervalRoom,
+        }
+    }
+}
+
+// A job that is refused: 1 to 8.
+impl From<bits::Refusal> for Refusal {
+    ghost from_gives = { λ e r. r ≡ Job e };
+
+    fn from(e: bits::Refusal) -> Refusal {
+        Refusal::Job(e)
+    }
 }
 
 // What a start prepares. A slot is 16 × kind + orientation.

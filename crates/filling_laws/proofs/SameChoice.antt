@@ -1,5 +1,7 @@
 -- The choice in the code's order is the choice of the definition of filling, over every orientation of a kind: its winner, its look counts, what
 -- it remembers, and 22 exactly where a look that is made lacks room. Assumes nothing.
+use Rattle.std.specs.Prelude.{Some, None, Ok, Err}
+use Rattle.index.specs.declared.Overrun.TheVariants.{IntervalRoom}
 use Prim.{⊥}
 use Prim.Native.Nat.{ℕ, zero, suc, ◌+◌, ◌<◌, ◌≤◌}
 use native.Mathlib.Omega.{arith}
@@ -22,11 +24,10 @@ use Rattle.filling.specs.Choice.{choice_of, choices, best}
 use Rattle.filling.specs.State.{remembered_number, track_at}
 use Rattle.filling.specs.NextCopy.{any_above, interval_counts}
 use Rattle.search.proofs.columns.Same as Same
-use Rattle.search.specs.declared.Found.{Found}
+use Rattle.search.specs.inner.Searching.{Found}
 use Rattle.search.specs.inner.Searching.{Tracked}
 use Rattle.choose.specs.declared.Choice.{Choice}
-use Rattle.choose.specs.declared.Winner.{Winner}
-use Rattle.choose.specs.declared.Winner.TheVariants.{At, Nowhere, Overflow}
+use Rattle.choose.specs.inner.Choosing.{Winner}
 use Rattle.choose.specs.inner.Choosing.{bounds_at, part_at, inset_part, apart_part, winner_of, wins_of, better_of, Surroundings, surroundings, columns_at, Chosen, chosen, won, orientation_of, bettered, choose_from}
 use Rattle.choose.proofs.Turns.{first-true, first-false}
 use Rattle.filling_laws.proofs.SameSearch.{found_of, count_for, found_for, looks_for, same_over, same-fine}
@@ -36,8 +37,8 @@ abbrev pub choice_in : Definition.Choice → Choice
 choice_in c = record { orientation = c.orientation; x = c.x; y = c.y; gap = c.gap; right = c.right; top = c.top }
 
 abbrev pub best_of : List Definition.Choice → Winner
-best_of [] = Nowhere
-best_of (a ∷ as') = At (choice_in (best a as'))
+best_of [] = Ok None
+best_of (a ∷ as') = Ok (Some (choice_in (best a as')))
 
 best_yes : (a b : Definition.Choice) (bs : List Definition.Choice) → Definition.wins b a ≡ true → best a (b ∷ bs) ≡ best b bs
 unfolding best
@@ -72,19 +73,19 @@ wins-same : (a b : Definition.Choice) → wins_of (choice_in a) (choice_in b) �
 unfolding wins_of Definition.wins
 wins-same a b = refl
 
-better-one : (cs : List Definition.Choice) (d : Definition.Choice) → better_of (best_of cs) (At (choice_in d)) ≡ best_of (cs ++ d ∷ [])
-better-one [] d = ap (λ (z : Definition.Choice). At (choice_in z)) (sym (best_none d))
+better-one : (cs : List Definition.Choice) (d : Definition.Choice) → better_of (best_of cs) (Ok (Some (choice_in d))) ≡ best_of (cs ++ d ∷ [])
+better-one [] d = ap (λ (z : Definition.Choice). Ok (Some (choice_in z))) (sym (best_none d))
 better-one (a ∷ as') d = go (either (Definition.wins d (best a as')))
   where
-    go : (Definition.wins d (best a as') ≡ true) ⊎ (Definition.wins d (best a as') ≡ false) → better_of (best_of (a ∷ as')) (At (choice_in d)) ≡ best_of (a ∷ as' ++ d ∷ [])
-    go (inl e) = first-true (choice_in (best a as')) (choice_in d) (wins-same d (best a as') ∙ e) ∙ ap (λ (z : Definition.Choice). At (choice_in z)) (sym (snoc_yes a d as' e))
-    go (inr e) = first-false (choice_in (best a as')) (choice_in d) (wins-same d (best a as') ∙ e) ∙ ap (λ (z : Definition.Choice). At (choice_in z)) (sym (snoc_no a d as' e))
+    go : (Definition.wins d (best a as') ≡ true) ⊎ (Definition.wins d (best a as') ≡ false) → better_of (best_of (a ∷ as')) (Ok (Some (choice_in d))) ≡ best_of (a ∷ as' ++ d ∷ [])
+    go (inl e) = first-true (choice_in (best a as')) (choice_in d) (wins-same d (best a as') ∙ e) ∙ ap (λ (z : Definition.Choice). Ok (Some (choice_in z))) (sym (snoc_yes a d as' e))
+    go (inr e) = first-false (choice_in (best a as')) (choice_in d) (wins-same d (best a as') ∙ e) ∙ ap (λ (z : Definition.Choice). Ok (Some (choice_in z))) (sym (snoc_no a d as' e))
 
-better-nowhere : (cs : List Definition.Choice) → better_of (best_of cs) Nowhere ≡ best_of (cs ++ [])
+better-nowhere : (cs : List Definition.Choice) → better_of (best_of cs) (Ok None) ≡ best_of (cs ++ [])
 better-nowhere [] = refl
 better-nowhere (a ∷ as') = ap best_of (sym (append-nil (a ∷ as')))
 
-better_overflow : (cs : List Definition.Choice) → better_of (best_of cs) Overflow ≡ Overflow
+better_overflow : (cs : List Definition.Choice) → better_of (best_of cs) (Err IntervalRoom) ≡ Err IntervalRoom
 better_overflow [] = refl
 better_overflow (a ∷ as') = refl
 
@@ -163,7 +164,7 @@ module _ (p : Planner) (standing : List Float) (capacity : ℕ) (inset_bounds : 
     choice_is : (g : Filling.Found) (cs : List Definition.Choice) → better_of (best_of cs) (winner_of (columns_at world_of i) (bounds_at inset_bounds i) o (found_of g)) ≡ best_of (cs ++ choice_of p o (shape_in i) g)
     unfolding choice_of ranges_of
     choice_is (Filling.at c y g) cs =
-        ap (λ (x : Float). better_of (best_of cs) (At (record { orientation = o; x = x; y = y; gap = g; right = x ⊕ (bounds_at inset_bounds i).right; top = y ⊕ (bounds_at inset_bounds i).top }))) (Same.x_same p.bounds (bounds_at inset_bounds i) p.resolution c)
+        ap (λ (x : Float). better_of (best_of cs) (Ok (Some (record { orientation = o; x = x; y = y; gap = g; right = x ⊕ (bounds_at inset_bounds i).right; top = y ⊕ (bounds_at inset_bounds i).top })))) (Same.x_same p.bounds (bounds_at inset_bounds i) p.resolution c)
         ∙ better-one cs _
     choice_is Filling.nowhere cs = better-nowhere cs
 
@@ -174,7 +175,7 @@ module _ (p : Planner) (standing : List Float) (capacity : ℕ) (inset_bounds : 
         ap (λ (z : Tracked). chosen (better_of (best_of cs) (winner_of (columns_at world_of i) (bounds_at inset_bounds i) o z.found)) z.counts z.next) (same-fine p standing (shape_in i) capacity i counts next m refl b h)
         ∙ ap (λ (v : Winner). chosen v (set counts i count) (set next i number)) (choice_is found cs)
 
-    turn_over : (cs : List Definition.Choice) → any_above capacity made ≡ true → (bettered (best_of cs) (orientation_of world_of i o counts next)).winner ≡ Overflow
+    turn_over : (cs : List Definition.Choice) → any_above capacity made ≡ true → (bettered (best_of cs) (orientation_of world_of i o counts next)).winner ≡ Err IntervalRoom
     unfolding bettered orientation_of won
     turn_over cs h =
         ap (λ (z : Found). better_of (best_of cs) (winner_of (columns_at world_of i) (bounds_at inset_bounds i) o z)) (same_over p standing (shape_in i) capacity i counts next m refl h)
@@ -219,7 +220,7 @@ module _ (p : Planner) (standing : List Float) (capacity : ℕ) (inset_bounds : 
   unfolding choose_from
   zero-winner o b = refl
 
-  overflowed : (v : Winner) (b : Chosen) → v ≡ Overflow → (bettered v b).winner ≡ Overflow
+  overflowed : (v : Winner) (b : Chosen) → v ≡ (Err IntervalRoom) → (bettered v b).winner ≡ Err IntervalRoom
   unfolding bettered
   overflowed v b e = ap (λ (z : Winner). better_of z b.winner) e
 
@@ -233,13 +234,13 @@ module _ (p : Planner) (standing : List Float) (capacity : ℕ) (inset_bounds : 
   fine-zero o cs counts next = ap (λ (z : List Definition.Choice). chosen (best_of z) counts next) (sym (append-nil cs))
 
   -- a look without room is never made good
-  absorbed : (n o : ℕ) (b : Chosen) → b.winner ≡ Overflow → (choose_from world_of slot n o b).winner ≡ Overflow
+  absorbed : (n o : ℕ) (b : Chosen) → b.winner ≡ (Err IntervalRoom) → (choose_from world_of slot n o b).winner ≡ Err IntervalRoom
   absorbed zero o b e = zero-winner o b ∙ e
   absorbed (suc n) o b e =
       ap (λ (z : Chosen). z.winner) (choose_suc n o b)
       ∙ absorbed n (suc o) (bettered b.winner (orientation_of world_of (slot + o) o b.counts b.next)) (overflowed b.winner (orientation_of world_of (slot + o) o b.counts b.next) e)
 
-  pub choose_over : (n o : ℕ) (cs : List Definition.Choice) (counts next : List ℕ) → slot + o + n ≤ length counts → above_from counts next n o ≡ true → (choose_from world_of slot n o (chosen (best_of cs) counts next)).winner ≡ Overflow
+  pub choose_over : (n o : ℕ) (cs : List Definition.Choice) (counts next : List ℕ) → slot + o + n ≤ length counts → above_from counts next n o ≡ true → (choose_from world_of slot n o (chosen (best_of cs) counts next)).winner ≡ Err IntervalRoom
   choose_over zero o cs counts next b h = absurd (true≢false (sym h ∙ none-zero counts next o))
   choose_over (suc n) o cs counts next b h =
       go (either (any_above capacity (made o counts next)))
@@ -249,8 +250,8 @@ module _ (p : Planner) (standing : List Float) (capacity : ℕ) (inset_bounds : 
       ∙ some-rest capacity (made o counts next) (interval_counts p standing (shapes_from n (suc o)) (tracks_from counts next n (suc o)) (founds_from counts next n (suc o))) (sym (above_is o counts next n) ∙ h) e))
     where
       go : (any_above capacity (made o counts next) ≡ true) ⊎ (any_above capacity (made o counts next) ≡ false)
-          → (any_above capacity (made o counts next) ≡ false → (choose_from world_of slot n (suc o) (chosen (best_of (cs ++ choice_of p o (shape_in (slot + o)) (found o counts next))) (set counts (slot + o) (count o counts next)) (set next (slot + o) (number o counts next)))).winner ≡ Overflow)
-          → (choose_from world_of slot (suc n) o (chosen (best_of cs) counts next)).winner ≡ Overflow
+          → (any_above capacity (made o counts next) ≡ false → (choose_from world_of slot n (suc o) (chosen (best_of (cs ++ choice_of p o (shape_in (slot + o)) (found o counts next))) (set counts (slot + o) (count o counts next)) (set next (slot + o) (number o counts next)))).winner ≡ (Err IntervalRoom))
+          → (choose_from world_of slot (suc n) o (chosen (best_of cs) counts next)).winner ≡ Err IntervalRoom
       go (inl e) r =
           ap (λ (z : Chosen). z.winner) (choose_suc n o (chosen (best_of cs) counts next))
           ∙ absorbed n (suc o) (bettered (best_of cs) (orientation_of world_of (slot + o) o counts next)) (turn_over o counts next cs e)

@@ -1,4 +1,7 @@
 -- Placing a copy in code is the step of the definition of filling: 22, then 20, then 21, else what it leaves. Assumes nothing.
+use Rattle.index.specs.declared.Overrun.TheVariants.{EntryRoom, StripRoom}
+use Rattle.index.specs.declared.Overrun.TheVariants.{IntervalRoom}
+use Rattle.std.specs.Prelude.{Result, Ok, Err, Some, None}
 use Prim.{⊥}
 use Prim.Native.Nat.{ℕ, zero, suc, ◌+◌, ◌*◌, ◌<◌, ◌≤◌}
 use native.Mathlib.Omega.{arith}
@@ -21,8 +24,6 @@ use Rattle.enter.specs.inner.EntryRoom.{starts_of}
 use Rattle.filling.specs.declared.State.{State}
 use Rattle.filling.specs.declared.Refusal.{Refusal}
 use Rattle.filling.specs.declared.Refusal.TheVariants as Why
-use Rattle.filling.specs.declared.Verdict.{Verdict}
-use Rattle.filling.specs.declared.Verdict.TheVariants as Verdicts
 use Rattle.filling.specs.Refusals.{refuse_if}
 use Rattle.filling.specs.Shapes.{Planner, Shape, no_shape, shape_of, moved_strips}
 use Rattle.filling.specs.Search.{Track, search_all, searched_all}
@@ -34,15 +35,12 @@ use Rattle.filling.specs.Consistent.{sheet_index, entries_for, firsts_for}
 use Rattle.filling.specs.NextCopy as Next
 use Rattle.filling.specs.NextCopy.{any_above, interval_counts, new_strips, store_verdict, winner_verdict, copy_verdict, entered, state_with, layout_after, state_after, stored, rooms_after, no_step, place_found, place_copy}
 use Rattle.filling.proofs.Steps.{refuse_yes, refuse_no}
-use Rattle.choose.specs.declared.Winner.{Winner}
-use Rattle.choose.specs.declared.Winner.TheVariants as Winners
+use Rattle.choose.specs.inner.Choosing.{Winner}
 use Rattle.choose.specs.inner.Choosing.{part_at, apart_part, Chosen, chosen, choose_from}
-use Rattle.store.specs.declared.Stored.TheVariants as Answers
 use Rattle.store.specs.inner.Storing.{Left, left, together, store_of, FirstsLaid}
 use Rattle.store.proofs.Strips.{strips-count}
 use Rattle.place.specs.declared.Totals.{Totals}
-use Rattle.place.specs.declared.Outcome.{Outcome}
-use Rattle.place.specs.declared.Outcome.TheVariants.{At, Nowhere, Refused}
+use Rattle.place.specs.inner.Placing.{Outcome}
 use Rattle.place.specs.inner.Placing.{totals_of, step, without_of, put, put_left, put_of, settle_of, Placed, place_with, place_of, orientation_number, outcome_x, y_of, gap_of}
 use Rattle.place.proofs.Putting.{chosen_among}
 use Rattle.filling_laws.proofs.Firsts.{firsts_stay, firsts_front}
@@ -53,7 +51,7 @@ use Rattle.filling_laws.proofs.SameChoice.{choice_in, best_of, world_of, shape_i
 abbrev pub taken_with : State → Rooms → List Float → List ℕ → Placed → Next.Step
 taken_with s w intervals firsts r =
     record {
-      verdict = Verdicts.Accepted;
+      verdict = Ok tt;
       state = record {
         tables = s.tables;
         order = s.order;
@@ -77,9 +75,9 @@ taken_with s w intervals firsts r =
     }
 
 abbrev pub step_by : Outcome → State → Rooms → List Float → List ℕ → Placed → Next.Step
-step_by (At c) s w intervals firsts r = taken_with s w intervals firsts r
-step_by Nowhere s w intervals firsts r = taken_with s w intervals firsts r
-step_by (Refused k) s w intervals firsts r = no_step k s w intervals
+step_by (Ok (Some c)) s w intervals firsts r = taken_with s w intervals firsts r
+step_by (Ok None) s w intervals firsts r = taken_with s w intervals firsts r
+step_by (Err k) s w intervals firsts r = no_step k s w intervals
 
 abbrev pub step_from : State → Rooms → List Float → List ℕ → Placed → Next.Step
 step_from s w intervals firsts r = step_by r.left.reply.outcome s w intervals firsts r
@@ -130,7 +128,7 @@ module _ (p : Planner) (k : ℕ) (s : State) (w : Rooms) (intervals : List Float
   given c = place_with ix (world_of p standing room_of inset_bounds parts apart inset slot) area slot t w.placed w.placed_entries starts w.placed_firsts c
 
   abbrev choice : Chosen
-  choice = choose_from (world_of p standing room_of inset_bounds parts apart inset slot) slot n 0 (chosen Winners.Nowhere s.look_counts s.next_column)
+  choice = choose_from (world_of p standing room_of inset_bounds parts apart inset slot) slot n 0 (chosen (Ok None) s.look_counts s.next_column)
 
   code_is : (c : Chosen) → choice ≡ c → code_of ≡ given c
   unfolding place_of
@@ -150,38 +148,38 @@ module _ (p : Planner) (k : ℕ) (s : State) (w : Rooms) (intervals : List Float
       choose_fine p standing room_of inset_bounds parts apart inset slot n 0 [] s.look_counts s.next_column (omega arith) h
       ∙ ap (λ (z : ℕ). chosen (best_of cs) (sets s.look_counts z (map (λ (t : Track). t.look_count) (searched_all p ss ts (search_all p standing ss ts)))) (sets s.next_column z (map (λ (t : Track). remembered_number t.next_column) (searched_all p ss ts (search_all p standing ss ts))))) at_slot
 
-  over_choice : any_above room_of (interval_counts p standing ss ts (search_all p standing ss ts)) ≡ true → choice.winner ≡ Winners.Overflow
+  over_choice : any_above room_of (interval_counts p standing ss ts (search_all p standing ss ts)) ≡ true → choice.winner ≡ Err IntervalRoom
   over_choice h = choose_over p standing room_of inset_bounds parts apart inset slot n 0 [] s.look_counts s.next_column (omega arith) h
 
   -- ---- the definition, by the list of the kind's shapes and tracks
   abbrev accepted : Next.Step
-  accepted = record { verdict = Verdicts.Accepted; state = state_after p k (searched_all p ss ts (search_all p standing ss ts)) s standing cs; rooms = rooms_after p k w standing cs; intervals = zeros pos_zero intervals }
+  accepted = record { verdict = Ok tt; state = state_after p k (searched_all p ss ts (search_all p standing ss ts)) s standing cs; rooms = rooms_after p k w standing cs; intervals = zeros pos_zero intervals }
 
   module _ (shaped : get_or p.shapes k [] ≡ ss) (firsts : List ℕ) (true-before : FirstBuckets ix w.placed s.placed_strips w.placed_firsts) where
     -- the numbers are those of the strips that the code leaves
     abbrev Written : Placed → Type 0
     Written D = FirstsLaid ix D.left.placed D.left.reply.totals.placed_strips w.placed_firsts firsts
 
-    abbrev verdict : Verdict
+    abbrev verdict : Result (Unit {0}) Refusal
     verdict = copy_verdict p w intervals k standing ss ts (search_all p standing ss ts)
 
     taken_by : List Shape → Next.Step
     taken_by zs =
         record {
-          verdict = Verdicts.Accepted;
+          verdict = Ok tt;
           state = state_after p k (searched_all p zs ts (search_all p standing zs ts)) s standing (choices p 0 zs (search_all p standing zs ts));
           rooms = rooms_after p k w standing (choices p 0 zs (search_all p standing zs ts));
           intervals = zeros pos_zero intervals;
         }
 
     by_shapes : List Shape → Next.Step
-    by_shapes zs = elim (copy_verdict p w intervals k standing zs ts (search_all p standing zs ts)) [ Verdicts.Accepted ↦ taken_by zs | Verdicts.Refused r ↦ no_step r s w intervals ]
+    by_shapes zs = elim (copy_verdict p w intervals k standing zs ts (search_all p standing zs ts)) [ Ok tt ↦ taken_by zs | Err r ↦ no_step r s w intervals ]
 
     by_shapes_lem : place_copy p standing ts k s w intervals ≡ by_shapes ss
     unfolding place_copy place_found by_shapes taken_by
     by_shapes_lem = ap by_shapes shaped
 
-    shapes_yes : verdict ≡ Verdicts.Accepted → by_shapes ss ≡ taken_by ss
+    shapes_yes : verdict ≡ (Ok tt) → by_shapes ss ≡ taken_by ss
     unfolding by_shapes
     shapes_yes e = rw (e, by_shapes)
 
@@ -189,17 +187,17 @@ module _ (p : Planner) (k : ℕ) (s : State) (w : Rooms) (intervals : List Float
     unfolding taken_by
     taken_is = refl
 
-    place_yes : verdict ≡ Verdicts.Accepted → place_copy p standing ts k s w intervals ≡ accepted
+    place_yes : verdict ≡ (Ok tt) → place_copy p standing ts k s w intervals ≡ accepted
     place_yes e = by_shapes_lem ∙ (shapes_yes e ∙ taken_is)
 
-    shapes_no : (r : Refusal) → verdict ≡ Verdicts.Refused r → by_shapes ss ≡ no_step r s w intervals
+    shapes_no : (r : Refusal) → verdict ≡ Err r → by_shapes ss ≡ no_step r s w intervals
     unfolding by_shapes
     shapes_no r e = rw (e, by_shapes)
 
-    place_no : (r : Refusal) → verdict ≡ Verdicts.Refused r → place_copy p standing ts k s w intervals ≡ no_step r s w intervals
+    place_no : (r : Refusal) → verdict ≡ Err r → place_copy p standing ts k s w intervals ≡ no_step r s w intervals
     place_no r e = by_shapes_lem ∙ shapes_no r e
 
-    verdict_over : any_above room_of (interval_counts p standing ss ts (search_all p standing ss ts)) ≡ true → verdict ≡ Verdicts.Refused Why.IntervalRoom
+    verdict_over : any_above room_of (interval_counts p standing ss ts (search_all p standing ss ts)) ≡ true → verdict ≡ Err Why.IntervalRoom
     unfolding copy_verdict
     verdict_over h = refuse_yes (any_above room_of (interval_counts p standing ss ts (search_all p standing ss ts))) Why.IntervalRoom _ h
 
@@ -207,7 +205,7 @@ module _ (p : Planner) (k : ℕ) (s : State) (w : Rooms) (intervals : List Float
     unfolding copy_verdict
     verdict-fine h = refuse_no (any_above room_of (interval_counts p standing ss ts (search_all p standing ss ts))) Why.IntervalRoom _ h
 
-    over-step : (v : Winner) (c : Chosen) → v ≡ Winners.Overflow → c.winner ≡ v → step_from s w intervals firsts (given c) ≡ no_step Why.IntervalRoom s w intervals
+    over-step : (v : Winner) (c : Chosen) → v ≡ (Err IntervalRoom) → c.winner ≡ v → step_from s w intervals firsts (given c) ≡ no_step Why.IntervalRoom s w intervals
     unfolding place_with
     over-step v c e f = ap (λ (z : Winner). step_from s w intervals firsts (record { left = settle_of ix z area slot t parts apart w.placed w.placed_entries starts w.placed_firsts; counts = c.counts; next = c.next })) (f ∙ e)
 
@@ -216,13 +214,13 @@ module _ (p : Planner) (k : ℕ) (s : State) (w : Rooms) (intervals : List Float
     same_over h = ap (step_from s w intervals firsts) (code_is choice refl) ∙ (over-step choice.winner choice (over_choice h) refl ∙ sym (place_no Why.IntervalRoom (verdict_over h)))
 
     -- no place
-    nowhere_firsts : Written (given (chosen Winners.Nowhere counts' next')) → firsts ≡ w.placed_firsts
+    nowhere_firsts : Written (given (chosen (Ok None) counts' next')) → firsts ≡ w.placed_firsts
     unfolding place_with without_of
     nowhere_firsts f = firsts_stay ix w.placed s.placed_strips w.placed_firsts firsts true-before f
 
-    nowhere-step : firsts ≡ w.placed_firsts → step_from s w intervals firsts (given (chosen Winners.Nowhere counts' next')) ≡ record { verdict = Verdicts.Accepted; state = state_after p k (searched_all p ss ts (search_all p standing ss ts)) s standing []; rooms = rooms_after p k w standing []; intervals = zeros pos_zero intervals }
+    nowhere-step : firsts ≡ w.placed_firsts → step_from s w intervals firsts (given (chosen (Ok None) counts' next')) ≡ record { verdict = Ok tt; state = state_after p k (searched_all p ss ts (search_all p standing ss ts)) s standing []; rooms = rooms_after p k w standing []; intervals = zeros pos_zero intervals }
     unfolding place_with without_of state_after state_with layout_after rooms_after
-    nowhere-step e = ap (λ (l : List ℕ). step_from s w intervals l (given (chosen Winners.Nowhere counts' next'))) e
+    nowhere-step e = ap (λ (l : List ℕ). step_from s w intervals l (given (chosen (Ok None) counts' next'))) e
 
     -- ---- the winner is stored, where it is of orientation c .orientation
     module _ (c : Definition.Choice) (inside : c.orientation < n) where
@@ -255,36 +253,36 @@ module _ (p : Planner) (k : ℕ) (s : State) (w : Rooms) (intervals : List Float
       abbrev tight : Bool
       tight = ltb (length w.placed_entries) (length (entries_of ix strips (capacity strips)))
 
-      verdict_is : store_verdict p w (standing ++ new_strips p k c) ≡ refuse_if few Why.StripRoom (refuse_if tight Why.EntryRoom Verdicts.Accepted)
+      verdict_is : store_verdict p w (standing ++ new_strips p k c) ≡ refuse_if few Why.StripRoom (refuse_if tight Why.EntryRoom (Ok tt))
       unfolding store_verdict entries_for
-      verdict_is = ap (λ (z : List Float). refuse_if (ltb (standing_capacity w.placed w.placed_firsts) (capacity z)) Why.StripRoom (refuse_if (ltb (length w.placed_entries) (length (entries_of ix z (capacity z)))) Why.EntryRoom Verdicts.Accepted)) strips_are
+      verdict_is = ap (λ (z : List Float). refuse_if (ltb (standing_capacity w.placed w.placed_firsts) (capacity z)) Why.StripRoom (refuse_if (ltb (length w.placed_entries) (length (entries_of ix z (capacity z)))) Why.EntryRoom (Ok tt))) strips_are
 
       abbrev storing : Left
       storing = store_of ix part c.x c.y s.placed_strips w.placed w.placed_entries starts w.placed_firsts
 
-      store_few : few ≡ true → storing ≡ left Answers.NoStrips w.placed w.placed_entries starts
+      store_few : few ≡ true → storing ≡ left (Err StripRoom) w.placed w.placed_entries starts
       unfolding store_of
       store_few e = rw (e, store_of)
 
-      store_tight : few ≡ false → tight ≡ true → storing ≡ left Answers.NoEntries w.placed w.placed_entries starts
+      store_tight : few ≡ false → tight ≡ true → storing ≡ left (Err EntryRoom) w.placed w.placed_entries starts
       unfolding store_of
       store_tight e f = rw (e, f, store_of)
 
-      store_done : few ≡ false → tight ≡ false → storing ≡ left Answers.Done (laid strips w.placed) (laid (entries_of ix strips (capacity strips)) w.placed_entries) (starts_of ix strips (capacity strips))
+      store_done : few ≡ false → tight ≡ false → storing ≡ left (Ok tt) (laid strips w.placed) (laid (entries_of ix strips (capacity strips)) w.placed_entries) (starts_of ix strips (capacity strips))
       unfolding store_of
       store_done e f = rw (e, f, store_of)
 
       abbrev leaving : Left → Placed
       leaving f = record { left = put_left (choice_in c) t (capacity part) f; counts = counts'; next = next' }
 
-      given_is : given (chosen (Winners.At (choice_in c)) counts' next') ≡ leaving storing
+      given_is : given (chosen (Ok (Some (choice_in c))) counts' next') ≡ leaving storing
       unfolding place_with put_of
       given_is = refl
 
       abbrev stands_after : Next.Step
       stands_after =
           record {
-            verdict = Verdicts.Accepted;
+            verdict = Ok tt;
             state = state_with s k (searched_all p ss ts (search_all p standing ss ts)) (capacity (standing ++ new_strips p k c)) (entered s.layout s.taken (suc c.orientation) c.x c.y c.gap s.layout.unplaced_area (larger s.layout.right c.right));
             rooms = stored p w (standing ++ new_strips p k c);
             intervals = zeros pos_zero intervals;
@@ -310,15 +308,15 @@ module _ (p : Planner) (k : ℕ) (s : State) (w : Rooms) (intervals : List Float
       unfolding put_left state_with stored entries_for firsts_for
       done-step e f g =
           ap₂ (λ (l : List ℕ) (z : Left). step_from s w intervals l (leaving z)) g (store_done e f)
-          ∙ (ap (λ (z : ℕ). taken_with s w intervals (laid (firsts_of ix strips (capacity strips)) w.placed_firsts) (record { left = put (step (At (choice_in c)) (record { placed_strips = z; right = larger s.layout.right c.right; unplaced_area = s.layout.unplaced_area })) (laid strips w.placed) (laid (entries_of ix strips (capacity strips)) w.placed_entries) (starts_of ix strips (capacity strips)); counts = counts'; next = next' })) count_is
+          ∙ (ap (λ (z : ℕ). taken_with s w intervals (laid (firsts_of ix strips (capacity strips)) w.placed_firsts) (record { left = put (step (Ok (Some (choice_in c))) (record { placed_strips = z; right = larger s.layout.right c.right; unplaced_area = s.layout.unplaced_area })) (laid strips w.placed) (laid (entries_of ix strips (capacity strips)) w.placed_entries) (starts_of ix strips (capacity strips)); counts = counts'; next = next' })) count_is
           ∙ (ap (λ (z : ℕ). record {
-            verdict = Verdicts.Accepted;
+            verdict = Ok tt;
             state = state_with s k (searched_all p ss ts (search_all p standing ss ts)) (capacity strips) (entered s.layout s.taken z c.x c.y c.gap s.layout.unplaced_area (larger s.layout.right c.right));
             rooms = stored p w strips;
             intervals = zeros pos_zero intervals;
           }) (add-one c.orientation)
           ∙ sym (ap (λ (z : List Float). record {
-            verdict = Verdicts.Accepted;
+            verdict = Ok tt;
             state = state_with s k (searched_all p ss ts (search_all p standing ss ts)) (capacity z) (entered s.layout s.taken (suc c.orientation) c.x c.y c.gap s.layout.unplaced_area (larger s.layout.right c.right));
             rooms = stored p w z;
             intervals = zeros pos_zero intervals;
@@ -326,9 +324,9 @@ module _ (p : Planner) (k : ℕ) (s : State) (w : Rooms) (intervals : List Float
 
     -- ---- the step
     accepted-with : List Definition.Choice → Next.Step
-    accepted-with l = record { verdict = Verdicts.Accepted; state = state_after p k (searched_all p ss ts (search_all p standing ss ts)) s standing l; rooms = rooms_after p k w standing l; intervals = zeros pos_zero intervals }
+    accepted-with l = record { verdict = Ok tt; state = state_after p k (searched_all p ss ts (search_all p standing ss ts)) s standing l; rooms = rooms_after p k w standing l; intervals = zeros pos_zero intervals }
 
-    verdict-nowhere : winner_verdict p w k standing [] ≡ Verdicts.Accepted
+    verdict-nowhere : winner_verdict p w k standing [] ≡ Ok tt
     unfolding winner_verdict
     verdict-nowhere = refl
 
@@ -340,11 +338,11 @@ module _ (p : Planner) (k : ℕ) (s : State) (w : Rooms) (intervals : List Float
     unfolding accepted-with state_after layout_after rooms_after
     accepted_at_lem a as' h = refl
 
-    nowhere_is : firsts ≡ w.placed_firsts → step_from s w intervals firsts (given (chosen Winners.Nowhere counts' next')) ≡ accepted-with []
+    nowhere_is : firsts ≡ w.placed_firsts → step_from s w intervals firsts (given (chosen (Ok None) counts' next')) ≡ accepted-with []
     unfolding accepted-with
     nowhere_is e = nowhere-step e
 
-    accepted_is : (l : List Definition.Choice) → cs ≡ l → verdict ≡ Verdicts.Accepted → place_copy p standing ts k s w intervals ≡ accepted-with l
+    accepted_is : (l : List Definition.Choice) → cs ≡ l → verdict ≡ (Ok tt) → place_copy p standing ts k s w intervals ≡ accepted-with l
     unfolding accepted-with
     accepted_is l e v = place_yes v ∙ ap accepted-with e
 
@@ -354,7 +352,7 @@ module _ (p : Planner) (k : ℕ) (s : State) (w : Rooms) (intervals : List Float
 
       inside_is : (a : Definition.Choice) (as' : List Definition.Choice) → cs ≡ a ∷ as' → (best a as').orientation < n
       inside_is a as' e =
-          chosen_among (world_of p standing room_of inset_bounds parts apart inset slot) slot n (Winners.At (choice_in (best a as'))) s.look_counts s.next_column counts' next'
+          chosen_among (world_of p standing room_of inset_bounds parts apart inset slot) slot n (Ok (Some (choice_in (best a as')))) s.look_counts s.next_column counts' next'
           (sym (fine_choice h ∙ ap (λ (z : List Definition.Choice). chosen (best_of z) counts' next') e))
 
       same-nowhere : cs ≡ [] → step_from s w intervals firsts code_of ≡ place_copy p standing ts k s w intervals
@@ -372,7 +370,7 @@ module _ (p : Planner) (k : ℕ) (s : State) (w : Rooms) (intervals : List Float
         code_at : code_of ≡ leaving c i (storing c i)
         code_at = code_best (a ∷ as') e ∙ given_is c i
 
-        verdict_by : verdict ≡ refuse_if (few c i) Why.StripRoom (refuse_if (tight c i) Why.EntryRoom Verdicts.Accepted)
+        verdict_by : verdict ≡ refuse_if (few c i) Why.StripRoom (refuse_if (tight c i) Why.EntryRoom (Ok tt))
         verdict_by = verdict-fine h ∙ (ap (winner_verdict p w k standing) e ∙ (verdict_at a as' ∙ verdict_is c i))
 
         same_at : (few c i ≡ true) ⊎ (few c i ≡ false) → (tight c i ≡ true) ⊎ (tight c i ≡ false) → step_from s w intervals firsts code_of ≡ place_copy p standing ts k s w intervals

@@ -1,5 +1,9 @@
 -- The search in the code's order is the search of the definition of filling: its column, its list of looks, and 22 exactly where one of those
 -- looks lacks room. Assumes nothing.
+use Rattle.std.specs.Prelude.{Some, None, Ok, Err}
+use Rattle.index.specs.declared.Overrun.TheVariants.{IntervalRoom}
+use Rattle.index.specs.declared.Overrun.TheVariants.{IntervalRoom}
+use Rattle.std.specs.Prelude.{Option, Some, None}
 use Prim.{⊥}
 use Prim.Native.Nat.{ℕ, zero, suc, ◌+◌, ◌-◌, ◌<◌, ◌≤◌}
 use native.Mathlib.Omega.{arith}
@@ -15,10 +19,7 @@ use lib.Ieee.{Float}
 use Rattle.numbers.proofs.Truth.{either}
 use Rattle.index.specs.declared.Interval.{Interval}
 use Rattle.index.specs.Buckets.{up_from}
-use Rattle.look.specs.declared.height.Look.{Look}
-use Rattle.look.specs.declared.height.Look.TheVariants.{Free, Full}
-use Rattle.look.specs.declared.Answer.{Answer}
-use Rattle.look.specs.declared.Answer.TheVariants.{NoRoom, Seen}
+use Rattle.search.specs.inner.Searching.{Answer}
 use Rattle.look.specs.inner.Ready.{answer_of, look_of}
 use Rattle.filling.specs.Columns.{ranges, columns, regular_column, column_at}
 use Rattle.filling.specs.Shapes.{Planner, Shape}
@@ -32,27 +33,26 @@ use Rattle.search.specs.declared.columns.Columns.{Columns}
 use Rattle.search.specs.columns.inner.Stands.{columns_of, reversed_of, regular_of, column_x, last_of, start_of}
 use Rattle.search.proofs.columns.Steps.{start-reversed, start_none, start_at}
 use Rattle.search.proofs.columns.Same as Same
-use Rattle.search.specs.declared.Found.{Found}
-use Rattle.search.specs.declared.Found.TheVariants.{At, Nowhere, Overflow}
+use Rattle.search.specs.inner.Searching.{Found}
 use Rattle.search.specs.inner.Searching.{answer_at, Looked, looked, counted, search_from, next_of, Tracked, tracked, remembering, search_of}
 use Rattle.search.proofs.Turns.{search-end, search_overflow, search_free, search_full}
 
 -- what the definition finds, as the code says it
 abbrev pub found_of : Filling.Found → Found
-found_of (Filling.at c y g) = At c y g
-found_of Filling.nowhere = Nowhere
+found_of (Filling.at c y g) = Ok (Some (c, y, g))
+found_of Filling.nowhere = Ok None
 
 -- ---- the looks of the n columns from c on, to the first that is free
-unfoldable pub looks_to : (ℕ → Look) → ℕ → ℕ → List ℕ
+unfoldable pub looks_to : (ℕ → Option (Float × Float)) → ℕ → ℕ → List ℕ
 looks_to look zero c = []
-looks_to look (suc n) c = c ∷ elim (look c) [ Free y g ↦ [] | Full ↦ looks_to look n (suc c) ]
+looks_to look (suc n) c = c ∷ elim (look c) [ Some (y, g) ↦ [] | None ↦ looks_to look n (suc c) ]
 
-module _ (look : ℕ → Look) where
-  looks_free : (n c : ℕ) (y g : Float) → look c ≡ Free y g → looks_to look (suc n) c ≡ c ∷ []
+module _ (look : ℕ → Option (Float × Float)) where
+  looks_free : (n c : ℕ) (y g : Float) → look c ≡ Some (y, g) → looks_to look (suc n) c ≡ c ∷ []
   unfolding looks_to
   looks_free n c y g e = rw (e, looks_to)
 
-  looks_full : (n c : ℕ) → look c ≡ Full → looks_to look (suc n) c ≡ c ∷ looks_to look n (suc c)
+  looks_full : (n c : ℕ) → look c ≡ None → looks_to look (suc n) c ≡ c ∷ looks_to look n (suc c)
   unfolding looks_to
   looks_full n c e = rw (e, looks_to)
 
@@ -72,9 +72,9 @@ module _ (look : ℕ → Look) where
       same : (d : ℕ) → d ≤ d
       same d = omega arith
 
-      go : (l : Look) → look c ≡ l → From (suc c) (first_free look n (suc c)) → From c (first_free look (suc n) c)
-      go (Free y g) e h = subst (From c) (sym (first_free_lem look n c y g e)) (same c)
-      go Full e h = subst (From c) (sym (first_full look n c e)) (from_more c (first_free look n (suc c)) h)
+      go : (l : Option (Float × Float)) → look c ≡ l → From (suc c) (first_free look n (suc c)) → From c (first_free look (suc n) c)
+      go (Some (y, g)) e h = subst (From c) (sym (first_free_lem look n c y g e)) (same c)
+      go None e h = subst (From c) (sym (first_full look n c e)) (from_more c (first_free look n (suc c)) h)
 
   columns_cons : (c last : ℕ) (f : Filling.Found) → c ≤ last → From (suc c) f → columns_from c last f ≡ c ∷ columns_from (suc c) last f
   unfolding columns_from up_from
@@ -97,13 +97,13 @@ module _ (look : ℕ → Look) where
       inside : c ≤ last
       inside = omega (arith, h)
 
-      go : (l : Look) → look c ≡ l → columns_from (suc c) last (first_free look n (suc c)) ≡ looks_to look n (suc c) → From (suc c) (first_free look n (suc c)) → columns_from c last (first_free look (suc n) c) ≡ looks_to look (suc n) c
-      go (Free y v) e b g = ap (columns_from c last) (first_free_lem look n c y v e) ∙ (columns-one c last y v ∙ sym (looks_free n c y v e))
-      go Full e b g = ap (columns_from c last) (first_full look n c e) ∙ (columns_cons c last (first_free look n (suc c)) inside g ∙ (ap (λ (z : List ℕ). c ∷ z) b ∙ sym (looks_full n c e)))
+      go : (l : Option (Float × Float)) → look c ≡ l → columns_from (suc c) last (first_free look n (suc c)) ≡ looks_to look n (suc c) → From (suc c) (first_free look n (suc c)) → columns_from c last (first_free look (suc n) c) ≡ looks_to look (suc n) c
+      go (Some (y, v)) e b g = ap (columns_from c last) (first_free_lem look n c y v e) ∙ (columns-one c last y v ∙ sym (looks_free n c y v e))
+      go None e b g = ap (columns_from c last) (first_full look n c e) ∙ (columns_cons c last (first_free look n (suc c)) inside g ∙ (ap (λ (z : List ℕ). c ∷ z) b ∙ sym (looks_full n c e)))
 
 -- ---- the n columns from c on
-module _ (f : ℕ → Answer) (look : ℕ → Look) (capacity : ℕ) (count : ℕ → ℕ)
-    (yes : (c : ℕ) → ltb capacity (count c) ≡ true → f c ≡ NoRoom) (no : (c : ℕ) → ltb capacity (count c) ≡ false → f c ≡ Seen (look c)) (slot : ℕ) where
+module _ (f : ℕ → Answer) (look : ℕ → Option (Float × Float)) (capacity : ℕ) (count : ℕ → ℕ)
+    (yes : (c : ℕ) → ltb capacity (count c) ≡ true → f c ≡ (Err IntervalRoom)) (no : (c : ℕ) → ltb capacity (count c) ≡ false → f c ≡ Ok (look c)) (slot : ℕ) where
   above_cons : (c : ℕ) (cs : List ℕ) → any_above capacity (map count (c ∷ cs)) ≡ (ltb capacity (count c) || any_above capacity (map count cs))
   unfolding any_above
   above_cons c cs = refl
@@ -124,19 +124,19 @@ module _ (f : ℕ → Answer) (look : ℕ → Look) (capacity : ℕ) (count : �
 
   fine-start : (c : ℕ) (counts : List ℕ) → search_from f slot 0 c counts ≡ looked (found_of (first_free look 0 c)) (set counts slot (get_or counts slot 0 + length (looks_to look 0 c)))
   unfolding search_from first_free looks_to
-  fine-start c counts = ap (looked Nowhere) (sym (ap (set counts slot) (let e : get_or counts slot 0 + 0 ≡ get_or counts slot 0 = omega arith in e) ∙ set-get_or counts slot 0))
+  fine-start c counts = ap (looked (Ok None)) (sym (ap (set counts slot) (let e : get_or counts slot 0 + 0 ≡ get_or counts slot 0 = omega arith in e) ∙ set-get_or counts slot 0))
 
   -- 22 where a look of the definition's list lacks room
-  pub over_found : (n c : ℕ) (counts : List ℕ) → any_above capacity (map count (looks_to look n c)) ≡ true → (search_from f slot n c counts).found ≡ Overflow
+  pub over_found : (n c : ℕ) (counts : List ℕ) → any_above capacity (map count (looks_to look n c)) ≡ true → (search_from f slot n c counts).found ≡ Err IntervalRoom
   over_found zero c counts h = absurd (true≢false (sym h ∙ above-start c))
   over_found (suc n) c counts h = go (either (ltb capacity (count c))) (look c) refl (over_found n (c + 1) (counted slot counts))
     where
-      go : (ltb capacity (count c) ≡ true) ⊎ (ltb capacity (count c) ≡ false) → (l : Look) → look c ≡ l
-          → (any_above capacity (map count (looks_to look n (c + 1))) ≡ true → (search_from f slot n (c + 1) (counted slot counts)).found ≡ Overflow) → (search_from f slot (suc n) c counts).found ≡ Overflow
-      go (inl e) l q b = ap (λ (z : Looked). z.found) (search_overflow f slot c counts (suc n) n refl (yes c e))
-      go (inr e) (Free y g) q b = absurd (true≢false (sym h ∙ (ap (λ (z : List ℕ). any_above capacity (map count z)) (looks_free look n c y g q) ∙ (above-rest c [] e ∙ above-none))))
-      go (inr e) Full q b =
-          ap (λ (z : Looked). z.found) (search_full f slot c counts (suc n) n refl (no c e ∙ ap Seen q))
+      go : (ltb capacity (count c) ≡ true) ⊎ (ltb capacity (count c) ≡ false) → (l : Option (Float × Float)) → look c ≡ l
+          → (any_above capacity (map count (looks_to look n (c + 1))) ≡ true → (search_from f slot n (c + 1) (counted slot counts)).found ≡ (Err IntervalRoom)) → (search_from f slot (suc n) c counts).found ≡ Err IntervalRoom
+      go (inl e) l q b = ap (λ (z : Looked). z.found) (search_overflow f slot c counts (suc n) n IntervalRoom refl (yes c e))
+      go (inr e) (Some (y, g)) q b = absurd (true≢false (sym h ∙ (ap (λ (z : List ℕ). any_above capacity (map count z)) (looks_free look n c y g q) ∙ (above-rest c [] e ∙ above-none))))
+      go (inr e) None q b =
+          ap (λ (z : Looked). z.found) (search_full f slot c counts (suc n) n refl (no c e ∙ ap Ok q))
           ∙ b (ap (λ (z : ℕ). any_above capacity (map count (looks_to look n z))) (add-one c) ∙ (sym (above-rest c (looks_to look n (suc c)) e) ∙ (sym (ap (λ (z : List ℕ). any_above capacity (map count z)) (looks_full look n c q)) ∙ h)))
 
   -- else the definition's column, and one look more for each of the list
@@ -148,32 +148,32 @@ module _ (f : ℕ → Answer) (look : ℕ → Look) (capacity : ℕ) (count : �
       more : (a b m : ℕ) → a ≡ b + 1 → a + m ≡ b + suc m
       more a b m e = omega arith
 
-      first : (y g : Float) → look c ≡ Free y g → looked (At c y g) (counted slot counts) ≡ looked (found_of (first_free look (suc n) c)) (set counts slot (get_or counts slot 0 + length (looks_to look (suc n) c)))
-      first y g q = sym (ap (λ (z : Filling.Found). looked (found_of z) (set counts slot (get_or counts slot 0 + length (looks_to look (suc n) c)))) (first_free_lem look n c y g q) ∙ ap (λ (z : List ℕ). looked (At c y g) (set counts slot (get_or counts slot 0 + length z))) (looks_free look n c y g q))
+      first : (y g : Float) → look c ≡ Some (y, g) → looked (Ok (Some (c, y, g))) (counted slot counts) ≡ looked (found_of (first_free look (suc n) c)) (set counts slot (get_or counts slot 0 + length (looks_to look (suc n) c)))
+      first y g q = sym (ap (λ (z : Filling.Found). looked (found_of z) (set counts slot (get_or counts slot 0 + length (looks_to look (suc n) c)))) (first_free_lem look n c y g q) ∙ ap (λ (z : List ℕ). looked (Ok (Some (c, y, g))) (set counts slot (get_or counts slot 0 + length z))) (looks_free look n c y g q))
 
-      rest : look c ≡ Full → looked (found_of (first_free look n (c + 1))) (set (counted slot counts) slot (get_or (counted slot counts) slot 0 + length (looks_to look n (c + 1)))) ≡ looked (found_of (first_free look (suc n) c)) (set counts slot (get_or counts slot 0 + length (looks_to look (suc n) c)))
+      rest : look c ≡ None → looked (found_of (first_free look n (c + 1))) (set (counted slot counts) slot (get_or (counted slot counts) slot 0 + length (looks_to look n (c + 1)))) ≡ looked (found_of (first_free look (suc n) c)) (set counts slot (get_or counts slot 0 + length (looks_to look (suc n) c)))
       rest q =
           ap (λ (z : ℕ). looked (found_of (first_free look n z)) (set (counted slot counts) slot (get_or (counted slot counts) slot 0 + length (looks_to look n z)))) (add-one c)
           ∙ (ap (looked (found_of (first_free look n (suc c)))) (set-set counts slot (get_or counts slot 0 + 1) _ ∙ ap (set counts slot) (more (get_or (counted slot counts) slot 0) (get_or counts slot 0) (length (looks_to look n (suc c))) (get_or-set_same counts slot (get_or counts slot 0 + 1) 0 b)))
           ∙ sym (ap (λ (z : Filling.Found). looked (found_of z) (set counts slot (get_or counts slot 0 + length (looks_to look (suc n) c)))) (first_full look n c q) ∙ ap (λ (z : List ℕ). looked (found_of (first_free look n (suc c))) (set counts slot (get_or counts slot 0 + length z))) (looks_full look n c q)))
 
-      go : (ltb capacity (count c) ≡ true) ⊎ (ltb capacity (count c) ≡ false) → (l : Look) → look c ≡ l
+      go : (ltb capacity (count c) ≡ true) ⊎ (ltb capacity (count c) ≡ false) → (l : Option (Float × Float)) → look c ≡ l
           → (any_above capacity (map count (looks_to look n (c + 1))) ≡ false → search_from f slot n (c + 1) (counted slot counts) ≡ looked (found_of (first_free look n (c + 1))) (set (counted slot counts) slot (get_or (counted slot counts) slot 0 + length (looks_to look n (c + 1)))))
           → search_from f slot (suc n) c counts ≡ looked (found_of (first_free look (suc n) c)) (set counts slot (get_or counts slot 0 + length (looks_to look (suc n) c)))
-      go (inl e) (Free y g) q r = absurd (true≢false (sym (ap (λ (z : List ℕ). any_above capacity (map count z)) (looks_free look n c y g q) ∙ above-first c [] e) ∙ h))
-      go (inl e) Full q r = absurd (true≢false (sym (ap (λ (z : List ℕ). any_above capacity (map count z)) (looks_full look n c q) ∙ above-first c (looks_to look n (suc c)) e) ∙ h))
-      go (inr e) (Free y g) q r = search_free f slot c counts (suc n) n y g refl (no c e ∙ ap Seen q) ∙ first y g q
-      go (inr e) Full q r =
-          search_full f slot c counts (suc n) n refl (no c e ∙ ap Seen q)
+      go (inl e) (Some (y, g)) q r = absurd (true≢false (sym (ap (λ (z : List ℕ). any_above capacity (map count z)) (looks_free look n c y g q) ∙ above-first c [] e) ∙ h))
+      go (inl e) None q r = absurd (true≢false (sym (ap (λ (z : List ℕ). any_above capacity (map count z)) (looks_full look n c q) ∙ above-first c (looks_to look n (suc c)) e) ∙ h))
+      go (inr e) (Some (y, g)) q r = search_free f slot c counts (suc n) n y g refl (no c e ∙ ap Ok q) ∙ first y g q
+      go (inr e) None q r =
+          search_full f slot c counts (suc n) n refl (no c e ∙ ap Ok q)
           ∙ (r (ap (λ (z : ℕ). any_above capacity (map count (looks_to look n z))) (add-one c) ∙ (sym (above-rest c (looks_to look n (suc c)) e) ∙ (sym (ap (λ (z : List ℕ). any_above capacity (map count z)) (looks_full look n c q)) ∙ h)))
           ∙ rest q)
 
 -- ---- a shape's search
-answer_over : (capacity : ℕ) (y_low y_high : Float) (is : List Interval) → ltb capacity (length is) ≡ true → answer_of capacity y_low y_high is ≡ NoRoom
+answer_over : (capacity : ℕ) (y_low y_high : Float) (is : List Interval) → ltb capacity (length is) ≡ true → answer_of capacity y_low y_high is ≡ Err IntervalRoom
 unfolding answer_of
 answer_over capacity y_low y_high is e = rw (e, answer_of)
 
-answer_seen : (capacity : ℕ) (y_low y_high : Float) (is : List Interval) → ltb capacity (length is) ≡ false → answer_of capacity y_low y_high is ≡ Seen (Rattle.look.specs.height.Smallest.height_of y_low y_high is)
+answer_seen : (capacity : ℕ) (y_low y_high : Float) (is : List Interval) → ltb capacity (length is) ≡ false → answer_of capacity y_low y_high is ≡ Ok (Rattle.look.specs.height.Smallest.height_of y_low y_high is)
 unfolding answer_of
 answer_seen capacity y_low y_high is e = rw (e, answer_of)
 
@@ -196,11 +196,11 @@ module _ (p : Planner) (standing : List Float) (s : Shape) (capacity : ℕ) wher
   unfolding look_at
   look_is c = refl
 
-  answer_yes : (c : ℕ) → ltb capacity (count_for c) ≡ true → answers_for c ≡ NoRoom
+  answer_yes : (c : ℕ) → ltb capacity (count_for c) ≡ true → answers_for c ≡ Err IntervalRoom
   answer_yes c e = answer_is c ∙ answer_over capacity _ _ (intervals_at p standing s c) e
 
-  answer_no : (c : ℕ) → ltb capacity (count_for c) ≡ false → answers_for c ≡ Seen (look_at p standing s c)
-  answer_no c e = answer_is c ∙ (answer_seen capacity _ _ (intervals_at p standing s c) e ∙ ap Seen (look_is c))
+  answer_no : (c : ℕ) → ltb capacity (count_for c) ≡ false → answers_for c ≡ Ok (look_at p standing s c)
+  answer_no c e = answer_is c ∙ (answer_seen capacity _ _ (intervals_at p standing s c) e ∙ ap Ok (look_is c))
 
   reversed_is : reversed_for p s ≡ reversed_of columns_for
   unfolding reversed_for ranges_of
@@ -210,7 +210,7 @@ module _ (p : Planner) (standing : List Float) (s : Shape) (capacity : ℕ) wher
   unfolding Filling.last_of ranges_of
   last_is e = rw (e, Filling.last_of) (sym (Same.last-same p.bounds s.bounds p.resolution))
 
-  abbrev pub look_for : ℕ → Look
+  abbrev pub look_for : ℕ → Option (Float × Float)
   look_for = look_at p standing s
 
   search-reversed : (m : Remembered) → reversed_for p s ≡ true → Filling.search p standing s m ≡ Filling.nowhere
@@ -243,7 +243,7 @@ module _ (p : Planner) (standing : List Float) (s : Shape) (capacity : ℕ) wher
     unfolding search_of
     started n e = ap from e
 
-    past : from (last_of columns_for + 1) ≡ tracked Nowhere counts (set next slot 0)
+    past : from (last_of columns_for + 1) ≡ tracked (Ok None) counts (set next slot 0)
     unfolding remembering
     past = ap (λ (z : Looked). remembering slot next z) (search-end answers_for slot (last_of columns_for + 1) counts (last_of columns_for + 1 - (last_of columns_for + 1)) (omega arith))
 
@@ -269,9 +269,9 @@ module _ (p : Planner) (standing : List Float) (s : Shape) (capacity : ℕ) wher
     idle m e g l =
         started (last_of columns_for + 1) e
         ∙ (past
-        ∙ (ap (λ (z : List ℕ). tracked Nowhere z (set next slot 0)) same_count
+        ∙ (ap (λ (z : List ℕ). tracked (Ok None) z (set next slot 0)) same_count
         ∙ sym (ap (λ (z : Filling.Found). tracked (found_of z) (set counts slot (get_or counts slot 0 + length (looks_for m))) (set next slot (remembered_number (remembered z)))) g
-        ∙ ap (λ (z : List ℕ). tracked Nowhere (set counts slot (get_or counts slot 0 + length z)) (set next slot 0)) l)))
+        ∙ ap (λ (z : List ℕ). tracked (Ok None) (set counts slot (get_or counts slot 0 + length z)) (set next slot 0)) l)))
 
     idle_none : (m : ℕ) → looks_for m ≡ [] → any_above capacity (map count_for (looks_for m)) ≡ true → ⊥
     idle_none m l h = true≢false (sym h ∙ (ap (λ (z : List ℕ). any_above capacity (map count_for z)) l ∙ above-none answers_for look_for capacity count_for answer_yes answer_no slot))
@@ -297,7 +297,7 @@ module _ (p : Planner) (standing : List Float) (s : Shape) (capacity : ℕ) wher
           looks_open p standing s c (found_for (suc c)) r
           ∙ (ap (columns_from c (Filling.last_of p s)) found_is ∙ columns_are look_for (last_of columns_for + 1 - c) c (Filling.last_of p s) (sym n_is))
 
-      live_over : any_above capacity (map count_for (looks_for (suc c))) ≡ true → (search_of answers_for columns_for slot counts next).found ≡ Overflow
+      live_over : any_above capacity (map count_for (looks_for (suc c))) ≡ true → (search_of answers_for columns_for slot counts next).found ≡ Err IntervalRoom
       unfolding remembering
       live_over h =
           ap (λ (z : Tracked). z.found) (started c start_is)
@@ -330,11 +330,11 @@ module _ (p : Planner) (standing : List Float) (s : Shape) (capacity : ℕ) wher
     start-turned r = start-reversed columns_for (last_of columns_for) (get_or next slot 0) (sym reversed_is ∙ r)
 
     -- 22: a look that is made lacks room
-    pub same_over : (m : ℕ) → get_or next slot 0 ≡ m → any_above capacity (map count_for (looks_for m)) ≡ true → (search_of answers_for columns_for slot counts next).found ≡ Overflow
+    pub same_over : (m : ℕ) → get_or next slot 0 ≡ m → any_above capacity (map count_for (looks_for m)) ≡ true → (search_of answers_for columns_for slot counts next).found ≡ Err IntervalRoom
     same_over zero e h = absurd (idle_none 0 looks-zero h)
     same_over (suc c) e h = go (either (reversed_for p s))
       where
-        go : (reversed_for p s ≡ true) ⊎ (reversed_for p s ≡ false) → (search_of answers_for columns_for slot counts next).found ≡ Overflow
+        go : (reversed_for p s ≡ true) ⊎ (reversed_for p s ≡ false) → (search_of answers_for columns_for slot counts next).found ≡ Err IntervalRoom
         go (inl r) = absurd (idle_none (suc c) (looks-reversed (remembered_of (suc c)) (found_for (suc c)) r) h)
         go (inr r) = live_over c e r h
 

@@ -2,75 +2,30 @@
 use crate::steps;
 use filling::State;
 use index::{Bucket, Entry};
-use replay::command::Command;
+use replay::command::{Command, Step};
+use replay::lend::Lengths;
 use replay::{lend, show};
 use report::NestResult;
 use start::replies::Started;
 
-fn show_start(r: Started) -> State {
+fn show_start(r: &Started) {
     io::write_all(1, b"start ");
-    let v = r.verdict;
-    show::verdict(v);
-    let s = r.state;
-    show::state(s);
+    show::verdict(r.verdict);
+    show::state(&r.state);
     show::end();
-    s
 }
 
-fn show_filling(r: NestResult) {
+fn show_filling(r: &NestResult) {
     io::write_all(1, b"fill ");
-    let v = r.verdict;
-    show::verdict(v);
-    let p = r.plan;
-    show::plan(p);
+    show::verdict(r.verdict);
+    show::plan(&r.plan);
     show::end();
 }
 
 // A start, in the slots that are lent.
 fn start(
-    lengths: &[usize],
-    bytes: &[u8],
-    order: &[usize],
-    shapes: &mut [f64],
-    sheet: &mut [f64],
-    placed: &mut [f64],
-    sheet_entries: &mut [Entry],
-    placed_entries: &mut [Entry],
-    sheet_firsts: &mut [Bucket],
-    placed_firsts: &mut [Bucket],
-    intervals: &mut [f64],
-    positions: &mut [f64],
-) -> State {
-    let j = lend::lent(lengths, 9, bytes.len());
-    let k = lend::lent(lengths, 10, order.len());
-    let s0 = lend::lent(lengths, 0, shapes.len());
-    let s1 = lend::lent(lengths, 1, sheet.len());
-    let s2 = lend::lent(lengths, 2, placed.len());
-    let e1 = lend::lent(lengths, 3, sheet_entries.len());
-    let e2 = lend::lent(lengths, 4, placed_entries.len());
-    let f1 = lend::lent(lengths, 5, sheet_firsts.len());
-    let f2 = lend::lent(lengths, 6, placed_firsts.len());
-    let v = lend::lent(lengths, 7, intervals.len());
-    let p = lend::lent(lengths, 8, positions.len());
-    let r = start::start(
-        &bytes[..j],
-        &order[..k],
-        &mut shapes[..s0],
-        &mut sheet[..s1],
-        &mut placed[..s2],
-        &mut sheet_entries[..e1],
-        &mut placed_entries[..e2],
-        &mut sheet_firsts[..f1],
-        &mut placed_firsts[..f2],
-        &mut intervals[..v],
-        &mut positions[..p],
-    );
-    show_start(r)
-}
-
-// A filling, in the slots that are lent.
-fn fill(
-    lengths: &[usize],
+    state: &mut State,
+    lengths: &Lengths,
     bytes: &[u8],
     order: &[usize],
     shapes: &mut [f64],
@@ -83,38 +38,26 @@ fn fill(
     intervals: &mut [f64],
     positions: &mut [f64],
 ) {
-    let j = lend::lent(lengths, 9, bytes.len());
-    let k = lend::lent(lengths, 10, order.len());
-    let s0 = lend::lent(lengths, 0, shapes.len());
-    let s1 = lend::lent(lengths, 1, sheet.len());
-    let s2 = lend::lent(lengths, 2, placed.len());
-    let e1 = lend::lent(lengths, 3, sheet_entries.len());
-    let e2 = lend::lent(lengths, 4, placed_entries.len());
-    let f1 = lend::lent(lengths, 5, sheet_firsts.len());
-    let f2 = lend::lent(lengths, 6, placed_firsts.len());
-    let v = lend::lent(lengths, 7, intervals.len());
-    let p = lend::lent(lengths, 8, positions.len());
-    let r = fill::fill(
-        &bytes[..j],
-        &order[..k],
-        &mut shapes[..s0],
-        &mut sheet[..s1],
-        &mut placed[..s2],
-        &mut sheet_entries[..e1],
-        &mut placed_entries[..e2],
-        &mut sheet_firsts[..f1],
-        &mut placed_firsts[..f2],
-        &mut intervals[..v],
-        &mut positions[..p],
+    let r = start::start(
+        lend::lent(bytes, lengths[9]),
+        lend::lent(order, lengths[10]),
+        lend::lent_mut(shapes, lengths[0]),
+        lend::lent_mut(sheet, lengths[1]),
+        lend::lent_mut(placed, lengths[2]),
+        lend::lent_mut(sheet_entries, lengths[3]),
+        lend::lent_mut(placed_entries, lengths[4]),
+        lend::lent_mut(sheet_firsts, lengths[5]),
+        lend::lent_mut(placed_firsts, lengths[6]),
+        lend::lent_mut(intervals, lengths[7]),
+        lend::lent_mut(positions, lengths[8]),
     );
-    show_filling(r);
+    show_start(&r);
+    *state = r.state;
 }
 
-// A start (S), or a filling (F), which leaves the state alone.
-fn start_or_fill(
-    c: Command,
-    state: State,
-    lengths: &[usize],
+// A filling, in the slots that are lent.
+fn fill(
+    lengths: &Lengths,
     bytes: &[u8],
     order: &[usize],
     shapes: &mut [f64],
@@ -126,9 +69,58 @@ fn start_or_fill(
     placed_firsts: &mut [Bucket],
     intervals: &mut [f64],
     positions: &mut [f64],
-) -> State {
-    if c.letter == 83 {
-        return start(
+) {
+    let r = fill::fill(
+        lend::lent(bytes, lengths[9]),
+        lend::lent(order, lengths[10]),
+        lend::lent_mut(shapes, lengths[0]),
+        lend::lent_mut(sheet, lengths[1]),
+        lend::lent_mut(placed, lengths[2]),
+        lend::lent_mut(sheet_entries, lengths[3]),
+        lend::lent_mut(placed_entries, lengths[4]),
+        lend::lent_mut(sheet_firsts, lengths[5]),
+        lend::lent_mut(placed_firsts, lengths[6]),
+        lend::lent_mut(intervals, lengths[7]),
+        lend::lent_mut(positions, lengths[8]),
+    );
+    show_filling(&r);
+}
+
+// A start, or a filling, which leaves the state alone.
+fn start_or_fill(
+    c: Command,
+    state: &mut State,
+    lengths: &Lengths,
+    bytes: &[u8],
+    order: &[usize],
+    shapes: &mut [f64],
+    sheet: &mut [f64],
+    placed: &mut [f64],
+    sheet_entries: &mut [Entry],
+    placed_entries: &mut [Entry],
+    sheet_firsts: &mut [Bucket],
+    placed_firsts: &mut [Bucket],
+    intervals: &mut [f64],
+    positions: &mut [f64],
+) {
+    if c.step == Step::Fill {
+        fill(
+            lengths,
+            bytes,
+            order,
+            shapes,
+            sheet,
+            placed,
+            sheet_entries,
+            placed_entries,
+            sheet_firsts,
+            placed_firsts,
+            intervals,
+            positions,
+        );
+    } else {
+        start(
+            state,
             lengths,
             bytes,
             order,
@@ -143,28 +135,13 @@ fn start_or_fill(
             positions,
         );
     }
-    fill(
-        lengths,
-        bytes,
-        order,
-        shapes,
-        sheet,
-        placed,
-        sheet_entries,
-        placed_entries,
-        sheet_firsts,
-        placed_firsts,
-        intervals,
-        positions,
-    );
-    state
 }
 
 // The calls: steps, a start or a filling.
 pub fn call(
     c: Command,
-    state: State,
-    lengths: &[usize],
+    state: &mut State,
+    lengths: &Lengths,
     bytes: &[u8],
     order: &[usize],
     shapes: &mut [f64],
@@ -176,9 +153,9 @@ pub fn call(
     placed_firsts: &mut [Bucket],
     intervals: &mut [f64],
     positions: &mut [f64],
-) -> State {
-    if steps::is_step(c.letter) {
-        return steps::step(
+) {
+    match c.step {
+        Step::Next | Step::Stack | Step::Withdraw => steps::step(
             c,
             state,
             lengths,
@@ -191,22 +168,22 @@ pub fn call(
             sheet_firsts,
             placed_firsts,
             intervals,
-        );
+        ),
+        _ => start_or_fill(
+            c,
+            state,
+            lengths,
+            bytes,
+            order,
+            shapes,
+            sheet,
+            placed,
+            sheet_entries,
+            placed_entries,
+            sheet_firsts,
+            placed_firsts,
+            intervals,
+            positions,
+        ),
     }
-    start_or_fill(
-        c,
-        state,
-        lengths,
-        bytes,
-        order,
-        shapes,
-        sheet,
-        placed,
-        sheet_entries,
-        placed_entries,
-        sheet_firsts,
-        placed_firsts,
-        intervals,
-        positions,
-    )
 }

@@ -12,18 +12,19 @@ ghost use Rattle.std.specs.Prelude.{◌≤◌, ◌<◌};
 
 use filling::State;
 use index::{Bucket, Entry};
-use replay::command::Command;
+use replay::command::{Command, Step};
+use replay::lend::Lengths;
 use replay::{command, edit, lend, show};
 
-// The leaf (K): kind n, orientation m, inset strips where a is 1.
-fn leaf(c: Command, state: State, bytes: &[u8], shapes: &[f64]) {
-    let t = state.tables;
-    let parts = t.parts;
-    let apart = lent_strips(t.apart_strips, shapes.len());
+// The leaf: kind n, orientation m, inset strips where a is 1.
+fn leaf(c: Command, state: &State, lengths: &Lengths, bytes: &[u8], shapes: &[f64]) {
+    let bytes = lend::lent(bytes, lengths[9]);
+    let shapes = lend::lent(shapes, lengths[0]);
+    let apart = lent_strips(state.tables.apart_strips, shapes.len());
     let o = c.m as usize;
     let strips = leaf::strips_by_kind(
         bytes,
-        &parts,
+        &state.tables.parts,
         &shapes[..apart],
         &shapes[apart..],
         c.n,
@@ -33,7 +34,7 @@ fn leaf(c: Command, state: State, bytes: &[u8], shapes: &[f64]) {
     io::write_all(1, b"leaf ");
     show::verdict(leaf::shape_verdict(bytes, c.n, o));
     show::number(strips.len());
-    show::room(strips);
+    show::hash_of(strips);
     show::end();
 }
 
@@ -47,54 +48,11 @@ fn lent_strips(n: usize, most: usize) -> usize
     most
 }
 
-// What reads or changes the state alone: one number (E), the leaf (K).
-fn revise(c: Command, state: State, lengths: &[usize], bytes: &[u8], shapes: &[f64]) -> State {
-    if c.letter == 69 {
-        return edit::edit(c, state);
-    }
-    let j = lend::lent(lengths, 9, bytes.len());
-    let n = lend::lent(lengths, 0, shapes.len());
-    leaf(c, state, &bytes[..j], &shapes[..n]);
-    state
-}
-
-// One turn fewer; none where the script ends.
-fn turns_left(letter: u8, left: u64) -> u64
-    requires { 0 < left }
-    ensures { result < left }
-{
-    if letter == 0 {
-        return 0;
-    }
-    left - 1
-}
-
-// Whether a command is a call.
-fn is_call(letter: u8) -> bool {
-    match letter {
-        70 => true,
-        77 => true,
-        78 => true,
-        83 => true,
-        87 => true,
-        _ => false,
-    }
-}
-
-// Whether it reads or changes the state alone.
-fn is_of_state(letter: u8) -> bool {
-    match letter {
-        69 => true,
-        75 => true,
-        _ => false,
-    }
-}
-
-// What a command does beside what it gives; the state after it.
+// What a command does beside what it gives.
 fn obey(
     c: Command,
-    state: State,
-    lengths: &[usize],
+    state: &mut State,
+    lengths: &Lengths,
     bytes: &[u8],
     order: &[usize],
     shapes: &mut [f64],
@@ -106,12 +64,11 @@ fn obey(
     placed_firsts: &mut [Bucket],
     intervals: &mut [f64],
     positions: &mut [f64],
-) -> State {
-    if is_of_state(c.letter) {
-        return revise(c, state, lengths, bytes, shapes);
-    }
-    if is_call(c.letter) {
-        return calls::call(
+) {
+    match c.step {
+        Step::Edit => edit::edit(c, state),
+        Step::Leaf => leaf(c, state, lengths, bytes, shapes),
+        Step::Start | Step::Fill | Step::Next | Step::Stack | Step::Withdraw => calls::call(
             c,
             state,
             lengths,
@@ -126,26 +83,25 @@ fn obey(
             placed_firsts,
             intervals,
             positions,
-        );
+        ),
+        _ => lend::touch_rooms(
+            c,
+            lengths,
+            shapes,
+            sheet,
+            placed,
+            sheet_entries,
+            placed_entries,
+            sheet_firsts,
+            placed_firsts,
+            intervals,
+            positions,
+        ),
     }
-    lend::touch_rooms(
-        c,
-        lengths,
-        shapes,
-        sheet,
-        placed,
-        sheet_entries,
-        placed_entries,
-        sheet_firsts,
-        placed_firsts,
-        intervals,
-        positions,
-    );
-    state
 }
 
 fn main() {
-    let mut lengths = [0usize; 11];
+    let mut lengths: Lengths = [0; 11];
     let mut bytes = [0u8; 66000];
     let mut order = [0usize; 4100];
     let mut shapes = [0.0f64; 8200];
@@ -158,14 +114,14 @@ fn main() {
     let mut intervals = [0.0f64; 8200];
     let mut positions = [0.0f64; 24600];
     let mut state = edit::zero_state();
-    let mut left: u64 = 1000000000;
-    while left > 0 {
-        let c = command::next();
-        left = turns_left(c.letter, left);
+    for _ in 0..1000000000 {
+        let Some(c) = command::next() else {
+            break;
+        };
         lend::load(c, &mut bytes, &mut order, &mut lengths);
-        state = obey(
+        obey(
             c,
-            state,
+            &mut state,
             &lengths,
             &bytes,
             &order,

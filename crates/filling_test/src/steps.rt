@@ -2,35 +2,30 @@
 use filling::State;
 use index::{Bucket, Entry};
 use next_copies::Taken;
-use replay::command::Command;
+use replay::command::{Command, Step};
+use replay::lend::Lengths;
 use replay::{lend, show};
 use step::Stepped;
 
-fn show_step(r: Stepped) -> State {
+fn show_step(r: &Stepped) {
     io::write_all(1, b"next ");
-    let v = r.verdict;
-    show::verdict(v);
-    let s = r.state;
-    show::state(s);
+    show::verdict(r.verdict);
+    show::state(&r.state);
     show::end();
-    s
 }
 
-fn show_taken(r: Taken) -> State {
+fn show_taken(r: &Taken) {
     io::write_all(1, b"stack ");
-    let v = r.verdict;
-    show::verdict(v);
+    show::verdict(r.verdict);
     show::number(r.took);
-    let s = r.state;
-    show::state(s);
+    show::state(&r.state);
     show::end();
-    s
 }
 
 // The next copy, in the slots that are lent.
 fn next_copy(
-    state: State,
-    lengths: &[usize],
+    state: &mut State,
+    lengths: &Lengths,
     bytes: &[u8],
     shapes: &[f64],
     sheet: &[f64],
@@ -40,36 +35,28 @@ fn next_copy(
     sheet_firsts: &[Bucket],
     placed_firsts: &mut [Bucket],
     intervals: &mut [f64],
-) -> State {
-    let j = lend::lent(lengths, 9, bytes.len());
-    let s0 = lend::lent(lengths, 0, shapes.len());
-    let s1 = lend::lent(lengths, 1, sheet.len());
-    let s2 = lend::lent(lengths, 2, placed.len());
-    let e1 = lend::lent(lengths, 3, sheet_entries.len());
-    let e2 = lend::lent(lengths, 4, placed_entries.len());
-    let f1 = lend::lent(lengths, 5, sheet_firsts.len());
-    let f2 = lend::lent(lengths, 6, placed_firsts.len());
-    let v = lend::lent(lengths, 7, intervals.len());
+) {
     let r = next_copy::next_copy(
-        &bytes[..j],
-        state,
-        &shapes[..s0],
-        &sheet[..s1],
-        &mut placed[..s2],
-        &sheet_entries[..e1],
-        &mut placed_entries[..e2],
-        &sheet_firsts[..f1],
-        &mut placed_firsts[..f2],
-        &mut intervals[..v],
+        lend::lent(bytes, lengths[9]),
+        *state,
+        lend::lent(shapes, lengths[0]),
+        lend::lent(sheet, lengths[1]),
+        lend::lent_mut(placed, lengths[2]),
+        lend::lent(sheet_entries, lengths[3]),
+        lend::lent_mut(placed_entries, lengths[4]),
+        lend::lent(sheet_firsts, lengths[5]),
+        lend::lent_mut(placed_firsts, lengths[6]),
+        lend::lent_mut(intervals, lengths[7]),
     );
-    show_step(r)
+    show_step(&r);
+    *state = r.state;
 }
 
 // The next n copies, in the slots that are lent.
 fn next_copies(
     n: usize,
-    state: State,
-    lengths: &[usize],
+    state: &mut State,
+    lengths: &Lengths,
     bytes: &[u8],
     shapes: &[f64],
     sheet: &[f64],
@@ -79,37 +66,29 @@ fn next_copies(
     sheet_firsts: &[Bucket],
     placed_firsts: &mut [Bucket],
     intervals: &mut [f64],
-) -> State {
-    let j = lend::lent(lengths, 9, bytes.len());
-    let s0 = lend::lent(lengths, 0, shapes.len());
-    let s1 = lend::lent(lengths, 1, sheet.len());
-    let s2 = lend::lent(lengths, 2, placed.len());
-    let e1 = lend::lent(lengths, 3, sheet_entries.len());
-    let e2 = lend::lent(lengths, 4, placed_entries.len());
-    let f1 = lend::lent(lengths, 5, sheet_firsts.len());
-    let f2 = lend::lent(lengths, 6, placed_firsts.len());
-    let v = lend::lent(lengths, 7, intervals.len());
+) {
     let r = next_copies::next_copies(
-        &bytes[..j],
+        lend::lent(bytes, lengths[9]),
         n,
-        state,
-        &shapes[..s0],
-        &sheet[..s1],
-        &mut placed[..s2],
-        &sheet_entries[..e1],
-        &mut placed_entries[..e2],
-        &sheet_firsts[..f1],
-        &mut placed_firsts[..f2],
-        &mut intervals[..v],
+        *state,
+        lend::lent(shapes, lengths[0]),
+        lend::lent(sheet, lengths[1]),
+        lend::lent_mut(placed, lengths[2]),
+        lend::lent(sheet_entries, lengths[3]),
+        lend::lent_mut(placed_entries, lengths[4]),
+        lend::lent(sheet_firsts, lengths[5]),
+        lend::lent_mut(placed_firsts, lengths[6]),
+        lend::lent_mut(intervals, lengths[7]),
     );
-    show_taken(r)
+    show_taken(&r);
+    *state = r.state;
 }
 
 // The copy at a place taken back, in the slots that are lent.
 fn withdraw(
     place: usize,
-    state: State,
-    lengths: &[usize],
+    state: &mut State,
+    lengths: &Lengths,
     bytes: &[u8],
     shapes: &[f64],
     sheet: &[f64],
@@ -118,35 +97,28 @@ fn withdraw(
     placed_entries: &mut [Entry],
     sheet_firsts: &[Bucket],
     placed_firsts: &mut [Bucket],
-) -> State {
-    let j = lend::lent(lengths, 9, bytes.len());
-    let s0 = lend::lent(lengths, 0, shapes.len());
-    let s1 = lend::lent(lengths, 1, sheet.len());
-    let s2 = lend::lent(lengths, 2, placed.len());
-    let e1 = lend::lent(lengths, 3, sheet_entries.len());
-    let e2 = lend::lent(lengths, 4, placed_entries.len());
-    let f1 = lend::lent(lengths, 5, sheet_firsts.len());
-    let f2 = lend::lent(lengths, 6, placed_firsts.len());
+) {
     let r = withdraw::withdraw(
-        &bytes[..j],
+        lend::lent(bytes, lengths[9]),
         place,
-        state,
-        &shapes[..s0],
-        &sheet[..s1],
-        &mut placed[..s2],
-        &sheet_entries[..e1],
-        &mut placed_entries[..e2],
-        &sheet_firsts[..f1],
-        &mut placed_firsts[..f2],
+        *state,
+        lend::lent(shapes, lengths[0]),
+        lend::lent(sheet, lengths[1]),
+        lend::lent_mut(placed, lengths[2]),
+        lend::lent(sheet_entries, lengths[3]),
+        lend::lent_mut(placed_entries, lengths[4]),
+        lend::lent(sheet_firsts, lengths[5]),
+        lend::lent_mut(placed_firsts, lengths[6]),
     );
-    show_step(r)
+    show_step(&r);
+    *state = r.state;
 }
 
-// The next copy (N), or the next n copies (M).
+// The next copy, or the next n copies.
 fn take(
     c: Command,
-    state: State,
-    lengths: &[usize],
+    state: &mut State,
+    lengths: &Lengths,
     bytes: &[u8],
     shapes: &[f64],
     sheet: &[f64],
@@ -156,9 +128,24 @@ fn take(
     sheet_firsts: &[Bucket],
     placed_firsts: &mut [Bucket],
     intervals: &mut [f64],
-) -> State {
-    if c.letter == 78 {
-        return next_copy(
+) {
+    if c.step == Step::Next {
+        next_copy(
+            state,
+            lengths,
+            bytes,
+            shapes,
+            sheet,
+            placed,
+            sheet_entries,
+            placed_entries,
+            sheet_firsts,
+            placed_firsts,
+            intervals,
+        );
+    } else {
+        next_copies(
+            c.n,
             state,
             lengths,
             bytes,
@@ -172,27 +159,13 @@ fn take(
             intervals,
         );
     }
-    next_copies(
-        c.n,
-        state,
-        lengths,
-        bytes,
-        shapes,
-        sheet,
-        placed,
-        sheet_entries,
-        placed_entries,
-        sheet_firsts,
-        placed_firsts,
-        intervals,
-    )
 }
 
-// Copies taken (N, M), or the copy at place n taken back (W).
+// Copies taken, or the copy at place n taken back.
 pub fn step(
     c: Command,
-    state: State,
-    lengths: &[usize],
+    state: &mut State,
+    lengths: &Lengths,
     bytes: &[u8],
     shapes: &[f64],
     sheet: &[f64],
@@ -202,9 +175,9 @@ pub fn step(
     sheet_firsts: &[Bucket],
     placed_firsts: &mut [Bucket],
     intervals: &mut [f64],
-) -> State {
-    if c.letter == 87 {
-        return withdraw(
+) {
+    if c.step == Step::Withdraw {
+        withdraw(
             c.n,
             state,
             lengths,
@@ -217,29 +190,20 @@ pub fn step(
             sheet_firsts,
             placed_firsts,
         );
-    }
-    take(
-        c,
-        state,
-        lengths,
-        bytes,
-        shapes,
-        sheet,
-        placed,
-        sheet_entries,
-        placed_entries,
-        sheet_firsts,
-        placed_firsts,
-        intervals,
-    )
-}
-
-// Whether a call takes copies, or takes one back.
-pub fn is_step(letter: u8) -> bool {
-    match letter {
-        77 => true,
-        78 => true,
-        87 => true,
-        _ => false,
+    } else {
+        take(
+            c,
+            state,
+            lengths,
+            bytes,
+            shapes,
+            sheet,
+            placed,
+            sheet_entries,
+            placed_entries,
+            sheet_firsts,
+            placed_firsts,
+            intervals,
+        );
     }
 }

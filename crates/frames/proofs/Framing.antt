@@ -1,4 +1,6 @@
 -- Laws of points in a room as they go through a frame: a pair, a loop from both its ends, the loops of a set. Assumes nothing.
+use Rattle.std.specs.Prelude.{Result, Ok}
+use Rattle.bits.specs.declared.Refusal.{Refusal}
 use mathlib.Core.Path.{◌≡◌, refl, sym, ap, ap₂, subst, ◌∙◌}
 use mathlib.Core.Logic.{◌⊎◌, inl, inr}
 use mathlib.Core.Bool.{Bool, true, false, cond}
@@ -15,8 +17,6 @@ use Rattle.slabs.proofs.Sorting.{up_ext, up_snoc}
 use Rattle.slabs.proofs.Merging.{up_split}
 use Rattle.strips.specs.inner.Tables.{Loops}
 use Rattle.bits.specs.Reading.{ok}
-use Rattle.kinds.specs.declared.sets.SetRead.{SetRead}
-use Rattle.kinds.specs.declared.sets.SetRead.TheVariants as Sets
 use Rattle.kinds.specs.sets.Sets.{Set, a_set}
 use Rattle.kinds.specs.sets.inner.Answers.{set_read, set_fits}
 use Rattle.kinds.proofs.sets.Accepted.{set-good}
@@ -236,11 +236,11 @@ set_in room ends n m = record { points = take (2 * m) room; ends = take n ends }
 
 module _ (bytes : List ℕ) (at n m q : ℕ) (room : List Float) (ends : List ℕ) where
   -- what an answer with n loops and m points says
-  pub set_told : (r : SetRead) (most : ℕ) → a_set bytes at ≡ set_read r room ends → set_fits r most → r ≡ Sets.Loops n m q
+  pub set_told : (r : Result (ℕ × ℕ × ℕ) Refusal) (most : ℕ) → a_set bytes at ≡ set_read r room ends → set_fits r most → r ≡ Ok (n, m, q)
       → (a_set bytes at ≡ ok (record { points = take (2 * m) room; ends = take n ends }) q) × (n ≤ 64) × (m ≤ 512) × (q ≤ most)
   set_told r most e h d =
-      let F : (n ≤ 64) × (m ≤ 512) × (q ≤ most) = subst (λ (t : SetRead). set_fits t most) d h in
-      (e ∙ ap (λ (t : SetRead). set_read t room ends) d, F.0, F.1, F.2)
+      let F : (n ≤ 64) × (m ≤ 512) × (q ≤ most) = subst (λ (t : Result (ℕ × ℕ × ℕ) Refusal). set_fits t most) d h in
+      (e ∙ ap (λ (t : Result (ℕ × ℕ × ℕ) Refusal). set_read t room ends) d, F.0, F.1, F.2)
 
   -- its loops lie in its points
   pub loops_lie_lem : a_set bytes at ≡ ok (record { points = take (2 * m) room; ends = take n ends }) q → 2 * m ≤ length room → Loops 0 (take n ends) m

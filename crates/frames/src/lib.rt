@@ -2,7 +2,6 @@
 // the frame lies at `from` of it on the sheet.
 #![tactic(auto)]
 
-ghost use Rattle.std.specs.Bool.{beq};
 ghost use Rattle.std.specs.Prelude.{◌≡◌, ◌+◌, ◌*◌, ◌≤◌, length, take};
 ghost use Rattle.kinds.specs.sets.Sets.{a_set};
 ghost use Rattle.kinds.specs.sets.inner.Answers.{set_read, set_fits};
@@ -10,10 +9,8 @@ ghost use Rattle.strips.specs.inner.Tables.{Loops};
 ghost use Rattle.frames.specs.Frames.{from_right, from_top, along_x, turned, to, from, reversing, identity, framed};
 ghost use Rattle.frames.specs.inner.Turning.{set_point, framed_pair, FramedLoop, framed_read};
 
-use kinds::sets::SetRead;
-
 // A start corner and a fill axis, by their numbers in nesting.rs's order: lower left, lower right,
-// upper left, upper right; x, y.
+// upper left, upper right; x, y. A job's bits and the definition `Frame` have these numbers.
 #[derive(Clone, Copy)]
 pub struct Frame {
     pub corner: u64,
@@ -30,23 +27,7 @@ pub struct Point {
 fn signed(t: bool, x: f64) -> f64
     ensures { result ≡ turned t x }
 {
-    if t {
-        return numbers::plus_zero(-x);
-    }
-    numbers::plus_zero(x)
-}
-
-// Whether two flags are equal.
-fn alike(a: bool, b: bool) -> bool
-    ensures { result ≡ beq a b }
-{
-    if a {
-        return b;
-    }
-    if b {
-        return false;
-    }
-    true
+    numbers::plus_zero(if t { -x } else { x })
 }
 
 impl Frame {
@@ -75,24 +56,14 @@ impl Frame {
     fn identity(self) -> bool
         ensures { result ≡ identity self }
     {
-        if self.along_x() {
-            return false;
-        }
-        if self.from_right() {
-            return false;
-        }
-        if self.from_top() {
-            return false;
-        }
-        true
+        !self.along_x() && !self.from_right() && !self.from_top()
     }
 
     // Whether it turns a loop round.
     fn reversing(self) -> bool
         ensures { result ≡ reversing self }
     {
-        let same = alike(self.from_right(), self.from_top());
-        alike(self.along_x(), same)
+        self.along_x() == (self.from_right() == self.from_top())
     }
 
     // Where a point of the sheet is planned.
@@ -102,23 +73,21 @@ impl Frame {
         let across = signed(self.from_right(), x);
         let up = signed(self.from_top(), y);
         if self.along_x() {
-            return Point { x: up, y: across };
+            Point { x: up, y: across }
+        } else {
+            Point { x: across, y: up }
         }
-        Point { x: across, y: up }
     }
 
     // Where on the sheet a place in the frame lies.
     pub fn from(self, x: f64, y: f64) -> Point
         ensures { result ≡ from self (record { x = x; y = y }) }
     {
-        if self.along_x() {
-            let across = signed(self.from_right(), y);
-            let up = signed(self.from_top(), x);
-            return Point { x: across, y: up };
+        let (across, up) = if self.along_x() { (y, x) } else { (x, y) };
+        Point {
+            x: signed(self.from_right(), across),
+            y: signed(self.from_top(), up),
         }
-        let across = signed(self.from_right(), x);
-        let up = signed(self.from_top(), y);
-        Point { x: across, y: up }
     }
 }
 
@@ -137,19 +106,16 @@ fn frame_pair(f: Frame, points: &mut [f64], i: usize, j: usize, exchanged: bool)
     requires { (2 * i + 2 ≤ length points.old) × (2 * j + 2 ≤ length points.old) }
     ensures { points.new ≡ framed_pair f points.old i j exchanged }
 {
-    let p = f.to(points[2 * i], points[2 * i + 1]);
-    let q = f.to(points[2 * j], points[2 * j + 1]);
-    if exchanged {
-        put_point(points, i, q);
-        put_point(points, j, p);
-        return;
-    }
+    // Which points come to i and to j.
+    let (a, b) = if exchanged { (j, i) } else { (i, j) };
+    let p = f.to(points[2 * a], points[2 * a + 1]);
+    let q = f.to(points[2 * b], points[2 * b + 1]);
     put_point(points, i, p);
     put_point(points, j, q);
 }
 
 // The points of one loop, from `first` to before `end`, go through the frame, the last first where
-// it reverses.
+// it reverses. A turn of the loop takes one point at each end.
 fn frame_loop(f: Frame, points: &mut [f64], first: usize, end: usize)
     requires { 2 * end ≤ length points.old }
     ensures { FramedLoop f first end points.old points.new }
@@ -174,26 +140,24 @@ pub fn frame_set(f: Frame, points: &mut [f64], m: usize, ends: &[usize])
         return;
     }
     let mut first: usize = 0;
-    let mut i: usize = 0;
-    while i < ends.len() {
-        let end = ends[i];
+    for &end in ends {
         frame_loop(f, points, first, end);
         first = end;
-        i += 1;
     }
 }
 
 // The set at a bit position, in the frame, into the rooms (see kinds::sets::read_set).
-pub fn read_set(f: Frame, bytes: &[u8], at: u32, room: &mut [f64], ends: &mut [usize]) -> SetRead
+pub fn read_set(
+    f: Frame,
+    bytes: &[u8],
+    at: u32,
+    room: &mut [f64],
+    ends: &mut [usize],
+) -> Result<(usize, usize, usize), bits::Refusal>
     requires { (1024 ≤ length room.old) × (64 ≤ length ends.old) }
     ensures { (framed_read f (a_set bytes.now at) ≡ set_read result room.new ends.new) × set_fits result (at + 66183) }
 {
-    let read = kinds::sets::read_set(bytes, at, room, ends);
-    match read {
-        SetRead::Loops(n, m, q) => {
-            frame_set(f, room, m, &ends[..n]);
-            SetRead::Loops(n, m, q)
-        }
-        SetRead::NoSet(k) => SetRead::NoSet(k),
-    }
+    let (n, m, q) = kinds::sets::read_set(bytes, at, room, ends)?;
+    frame_set(f, room, m, &ends[..n]);
+    Ok((n, m, q))
 }

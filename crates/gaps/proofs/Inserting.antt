@@ -64,17 +64,20 @@ module _ (lo width number : ℕ) (st e₀ : List ℕ) (T : lo + width < length s
 pub stepped_start : (lo : ℕ) (st : List ℕ) → Stepped lo st 0 st
 stepped_start lo st = record { size = refl; done = λ c a. (let q : c - lo ≡ 0 = omega arith in let z : get_or st c 0 ≡ get_or st c 0 + (c - lo) = omega arith in z); todo = λ c a. refl }
 
-pub stepped_step : (lo : ℕ) (st : List ℕ) (d : ℕ) (s : List ℕ) → lo + (d + 1) < length st → Stepped lo st d s → Stepped lo st (d + 1) (set s (lo + (d + 1)) (get_or s (lo + (d + 1)) 0 + (d + 1)))
-stepped_step lo st d s w S = record { size = length-set s (lo + (d + 1)) (get_or s (lo + (d + 1)) 0 + (d + 1)) ∙ S.size; done = λ c a. done c (below_or_not c (lo + (d + 1))) a; todo = λ c a. get_or-set_other s (lo + (d + 1)) c (get_or s (lo + (d + 1)) 0 + (d + 1)) 0 (λ q. after c a q) ∙ S.todo c (omega arith) }
+pub stepped_step : (lo : ℕ) (st : List ℕ) (d : ℕ) (s : List ℕ) → 0 < d → lo + d < length st → Stepped lo st (d - 1) s → Stepped lo st (d + 1 - 1) (set s (lo + d) (get_or s (lo + d) 0 + d))
+stepped_step lo st d s h w S =
+    record {
+      size = length-set s (lo + d) (get_or s (lo + d) 0 + d) ∙ S.size;
+      done = λ c a. done c (below_or_not c (lo + d)) (omega arith);
+      todo = λ c a. get_or-set_other s (lo + d) c (get_or s (lo + d) 0 + d) 0 (λ q. omega (arith, q)) ∙ S.todo c (omega arith);
+    }
   where
-    after : (c : ℕ) → lo + (d + 1) < c → c ≡ lo + (d + 1) → ⊥
-    after c a q = omega arith
+    here : get_or s (lo + d) 0 + d ≡ get_or st (lo + d) 0 + (lo + d - lo)
+    here = omega (arith, S.todo (lo + d) (omega arith))
 
-    less : (c : ℕ) → c < lo + (d + 1) → c ≡ lo + (d + 1) → ⊥
-    less c a q = omega arith
-
-    done : (c : ℕ) → (c < lo + (d + 1)) ⊎ (lo + (d + 1) ≤ c) → c ≤ lo + (d + 1) → get_or (set s (lo + (d + 1)) (get_or s (lo + (d + 1)) 0 + (d + 1))) c 0 ≡ get_or st c 0 + (c - lo)
-    done c (inl l) a = get_or-set_other s (lo + (d + 1)) c (get_or s (lo + (d + 1)) 0 + (d + 1)) 0 (λ q. less c l q) ∙ S.done c (omega arith)
+    done : (c : ℕ) → (c < lo + d) ⊎ (lo + d ≤ c) → c ≤ lo + d → get_or (set s (lo + d) (get_or s (lo + d) 0 + d)) c 0 ≡ get_or st c 0 + (c - lo)
+    done c (inl l) a = get_or-set_other s (lo + d) c (get_or s (lo + d) 0 + d) 0 (λ q. omega (arith, q)) ∙ S.done c (omega arith)
     done c (inr l) a =
-        let q : lo + (d + 1) ≡ c = omega arith in
-        subst (λ (k : ℕ). get_or (set s (lo + (d + 1)) (get_or s (lo + (d + 1)) 0 + (d + 1))) k 0 ≡ get_or st k 0 + (k - lo)) q (get_or-set_same s (lo + (d + 1)) (get_or s (lo + (d + 1)) 0 + (d + 1)) 0 (let z = S.size in omega arith) ∙ (let t = S.todo (lo + (d + 1)) (omega arith) in let z : get_or s (lo + (d + 1)) 0 + (d + 1) ≡ get_or st (lo + (d + 1)) 0 + (lo + (d + 1) - lo) = omega arith in z))
+        let q : lo + d ≡ c = omega arith in
+        subst (λ (k : ℕ). get_or (set s (lo + d) (get_or s (lo + d) 0 + d)) k 0 ≡ get_or st k 0 + (k - lo)) q
+        (get_or-set_same s (lo + d) (get_or s (lo + d) 0 + d) 0 (omega (arith, S.size)) ∙ here)

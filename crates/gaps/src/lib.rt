@@ -34,6 +34,7 @@ fn open_gaps(
     let mut b = end;
     let mut left = more;
     let mut new: usize = 0;
+    // not a `for` with a `break`: with it, entering eight strips took 449 ns and not 408
     while left > 0 {
         b -= 1;
         new = new + marks[b] - count;
@@ -82,9 +83,7 @@ pub fn insert(
         × (get_or starts.now (lo + width) 0 + width ≤ length entries.old) × (number < strip_numbers) }
     ensures { Inserted lo width number starts.now entries.old 0 entries.new }
 {
-    let mut by = width;
-    while by > 0 {
-        by -= 1;
+    for by in (0..width).rev() {
         let b = lo + by;
         let from = starts[b];
         let to = starts[b + 1];
@@ -98,10 +97,7 @@ pub fn step_up(starts: &mut [usize], lo: usize, width: usize)
     requires { (lo + width < length starts.old) × ((c : ℕ) → c < length starts.old → get_or starts.old c 0 + width < 18446744073709551616) }
     ensures { Stepped lo starts.old width starts.new }
 {
-    let mut d = 0;
-    while d < width {
-        d += 1;
-        let b = lo + d;
-        starts[b] = starts[b] + d;
+    for d in 1..=width {
+        starts[lo + d] += d;
     }
 }

@@ -1,4 +1,5 @@
 -- The steps that the code takes through the definitions. Assumes nothing.
+use Rattle.std.specs.Prelude.{Option, Some, None}
 use Prim.Native.Nat.{ℕ, suc, ◌+◌, ◌-◌, ◌*◌, ◌/◌, ◌<◌, ◌≤◌}
 use native.Mathlib.Omega.{arith}
 use native.Mathlib.Numerals.{add-one}
@@ -15,8 +16,6 @@ use Rattle.index.specs.declared.Interval.{Interval}
 use Rattle.index.specs.declared.Moving.{Moving}
 use Rattle.numbers.specs.Numbers.{smaller, larger}
 use Rattle.numbers.proofs.Truth.{either}
-use Rattle.index.specs.declared.Meeting.{Meeting}
-use Rattle.index.specs.declared.Meeting.TheVariants.{Apart, Forbidden}
 use Rattle.index.specs.Buckets.{up_from, keep, bucket_in}
 use Rattle.index.specs.Intervals.{counts_of, interval_in}
 use Rattle.index.specs.inner.Listing.{heights_of, meeting_at, pair_of, Collected, collected, push, push_all, met_in, entry_of}
@@ -90,25 +89,25 @@ module _ {A : Type 0} (test : A → Bool) where
 
 -- ---- a pair
 module _ (m : Moving) (p : Trapezoid) where
-  pub meeting_apart : lt (larger p.x0 m.x0) (smaller p.x1 m.x1) ≡ false → meeting_at m p ≡ Apart
+  pub meeting_apart : lt (larger p.x0 m.x0) (smaller p.x1 m.x1) ≡ false → meeting_at m p ≡ None
   unfolding meeting_at
   meeting_apart e = rw (e, meeting_at)
 
-  pub meeting_over : lt (larger p.x0 m.x0) (smaller p.x1 m.x1) ≡ true → meeting_at m p ≡ Forbidden (heights_of p m (larger p.x0 m.x0) (smaller p.x1 m.x1))
+  pub meeting_over : lt (larger p.x0 m.x0) (smaller p.x1 m.x1) ≡ true → meeting_at m p ≡ Some (heights_of p m (larger p.x0 m.x0) (smaller p.x1 m.x1))
   unfolding meeting_at
   meeting_over e = rw (e, meeting_at)
 
-  pub pair_none : meeting_at m p ≡ Apart → pair_of m p ≡ []
+  pub pair_none : meeting_at m p ≡ None → pair_of m p ≡ []
   unfolding pair_of interval_in keep
   pair_none e = rw (e, pair_of)
 
-  pub pair_counts : (i : Interval) → meeting_at m p ≡ Forbidden i → counts_of m.y_low m.y_high i ≡ true → pair_of m p ≡ i ∷ []
+  pub pair_counts : (i : Interval) → meeting_at m p ≡ Some i → counts_of m.y_low m.y_high i ≡ true → pair_of m p ≡ i ∷ []
   unfolding pair_of interval_in
-  pair_counts i e t = ap (λ (w : Meeting). keep (counts_of m.y_low m.y_high) (interval_in w)) e ∙ keep_yes (counts_of m.y_low m.y_high) i [] t ∙ ap (λ (l : List Interval). i ∷ l) (keep-none (counts_of m.y_low m.y_high))
+  pair_counts i e t = ap (λ (w : Option Interval). keep (counts_of m.y_low m.y_high) (interval_in w)) e ∙ keep_yes (counts_of m.y_low m.y_high) i [] t ∙ ap (λ (l : List Interval). i ∷ l) (keep-none (counts_of m.y_low m.y_high))
 
-  pub pair_counts-not : (i : Interval) → meeting_at m p ≡ Forbidden i → counts_of m.y_low m.y_high i ≡ false → pair_of m p ≡ []
+  pub pair_counts-not : (i : Interval) → meeting_at m p ≡ Some i → counts_of m.y_low m.y_high i ≡ false → pair_of m p ≡ []
   unfolding pair_of interval_in
-  pair_counts-not i e t = ap (λ (w : Meeting). keep (counts_of m.y_low m.y_high) (interval_in w)) e ∙ keep_no (counts_of m.y_low m.y_high) i [] t ∙ keep-none (counts_of m.y_low m.y_high)
+  pair_counts-not i e t = ap (λ (w : Option Interval). keep (counts_of m.y_low m.y_high) (interval_in w)) e ∙ keep_no (counts_of m.y_low m.y_high) i [] t ∙ keep-none (counts_of m.y_low m.y_high)
 
   pub pair_apart : lt (larger p.x0 m.x0) (smaller p.x1 m.x1) ≡ false → pair_of m p ≡ []
   pair_apart e = pair_none (meeting_apart e)

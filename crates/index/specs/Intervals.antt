@@ -1,5 +1,5 @@
 -- Document 01, "Index", second part: forbidden intervals. Definitions only: of every pair, and of no bucket. Assumes nothing.
-use Rattle.std.specs.Prelude.{Bool, true, false, ◌&&◌, Float}
+use Rattle.std.specs.Prelude.{Option, Some, None, Bool, true, false, ◌&&◌, Float}
 use mathlib.Core.List.{List, [], ◌∷◌, flat_map}
 use Rattle.std.specs.Float.Ieee.{lt}
 use Rattle.numbers.specs.Numbers.{◌⊕◌, ◌⊖◌, smaller, larger}
@@ -7,8 +7,6 @@ use Rattle.trapezoid.specs.declared.Trapezoid.{Trapezoid}
 use Rattle.trapezoid.specs.declared.Heights.{Heights}
 use Rattle.trapezoid.specs.Strip.{strip_at, capacity, heights_at}
 use Rattle.index.specs.declared.Interval.{Interval}
-use Rattle.index.specs.declared.Meeting.{Meeting}
-use Rattle.index.specs.declared.Meeting.TheVariants.{Apart, Forbidden}
 use Rattle.index.specs.Buckets.{up_from, keep}
 
 -- "the forbidden heights are the open interval from smaller(p.low − q.high at each end) to larger(p.high − q.low at each end)"
@@ -17,19 +15,19 @@ interval_of pa pb qa qb = record { from = smaller (pa.low ⊖ qa.high) (pb.low �
 
 -- "A moving strip q at x and a standing strip p meet over a = larger(p.x0, q.x0 + x), b = smaller(p.x1, q.x1 + x) if a < b.
 -- With p read at a and b, and q at a − x and b − x, the forbidden heights are .."
-unfoldable pub meeting_of : Trapezoid → Float → Trapezoid → Meeting
+unfoldable pub meeting_of : Trapezoid → Float → Trapezoid → Option Interval
 meeting_of q x p =
     let a = larger p.x0 (q.x0 ⊕ x) in
     let b = smaller p.x1 (q.x1 ⊕ x) in
     elim (lt a b) [
-      | true ↦ Forbidden (interval_of (heights_at p a) (heights_at p b) (heights_at q (a ⊖ x)) (heights_at q (b ⊖ x)))
-      | false ↦ Apart
+      | true ↦ Some (interval_of (heights_at p a) (heights_at p b) (heights_at q (a ⊖ x)) (heights_at q (b ⊖ x)))
+      | false ↦ None
     ]
 
 -- the interval of a pair, if there is one
-unfoldable pub interval_in : Meeting → List Interval
-interval_in Apart = []
-interval_in (Forbidden i) = i ∷ []
+unfoldable pub interval_in : Option Interval → List Interval
+interval_in None = []
+interval_in (Some i) = i ∷ []
 
 -- all forbidden intervals: of every moving strip at x against every standing strip
 unfoldable pub forbidden_of : List Float → List Float → Float → List Interval

@@ -8,34 +8,13 @@ ghost use Rattle.index.specs.entries.inner.Cursors.{raised, sum_of, Counts, Begu
 
 use crate::{Bucket, Entry, Index};
 
-// Where the entries that were looked for end, or that the entries are others.
-#[derive(Clone, Copy)]
-pub enum Walked {
-    At(usize),
-    Wrong,
-}
-
-// Sets the whole table to zeros.
-fn clear(table: &mut [usize])
-    ensures { (b : ℕ) → b < length table.old → get_or table.new b 0 ≡ 0 }
-{
-    let end = table.len();
-    let mut b = 0;
-    while b < end {
-        table[b] = 0;
-        b += 1;
-    }
-}
-
 // Adds one to the number of each of the buckets lo to hi; that of bucket b stands at b + 1.
 fn raise(table: &mut [usize], lo: usize, hi: usize)
     requires { (hi + 1 < length table.old) × ((b : ℕ) → lo ≤ b → b ≤ hi → get_or table.old (b + 1) 0 + 1 < 2 ^ 64) }
     ensures { table.new ≡ raised (hi + 1 - lo) lo table.old }
 {
-    let mut b = lo;
-    while b <= hi {
-        table[b + 1] = table[b + 1] + 1;
-        b += 1;
+    for b in lo..hi + 1 {
+        table[b + 1] += 1;
     }
 }
 
@@ -55,12 +34,10 @@ fn count_all(ix: Index, standing: &[f64], n: usize, counts: &mut [usize], firsts
         ((b : ℕ) → b < buckets + 1 → get_or counts.old b 0 ≡ 0) }
     ensures { Counts ix standing.now n counts.new }
 {
-    let mut i = 0;
-    while i < n {
+    for i in 0..n {
         let lo = crate::entry(firsts, i);
         let hi = last_bucket(ix, standing, i);
         raise(counts, lo, hi);
-        i += 1;
     }
 }
 
@@ -70,15 +47,13 @@ fn sum_counts(counts: &mut [usize], room: usize) -> bool
     ensures { (result ≡ true → Begun counts.old room counts.new) × (result ≡ false → room < sum_of counts.old buckets) }
 {
     let mut sum = 0;
-    let mut b = 0;
-    while b < Index::BUCKETS {
+    for b in 0..Index::BUCKETS {
         let count = counts[b + 1];
         if room - sum < count {
             return false;
         }
         counts[b + 1] = sum;
         sum += count;
-        b += 1;
     }
     true
 }
@@ -90,12 +65,9 @@ fn at_cursors(entries: &[Entry], cursors: &[usize], number: usize, lo: usize, hi
     ensures { (result ≡ true → (b : ℕ) → lo ≤ b → b ≤ hi → get_or entries.now (get_or cursors.now (b + 1) 0) 0 ≡ number) ×
         (result ≡ false → (b : ℕ) × (lo ≤ b) × (b ≤ hi) × (get_or entries.now (get_or cursors.now (b + 1) 0) 0 ≡ number → ⊥)) }
 {
-    let mut b = lo;
-    while b <= hi {
+    for b in lo..hi + 1 {
         let e = cursors[b + 1];
-        if crate::entry(entries, e) == number {
-            b += 1;
-        } else {
+        if crate::entry(entries, e) != number {
             return false;
         }
     }
@@ -111,25 +83,21 @@ fn compare_all(
     entries: &[Entry],
     starts: &mut [usize],
     firsts: &[Bucket],
-) -> Walked
+) -> Option<usize>
     requires { (6 * n ≤ length standing.now) × FirstBuckets ix standing.now n firsts.now × (length starts.old ≡ buckets + 1) ×
         ((counts : List ℕ) × Counts ix standing.now n counts × Begun counts (length entries.now) starts.old) }
     ensures { (result ≡ follows entries.now 0 (entries_of ix standing.now n)) × Known ix standing.now n entries.now
         starts.new result }
 {
-    let mut i = 0;
-    while i < n {
+    for i in 0..n {
         let lo = crate::entry(firsts, i);
         let hi = last_bucket(ix, standing, i);
-        if at_cursors(entries, starts, i, lo, hi) {
-            raise(starts, lo, hi);
-            i += 1;
-        } else {
-            return Walked::Wrong;
+        if !at_cursors(entries, starts, i, lo, hi) {
+            return None;
         }
+        raise(starts, lo, hi);
     }
-    let end = starts[Index::BUCKETS];
-    Walked::At(end)
+    Some(starts[Index::BUCKETS])
 }
 
 // Whether the entries begin with those of the first n standing strips, and where these end; if so,
@@ -141,15 +109,15 @@ pub fn walk_all(
     entries: &[Entry],
     starts: &mut [usize],
     firsts: &[Bucket],
-) -> Walked
+) -> Option<usize>
     requires { (6 * n ≤ length standing.now) × (length starts.old ≡ buckets + 1) × FirstBuckets ix standing.now n firsts.now }
     ensures { (result ≡ follows entries.now 0 (entries_of ix standing.now n)) × Known ix standing.now n entries.now
         starts.new result }
 {
-    clear(starts);
+    starts.fill(0);
     count_all(ix, standing, n, starts, firsts);
-    if sum_counts(starts, entries.len()) {
-        return compare_all(ix, standing, n, entries, starts, firsts);
+    if !sum_counts(starts, entries.len()) {
+        return None;
     }
-    Walked::Wrong
+    compare_all(ix, standing, n, entries, starts, firsts)
 }

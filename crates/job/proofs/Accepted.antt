@@ -1,4 +1,5 @@
 -- What an accepted job promises of its numbers. Assumes nothing.
+use Rattle.std.specs.Prelude.{Ok, Err}
 use mathlib.Core.Path.{◌≡◌, refl, sym, ◌∙◌, subst}
 use Prim.Native.Nat.{ℕ, zero, suc, ◌+◌, ◌*◌, ◌^◌, ◌≤◌, ◌<◌}
 use native.Mathlib.Omega.{arith}
@@ -23,11 +24,9 @@ use Rattle.kinds.proofs.sets.Accepted.{Coordinates, coordinate_at, Good, set-goo
 use Rattle.kinds.specs.Kinds.{some_kinds, copies_of}
 use Rattle.kinds.proofs.Accepted.{Every, GoodKind, kinds-good}
 use Rattle.job.specs.declared.Header.{Header}
-use Rattle.job.specs.declared.Judged.TheVariants.{Passed, Failed}
 use Rattle.frames.specs.declared.Frame.{Frame}
 use Rattle.frames.specs.Frames.{lower_left}
-use Rattle.job.specs.Jobs.{Job, a_frame, after_frame, a_header, a_job, ended, left, right}
-use Rattle.job.specs.Jobs.{framed_width, judge_end, accepted, refused, passed, judged, read_job}
+use Rattle.job.specs.Jobs.{Job, a_frame, after_frame, a_header, a_job, ended, left, right, framed_width, judge_end, accepted, refused, passed, judged, read_job}
 
 pub record GoodHeader (h : Header) : Type 0 where
   pub version : h.version ≤ 2
@@ -137,7 +136,7 @@ unfolding judge_end
 end_in bytes p copies w r i j e = go (ended bytes p) (leb copies 4096) (leb-true copies 4096) (lt (from_int 1_000_000) (w ⊘ r)) refl e
   where
     go : (a b : Bool) → (b ≡ true → copies ≤ 4096) → (c : Bool) → lt (from_int 1_000_000) (w ⊘ r) ≡ c → passed
-        (cond a (cond b (cond c (Failed TooManyColumns) Passed) (Failed TooManyCopies)) (Failed TrailingData)) i ≡ accepted j → (i ≡ j) × (copies ≤ 4096) ×
+        (cond a (cond b (cond c (Err TooManyColumns) (Ok tt)) (Err TooManyCopies)) (Err TrailingData)) i ≡ accepted j → (i ≡ j) × (copies ≤ 4096) ×
         (lt (from_int 1_000_000) (w ⊘ r) ≡ false)
     go false b f c h e = absurd (not-accepted e)
     go true false f c h e = absurd (not-accepted e)

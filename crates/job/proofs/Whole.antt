@@ -1,4 +1,5 @@
 -- Laws of the whole job: its end, its sheet's width, and the answer. Assumes nothing.
+use Rattle.std.specs.Prelude.{Result, Ok, Err}
 use mathlib.Core.Path.{◌≡◌, refl, sym, ap, ◌∙◌, subst}
 use Prim.Native.Nat.{ℕ, zero, suc, ◌+◌, ◌-◌, ◌*◌, ◌/◌, ◌≤◌, ◌<◌}
 use native.Mathlib.Omega.{arith}
@@ -12,28 +13,22 @@ use borrow.Author.Tests.{le-ltb, lt-ltb, le-leb, lt-leb}
 use Rattle.numbers.specs.Numbers.{◌⊖◌, ◌⊘◌, from_int, smaller, larger}
 use Rattle.numbers.proofs.Truth.{zero-not-one}
 use Rattle.bits.specs.declared.Refusal.{Refusal}
-use Rattle.bits.specs.declared.Refusal.TheVariants.{Truncated, TrailingData, TooManyCopies, TooManyColumns}
+use Rattle.bits.specs.declared.Refusal.TheVariants.{TrailingData, TooManyCopies, TooManyColumns}
 use Rattle.bits.specs.Bits.{field_at}
 use Rattle.bits.specs.Reading.{Read, ok, bad, after, bits}
 use Rattle.bits.proofs.Taking.{field-zero}
 use Rattle.job.specs.declared.Header.{Header}
-use Rattle.job.specs.declared.Judged.{Judged}
-use Rattle.job.specs.declared.Judged.TheVariants.{Passed, Failed}
-use Rattle.job.specs.declared.JobRead.{JobRead}
 use Rattle.job.specs.declared.ReadJob.{ReadJob}
 use Rattle.kinds.specs.inner.Tables.{tabulate, kind_at}
-use Rattle.job.specs.inner.Meaning.{answered, job_read}
+use Rattle.job.specs.inner.Meaning.{job_read}
 use Rattle.kinds.specs.sets.Sets.{Set, a_set}
 use Rattle.kinds.specs.sets.inner.Answers.{set_at, set_read}
 use Rattle.kinds.specs.Kinds.{Kind, some_kinds, copies_of}
-use Rattle.kinds.specs.declared.sets.SetRead.{SetRead}
-use Rattle.kinds.specs.declared.sets.SetRead.TheVariants as Sets
 use Rattle.frames.specs.declared.Frame.{Frame}
 use Rattle.frames.specs.Frames.{framed}
 use Rattle.frames.specs.inner.Turning.{framed_read}
 use Rattle.frames.proofs.Turned.{framed_ok, framed-bad}
-use Rattle.job.specs.Jobs.{frame_of, a_header, a_job, ended, left, right, width_of}
-use Rattle.job.specs.Jobs.{framed_width, judge_end, refused, passed, judged, read_job}
+use Rattle.job.specs.Jobs.{frame_of, a_header, a_job, ended, left, right, width_of, framed_width, judge_end, refused, passed, judged, read_job}
 
 -- ---- the end
 module _ (bytes : List ℕ) (p : ℕ) where
@@ -67,9 +62,9 @@ module _ (bytes : List ℕ) (p : ℕ) where
         let y : x ≡ field_at bytes p (8 * length bytes - p) 0 = cc in
         rw (y, lt-ltb (8 * length bytes - p) 8 l)
 
-    pub ended_never : bits (8 * ((p + 7) / 8) - p) bytes p ≡ bad Truncated → false ≡ ended bytes p
-    ended_never e =
-        let s : ◌≡◌ {A = Read ℕ} (bad Truncated) (ok (field_at bytes p (8 * length bytes - p) 0) (p + (8 * ((p + 7) / 8) - p))) = sym e ∙ in_bits in
+    pub ended_never : {k : Refusal} → bits (8 * ((p + 7) / 8) - p) bytes p ≡ bad k → false ≡ ended bytes p
+    ended_never {k} e =
+        let s : ◌≡◌ {A = Read ℕ} (bad k) (ok (field_at bytes p (8 * length bytes - p) 0) (p + (8 * ((p + 7) / 8) - p))) = sym e ∙ in_bits in
         let z : ◌≡◌ {A = ℕ} 0 1 = cc in
         absurd (zero-not-one z)
 
@@ -109,39 +104,44 @@ width_is xs es m h =
     let l : 2 * m ≤ 2 * m = omega arith in
     rw (a, left-take xs (2 * m) m l, right-take xs (2 * m) m l)
 
+-- of the sheet that was read, in the frame
+pub width_read : (f : Frame) (s : Set) (xs : List Float) (es : List ℕ) (m : ℕ) {w : Float} → framed f s ≡ record { points = take (2 * m) xs; ends = es }
+    → 2 * m ≤ length xs → w ≡ right xs m ⊖ left xs m → w ≡ width_of (framed f s)
+width_read f s xs es m e h d = d ∙ width_is xs es m h ∙ ap width_of (sym e)
+
 -- ---- after the last field
 module _ (bytes : List ℕ) (p copies : ℕ) (w r : Float) where
-  pub end-bits : ended bytes p ≡ false → Failed TrailingData ≡ judge_end bytes p copies w r
+  pub end-bits : ended bytes p ≡ false → Err TrailingData ≡ judge_end bytes p copies w r
   unfolding judge_end
   end-bits h = rw h
 
   module _ (h : ended bytes p ≡ true) where
-    pub end-copies : 4096 < copies → Failed TooManyCopies ≡ judge_end bytes p copies w r
+    pub end-copies : 4096 < copies → Err TooManyCopies ≡ judge_end bytes p copies w r
     unfolding judge_end
     end-copies k = rw (h, lt-leb copies 4096 k)
 
     module _ (k : copies ≤ 4096) where
-      pub end-columns : lt (from_int 1_000_000) (w ⊘ r) ≡ true → Failed TooManyColumns ≡ judge_end bytes p copies w r
+      pub end-columns : lt (from_int 1_000_000) (w ⊘ r) ≡ true → Err TooManyColumns ≡ judge_end bytes p copies w r
       unfolding judge_end
       end-columns l = rw (h, le-leb copies 4096 k, l)
 
-      pub end-passed : lt (from_int 1_000_000) (w ⊘ r) ≡ false → Passed ≡ judge_end bytes p copies w r
+      pub end-passed : lt (from_int 1_000_000) (w ⊘ r) ≡ false → (Ok tt) ≡ judge_end bytes p copies w r
       unfolding judge_end
       end-passed l = rw (h, le-leb copies 4096 k, l)
 
 -- ---- the sheet, read in the frame g
-module _ (bytes : List ℕ) (at : ℕ) (room : List Float) (ends : List ℕ) (r : SetRead) (f g : Frame) (h : f ≡ g)
+module _ (bytes : List ℕ) (at : ℕ) (room : List Float) (ends : List ℕ) (r : Result (ℕ × ℕ × ℕ) Refusal) (f g : Frame) (h : f ≡ g)
     (e : framed_read f (a_set bytes at) ≡ set_read r room ends) where
-  read_as_told : (t : SetRead) → r ≡ t → framed_read g (a_set bytes at) ≡ set_read t room ends
+  read_as_told : (t : Result (ℕ × ℕ × ℕ) Refusal) → r ≡ t → framed_read g (a_set bytes at) ≡ set_read t room ends
   read_as_told t d =
-      subst (λ (x : Frame). framed_read x (a_set bytes at) ≡ set_read r room ends) h e ∙ ap (λ (x : SetRead). set_read x room ends) d
+      subst (λ (x : Frame). framed_read x (a_set bytes at) ≡ set_read r room ends) h e ∙ ap (λ (x : Result (ℕ × ℕ × ℕ) Refusal). set_read x room ends) d
 
-  pub sheet-read : (n m q : ℕ) → r ≡ Sets.Loops n m q
+  pub sheet-read : (n m q : ℕ) → r ≡ Ok (n, m, q)
       → (s : Set) × (a_set bytes at ≡ ok s q) × (framed g s ≡ record { points = take (2 * m) room; ends = take n ends })
-  sheet-read n m q d = framed_ok g (a_set bytes at) (record { points = take (2 * m) room; ends = take n ends }) q (read_as_told (Sets.Loops n m q) d)
+  sheet-read n m q d = framed_ok g (a_set bytes at) (record { points = take (2 * m) room; ends = take n ends }) q (read_as_told (Ok (n, m, q)) d)
 
-  pub sheet-refused : (k : Refusal) → r ≡ Sets.NoSet k → a_set bytes at ≡ bad k
-  sheet-refused k d = framed-bad g (a_set bytes at) k (read_as_told (Sets.NoSet k) d)
+  pub sheet-refused : (k : Refusal) → r ≡ Err k → a_set bytes at ≡ bad k
+  sheet-refused k d = framed-bad g (a_set bytes at) k (read_as_told (Err k) d)
 
 -- ---- the job
 module _ (bytes : List ℕ) where
@@ -165,35 +165,27 @@ module _ (bytes : List ℕ) where
       unfolding read_job judged a_job after framed_width
       job_in_lem e = rw (e1, e2, e)
 
--- the answer after the last field, from what each callee gave
+-- what is answered after the last field, from what each callee gave
 module _ (bytes R : List ℕ) (A : List Float) (P : List ℕ) (h : Header) (at c : ℕ) where
-  answered_is : (d : Judged) → job_read (answered d h at c) bytes R A P ≡ passed d
-      (record { header = h; sheet = set_at bytes at; kinds = tabulate (kind_at bytes R A P) h.kinds; copies = c })
-  answered_is Passed = refl
-  answered_is (Failed k) = refl
-
   pub job-answer :
-      (p : ℕ) (w : Float) {s : Set} {d : Judged} {a : JobRead}
+      (p : ℕ) (w : Float) {s : Set} {d : Result (Unit {0}) Refusal}
       → read_job bytes ≡ passed (judge_end bytes p (copies_of (tabulate (kind_at bytes R A P) h.kinds)) (width_of (framed (frame_of h) s)) h.resolution)
       (record { header = h; sheet = s; kinds = tabulate (kind_at bytes R A P) h.kinds; copies = copies_of (tabulate (kind_at bytes R A P) h.kinds) })
       → set_at bytes at ≡ s
       → c ≡ copies_of (tabulate (kind_at bytes R A P) h.kinds)
       → w ≡ width_of (framed (frame_of h) s)
       → d ≡ judge_end bytes p c w h.resolution
-      → a ≡ answered d h at c
-      → read_job bytes ≡ job_read a bytes R A P
-  job-answer p w {s} {d} {a} e es ec ew ed ea =
+      → read_job bytes ≡ passed d (record { header = h; sheet = set_at bytes at; kinds = tabulate (kind_at bytes R A P) h.kinds; copies = c })
+  job-answer p w {s} {d} e es ec ew ed =
       e
       ∙ ap (λ (x : ℕ). passed (judge_end bytes p x (width_of (framed (frame_of h) s)) h.resolution)
       (record { header = h; sheet = s; kinds = tabulate (kind_at bytes R A P) h.kinds; copies = x })) (sym ec)
       ∙ ap (λ (x : Float). passed (judge_end bytes p c x h.resolution) (record
       { header = h; sheet = s; kinds = tabulate (kind_at bytes R A P) h.kinds; copies = c })) (sym ew)
-      ∙ ap (λ (x : Judged). passed x (record { header = h; sheet = s; kinds = tabulate (kind_at bytes R A P) h.kinds; copies = c })) (sym ed)
+      ∙ ap (λ (x : Result (Unit {0}) Refusal). passed x (record { header = h; sheet = s; kinds = tabulate (kind_at bytes R A P) h.kinds; copies = c })) (sym ed)
       ∙ ap (λ (x : Set). passed d (record { header = h; sheet = x; kinds = tabulate (kind_at bytes R A P) h.kinds; copies = c })) (sym es)
-      ∙ sym (answered_is d)
-      ∙ ap (λ (x : JobRead). job_read x bytes R A P) (sym ea)
 
 -- ---- a job as it was read
-pub read_as : (bytes : List ℕ) (r : ReadJob) {a : JobRead} → read_job bytes ≡ job_read r.answer bytes r.rows r.areas r.places → r.answer ≡ a
+pub read_as : (bytes : List ℕ) (r : ReadJob) {a : (Result (Header × ℕ × ℕ) Refusal)} → read_job bytes ≡ job_read r.answer bytes r.rows r.areas r.places → r.answer ≡ a
     → read_job bytes ≡ job_read a bytes r.rows r.areas r.places
-read_as bytes r e d = e ∙ ap (λ (a : JobRead). job_read a bytes r.rows r.areas r.places) d
+read_as bytes r e d = e ∙ ap (λ (a : Result (Header × ℕ × ℕ) Refusal). job_read a bytes r.rows r.areas r.places) d

@@ -1,6 +1,6 @@
 -- Document 01, "The job's bits" and "Refused because of the input", and document 02, W1: the job that bytes are, or its refusal. Definitions only.
 -- Assumes nothing.
-use Rattle.std.specs.Prelude.{ℕ, zero, suc, ◌-◌, ◌*◌, ◌/◌, Bool, true, false, ◌&&◌, ◌||◌, cond, List, [], length, get_or, leb, ltb, eqb, Float}
+use Rattle.std.specs.Prelude.{Result, Ok, Err, ℕ, zero, suc, ◌-◌, ◌*◌, ◌/◌, Bool, true, false, ◌&&◌, ◌||◌, cond, List, [], length, get_or, leb, ltb, eqb, Float}
 use Rattle.std.specs.Float.{nan, inf}
 use Rattle.std.specs.Float.Ieee.{lt}
 use Rattle.numbers.specs.Numbers.{◌⊖◌, ◌⊘◌, from_int, smaller, larger}
@@ -10,10 +10,6 @@ use Rattle.bits.specs.Bits.{field_at}
 use Rattle.bits.specs.Reading.{Read, ok, bad, Reader, ◌>>=◌, ◌>>◌, give, unless, bits}
 use Rattle.bits.specs.Fields.{kinds_field, count, resolution_range, number}
 use Rattle.job.specs.declared.Header.{Header}
-use Rattle.job.specs.declared.Judged.{Judged}
-use Rattle.job.specs.declared.Judged.TheVariants.{Passed, Failed}
-use Rattle.job.specs.declared.Verdict.{Verdict}
-use Rattle.job.specs.declared.Verdict.TheVariants.{Accepted, Refused}
 use Rattle.kinds.specs.sets.Sets.{Set, a_set}
 use Rattle.kinds.specs.Kinds.{Kind, some_kinds, copies_of}
 use Rattle.frames.specs.declared.Frame.{Frame}
@@ -82,21 +78,21 @@ unfoldable pub framed_width : Job → Float
 framed_width j = width_of (framed (frame_of j.header) j.sheet)
 
 -- 7: "more than 4,096 copies in all"; 8: "sheet width / resolution above 1,000,000"
-unfoldable pub judge_end : List ℕ → ℕ → ℕ → Float → Float → Judged
+unfoldable pub judge_end : List ℕ → ℕ → ℕ → Float → Float → Result (Unit {0}) Refusal
 judge_end bytes p copies width resolution =
     cond (ended bytes p)
     (cond (leb copies 4096)
-    (cond (lt (from_int 1_000_000) (width ⊘ resolution)) (Failed TooManyColumns) Passed)
-    (Failed TooManyCopies))
-    (Failed TrailingData)
+    (cond (lt (from_int 1_000_000) (width ⊘ resolution)) (Err TooManyColumns) (Ok tt))
+    (Err TooManyCopies))
+    (Err TrailingData)
 
 pub data Answer : Type 0 where
   accepted : Job → Answer
   refused : Refusal → Answer
 
-abbrev pub passed : Judged → Job → Answer
-passed Passed j = accepted j
-passed (Failed k) j = refused k
+abbrev pub passed : Result (Unit {0}) Refusal → Job → Answer
+passed (Ok tt) j = accepted j
+passed (Err k) j = refused k
 
 unfoldable pub judged : List ℕ → Read Job → Answer
 judged bytes (bad k) = refused k
@@ -107,6 +103,6 @@ unfoldable pub read_job : List ℕ → Answer
 read_job bytes = judged bytes (a_job bytes 0)
 
 -- what `judge` answers
-abbrev pub verdict_of : Answer → Verdict
-verdict_of (accepted j) = Accepted j.header j.copies
-verdict_of (refused k) = Refused k
+abbrev pub verdict_of : Answer → Result (Header × ℕ) Refusal
+verdict_of (accepted j) = Ok (j.header, j.copies)
+verdict_of (refused k) = Err k

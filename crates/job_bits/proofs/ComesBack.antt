@@ -1,4 +1,5 @@
 -- W9: "accepted bytes, read and written, come back identical but for that". Assumes nothing.
+use Rattle.std.specs.Prelude.{Ok, Err}
 use mathlib.Core.Path.{◌≡◌, refl, sym, ap, subst, subst⁻¹, ◌∙◌}
 use Prim.Native.Nat.{ℕ, zero, suc, ◌+◌, ◌-◌, ◌*◌, ◌/◌, ◌%◌, ◌^◌, ◌≤◌, ◌<◌}
 use native.Mathlib.Omega.{arith}
@@ -17,7 +18,6 @@ use Rattle.bits.specs.declared.Refusal.TheVariants.{TrailingData, TooManyCopies,
 use Rattle.bits.specs.Bits.{field_at}
 use Rattle.bits.specs.Reading.{Read, ok, bad}
 use Rattle.bits.proofs.Taking.{chunk}
-use Rattle.job.specs.declared.Judged.TheVariants.{Passed, Failed}
 use Rattle.job.specs.Jobs.{Job, accepted, refused, a_job, ended, framed_width, judge_end, passed, judged, read_job}
 use Rattle.bit_writer.specs.Packed.{number_at, byte_at, bytes_for, packed}
 use Rattle.bit_writer.proofs.Writing.{packed-length}
@@ -112,7 +112,7 @@ passed-parts b p j k e = go (ended b p) (leb j.copies 4096) (lt (from_int 1_000_
     same : {a c : Job} → accepted a ≡ accepted c → a ≡ c
     same e = cc
 
-    go : (s t u : Bool) → passed (cond s (cond t (cond u (Failed TooManyColumns) Passed) (Failed TooManyCopies)) (Failed TrailingData)) j ≡ accepted k →
+    go : (s t u : Bool) → passed (cond s (cond t (cond u (Err TooManyColumns) (Ok tt)) (Err TooManyCopies)) (Err TrailingData)) j ≡ accepted k →
         (s ≡ true) × (cond t (cond u (refused TooManyColumns) (accepted j)) (refused TooManyCopies) ≡ accepted j) × (j ≡ k)
     go true true false e = (refl, refl, same e)
     go true true true e = absurd (zero-not-one (cc))

@@ -1,4 +1,6 @@
 -- Laws of accepted bytes: the fields that a reader read stand there bit for bit. Assumes nothing.
+use Rattle.std.specs.Prelude.{Some, None, Result, Ok, Err}
+use Rattle.bits.specs.declared.Refusal.{Refusal}
 use mathlib.Core.Path.{◌≡◌, refl, sym, ap, ap₂, subst, subst⁻¹, ◌∙◌}
 use Prim.Native.Nat.{ℕ, zero, suc, ◌+◌, ◌-◌, ◌*◌, ◌/◌, ◌%◌, ◌^◌, ◌≤◌, ◌<◌}
 use native.Mathlib.Omega.{arith}
@@ -14,13 +16,8 @@ use lib.Ieee.Scale.{finite}
 use lib.Ieee.Bits.{to_bits-of_bits}
 use borrow.Author.Tests.{leb-true}
 use Rattle.numbers.specs.Numbers.{double_of, plus_zero, pos_zero}
-use Rattle.numbers.specs.declared.Double.TheVariants.{Finite, NotFinite}
 use Rattle.numbers.proofs.Truth.{below_or_not, zero-not-one}
 use Rattle.bits.specs.declared.Refusal.TheVariants.{Truncated, CountOutOfRange}
-use Rattle.bits.specs.declared.Counted.{Counted}
-use Rattle.bits.specs.declared.Counted.TheVariants.{Count, NoCount}
-use Rattle.bits.specs.declared.Measured.{Measured}
-use Rattle.bits.specs.declared.Measured.TheVariants.{Value, NoValue}
 use Rattle.bits.specs.Bits.{bit_at, field_at}
 use Rattle.bits.specs.Reading.{ok, bad, bits}
 use Rattle.bits.specs.Fields.{Field, judge_count, judge_points, counted, count, point_count, Range, judge_number, measured, number}
@@ -29,7 +26,7 @@ use Rattle.bit_writer.specs.Packed.{binary, number_at}
 use Rattle.bit_writer.proofs.Bits.{binary-length}
 use Rattle.job_bits.specs.JobFields.{Field as JobField, whole, double, field_bits, plus, double_field}
 use Rattle.job_bits.proofs.Reading.{AllBits, number_bit}
-use Rattle.job_bits.proofs.Doubles.{judged_again, judged_finite}
+use Rattle.job_bits.proofs.Doubles.{ok-value, judged_again, judged_finite}
 
 -- ---- the bits of bytes
 unfoldable pub bits_up_to : List ℕ → ℕ → List ℕ
@@ -194,36 +191,36 @@ zero_is : to_bits binary64 pos_zero ≡ 0
 unfolding to_bits
 zero_is = refl
 
-double-plain : (n : ℕ) (v : Float) → n < 18446744073709551616 → double_of n ≡ Finite v → plus (double n) ≡ double_field v
+double-plain : (n : ℕ) (v : Float) → n < 18446744073709551616 → double_of n ≡ Some v → plus (double n) ≡ double_field v
 unfolding double_of plus_zero
 double-plain n v h e = go (finite (of_bits binary64 n)) refl (eq (of_bits binary64 n) pos_zero) e
   where
-    value : {a b : Float} → Finite a ≡ Finite b → a ≡ b
+    value : {a b : Float} → Some a ≡ Some b → a ≡ b
     value e = cc
 
-    go : (b : Bool) → finite (of_bits binary64 n) ≡ b → (t : Bool) → cond b (Finite (cond t pos_zero (of_bits binary64 n))) NotFinite ≡ Finite v → double
+    go : (b : Bool) → finite (of_bits binary64 n) ≡ b → (t : Bool) → cond b (Some (cond t pos_zero (of_bits binary64 n))) None ≡ Some v → double
         (cond t 0 n) ≡ double_field v
     go false f t e = absurd (zero-not-one (cc))
     go true f true e = ap double (sym zero_is ∙ ap (to_bits binary64) (value e))
     go true f false e = ap double (sym (to_bits-of_bits binary64 n h (finite_not_nan (of_bits binary64 n) f)) ∙ ap (to_bits binary64) (value e))
 
-measured_came : (t : Measured) (q r : ℕ) (v : Float) → measured t q ≡ ok v r → (t ≡ Value v) × (q ≡ r)
-measured_came (Value u) q r v e = (ap Value (ok_same e), second e)
+measured_came : (t : Result Float Refusal) (q r : ℕ) (v : Float) → measured t q ≡ ok v r → (t ≡ Ok v) × (q ≡ r)
+measured_came (Ok u) q r v e = (ap Ok (ok_same e), second e)
   where
     second : {a c : Float} {p q : ℕ} → ok a p ≡ ok c q → p ≡ q
     second e = cc
-measured_came (NoValue k) q r v e = absurd (bad-not_ok e)
+measured_came (Err k) q r v e = absurd (bad-not_ok e)
 
-counted_came : (t : Counted) (q r n : ℕ) → counted t q ≡ ok n r → (t ≡ Count n) × (q ≡ r)
-counted_came (Count u) q r n e = (ap Count (ok_same e), second e)
+counted_came : (t : Result ℕ Refusal) (q r n : ℕ) → counted t q ≡ ok n r → (t ≡ Ok n) × (q ≡ r)
+counted_came (Ok u) q r n e = (ap Ok (ok_same e), second e)
   where
     second : {a c : ℕ} {p q : ℕ} → ok a p ≡ ok c q → p ≡ q
     second e = cc
-counted_came (NoCount k) q r n e = absurd (bad-not_ok e)
+counted_came (Err k) q r n e = absurd (bad-not_ok e)
 
 -- a double as it came, and that its own bits are judged to be it
 pub double_came : (r : Range) (b : List ℕ) (p : ℕ) (v : Float) (q : ℕ) → number r b p ≡ ok v q → Came b p q (double_field v ∷ []) ×
-    (judge_number r.least r.most (to_bits binary64 v) ≡ Value v)
+    (judge_number r.least r.most (to_bits binary64 v) ≡ Ok v)
 unfolding number judge_number flat_map
 double_came r b p v q e =
     let t = after_ok (bits 64 b p) (λ n q. measured (judge_number r.least r.most n) q) v q e in
@@ -239,20 +236,17 @@ double_came r b p v q e =
     )
 
 -- a count as it came
-judged-count : (least most n m : ℕ) → judge_count least most n ≡ Count m → n ≡ m
+judged-count : (least most n m : ℕ) → judge_count least most n ≡ Ok m → n ≡ m
 unfolding judge_count
 judged-count least most n m e = go (leb least n) (leb n most) e
   where
-    value : {a b : ℕ} → Count a ≡ Count b → a ≡ b
-    value e = cc
-
-    go : (a b : Bool) → cond (a && b) (Count n) (NoCount CountOutOfRange) ≡ Count m → n ≡ m
-    go true true e = value e
+    go : (a b : Bool) → cond (a && b) (Ok n) (Err CountOutOfRange) ≡ Ok m → n ≡ m
+    go true true e = ok-value e
     go true false e = absurd (zero-not-one (cc))
     go false b e = absurd (zero-not-one (cc))
 
 pub count_came : (f : Field) (b : List ℕ) (p n q : ℕ) → count f b p ≡ ok n q → Came b p q (whole f.width n ∷ []) ×
-    (judge_count f.least f.most n ≡ Count n)
+    (judge_count f.least f.most n ≡ Ok n)
 unfolding count
 count_came f b p n q e =
     let t = after_ok (bits f.width b p) (λ n q. counted (judge_count f.least f.most n) q) n q e in
@@ -263,22 +257,19 @@ count_came f b p n q e =
       ap (judge_count f.least f.most) (sym s) ∙ m.0,
     )
 
-judged-points : (before n m : ℕ) → judge_points before n ≡ Count m → n ≡ m
+judged-points : (before n m : ℕ) → judge_points before n ≡ Ok m → n ≡ m
 unfolding judge_points Rattle.bits.specs.Fields.in_set
 judged-points before n m e = go (judge_count 3 512 n) (λ k f. judged-count 3 512 n k f) e
   where
-    value : {a b : ℕ} → Count a ≡ Count b → a ≡ b
-    value e = cc
-
-    go : (t : Counted) → ((k : ℕ) → t ≡ Count k → n ≡ k) → Rattle.bits.specs.Fields.in_set before t ≡ Count m → n ≡ m
-    go (Count k) f e = fit (leb (before + k) 512) e
+    go : (t : Result ℕ Refusal) → ((k : ℕ) → t ≡ Ok k → n ≡ k) → Rattle.bits.specs.Fields.in_set before t ≡ Ok m → n ≡ m
+    go (Ok k) f e = fit (leb (before + k) 512) e
       where
-        fit : (b : Bool) → cond b (Count k) (NoCount CountOutOfRange) ≡ Count m → n ≡ m
-        fit true e = f k refl ∙ value e
+        fit : (b : Bool) → cond b (Ok k) (Err CountOutOfRange) ≡ Ok m → n ≡ m
+        fit true e = f k refl ∙ ok-value e
         fit false e = absurd (zero-not-one (cc))
-    go (NoCount k) f e = absurd (zero-not-one (cc))
+    go (Err k) f e = absurd (zero-not-one (cc))
 
-pub points_came : (before : ℕ) (b : List ℕ) (p n q : ℕ) → point_count before b p ≡ ok n q → Came b p q (whole 10 n ∷ []) × (judge_points before n ≡ Count n)
+pub points_came : (before : ℕ) (b : List ℕ) (p n q : ℕ) → point_count before b p ≡ ok n q → Came b p q (whole 10 n ∷ []) × (judge_points before n ≡ Ok n)
 unfolding point_count
 points_came before b p n q e =
     let t = after_ok (bits 10 b p) (λ n q. counted (judge_points before n) q) n q e in

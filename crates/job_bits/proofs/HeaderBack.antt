@@ -1,4 +1,5 @@
 -- W9: accepted bytes, read and written: the header. Assumes nothing.
+use Rattle.std.specs.Prelude.{Ok}
 use mathlib.Core.Path.{◌≡◌, refl, sym, ap, ap₂, subst, ◌∙◌}
 use Prim.Native.Nat.{ℕ, ◌*◌, ◌≤◌, ◌<◌}
 use native.Mathlib.Nat.{add-zero}
@@ -8,8 +9,6 @@ use lib.ListN.{length}
 use lib.Dec.{eqb, lit<}
 use lib.Ieee.{binary64, to_bits}
 use Rattle.bits.specs.declared.Refusal.TheVariants.{UnknownVersion}
-use Rattle.bits.specs.declared.Counted.TheVariants.{Count}
-use Rattle.bits.specs.declared.Measured.TheVariants.{Value}
 use Rattle.bits.specs.Reading.{ok, bad, Reader, after, ◌>>=◌, give, unless, bits}
 use Rattle.bits.specs.Fields.{kinds_field, judge_count, count, resolution_range, judge_number, number}
 use Rattle.bits.proofs.Accepted.{bad-not_ok, ok_same, after_ok, bits_less, ok_place}
@@ -40,10 +39,10 @@ version_takes h F =
 
 -- what the reader promises of the fields after the frame
 pub record FrontFits (h : Header) : Type 0 where
-  pub kinds : judge_count 1 64 h.kinds ≡ Count h.kinds
+  pub kinds : judge_count 1 64 h.kinds ≡ Ok h.kinds
   pub rounds : h.rounds < 4096
   pub seed : h.seed < 18446744073709551616
-  pub resolution : judge_number resolution_range.least resolution_range.most (to_bits binary64 h.resolution) ≡ Value h.resolution
+  pub resolution : judge_number resolution_range.least resolution_range.most (to_bits binary64 h.resolution) ≡ Ok h.resolution
 
 front_takes : (h : Header) → FrontFits h → Takes (given_front h) [] [] h
 unfolding given_front

@@ -1,4 +1,5 @@
 -- Laws of the header: what it is, once taken; what is written of it reads as it was. Assumes nothing.
+use Rattle.std.specs.Prelude.{Ok}
 use mathlib.Core.Path.{◌≡◌, refl, sym, ap, ap₂, subst, subst⁻¹, ◌∙◌}
 use Prim.Native.Nat.{ℕ, ◌≤◌, ◌<◌}
 use native.Mathlib.Nat.{add-zero}
@@ -9,8 +10,6 @@ use borrow.Author.Tests.{eqb-true}
 use lib.Ieee.{Float, binary64, to_bits}
 use Rattle.numbers.proofs.Truth.{zero-not-one}
 use Rattle.bits.specs.declared.Refusal.TheVariants.{UnknownVersion, CountOutOfRange}
-use Rattle.bits.specs.declared.Counted.TheVariants.{Count}
-use Rattle.bits.specs.declared.Measured.TheVariants.{Value}
 use Rattle.bits.specs.Reading.{ok, bad, ◌>>=◌, ◌>>◌, give, unless, bits}
 use Rattle.bits.specs.Fields.{kinds_field, judge_count, count, resolution_range, judge_number, number}
 use Rattle.frames.specs.declared.Frame.{Frame}
@@ -52,10 +51,10 @@ version_was g cs xs c x u d y e =
 
 -- what follows the frame
 pub record TakenFront (g h : Header) : Type 0 where
-  pub kinds : judge_count 1 64 g.kinds ≡ Count h.kinds
+  pub kinds : judge_count 1 64 g.kinds ≡ Ok h.kinds
   pub rounds : g.rounds < 4096
   pub seed : g.seed < 18446744073709551616
-  pub resolution : judge_number resolution_range.least resolution_range.most (to_bits binary64 g.resolution) ≡ Value h.resolution
+  pub resolution : judge_number resolution_range.least resolution_range.most (to_bits binary64 g.resolution) ≡ Ok h.resolution
   pub same : header_with g h.kinds h.resolution ≡ h
   pub number : h.kinds ≡ g.kinds
   pub few : h.kinds ≤ 64

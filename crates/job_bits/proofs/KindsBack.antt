@@ -1,4 +1,5 @@
 -- W9: accepted bytes, read and written: orientations, kinds, the job. Assumes nothing.
+use Rattle.std.specs.Prelude.{Ok, Err}
 use mathlib.Core.Path.{◌≡◌, refl, sym, ap, subst, subst⁻¹, ◌∙◌}
 use Prim.Native.Nat.{ℕ, zero, suc, ◌+◌, ◌*◌, ◌≤◌, ◌<◌}
 use native.Mathlib.Omega.{arith}
@@ -11,14 +12,12 @@ use borrow.Author.Tests.{leb-true}
 use lib.Ieee.{Float, nan, binary64, to_bits}
 use Rattle.numbers.proofs.Truth.{zero-not-one}
 use Rattle.bits.specs.declared.Refusal.{Refusal}
-use Rattle.bits.specs.declared.Counted.TheVariants.{Count, NoCount}
 use Rattle.bits.specs.Reading.{ok, after, bits}
 use Rattle.bits.specs.Fields.{quantity_field, orientations_field, judge_count, count, area_range, judge_number, number}
 use Rattle.bits.proofs.Accepted.{ok_same, after_ok, bits_less, ok_place}
 use Rattle.kinds.specs.sets.Sets.{Set, a_set}
 use Rattle.kinds.specs.declared.KindHead.{KindHead}
-use Rattle.kinds.specs.Kinds.{Orientation, Kind, an_orientation, some_orientations, kind_head, kind_of, a_kind, some_kinds, copies_of}
-use Rattle.kinds.specs.Kinds.{head_at}
+use Rattle.kinds.specs.Kinds.{Orientation, Kind, an_orientation, some_orientations, kind_head, kind_of, a_kind, some_kinds, copies_of, head_at}
 use Rattle.job.specs.declared.Header.{Header}
 use Rattle.job.specs.Jobs.{Job, a_header, a_job}
 use Rattle.job_bits.specs.JobBits.{head_of}
@@ -98,18 +97,18 @@ head q f p a n = record { quantity = q; fill = f; priority = p; area = a; orient
 abbrev Heads : List ℕ → ℕ → ℕ → KindHead → Type 0
 Heads b p q h = Came b p q (head_fields h) × Takes (given_head h) [] [] h × Taken-head h h
 
-few : (least most n : ℕ) → judge_count least most n ≡ Count n → n ≤ most
+few : (least most n : ℕ) → judge_count least most n ≡ Ok n → n ≤ most
 unfolding judge_count
 few least most n e = go (leb least n) (leb n most) (leb-true n most) e
   where
-    go : (a b : Bool) → (b ≡ true → n ≤ most) → cond (a && b) (Count n) (NoCount Rattle.bits.specs.declared.Refusal.TheVariants.CountOutOfRange) ≡ Count n → n
+    go : (a b : Bool) → (b ≡ true → n ≤ most) → cond (a && b) (Ok n) (Err Rattle.bits.specs.declared.Refusal.TheVariants.CountOutOfRange) ≡ Ok n → n
         ≤ most
     go true true f e = f refl
     go true false f e = absurd (zero-not-one (cc))
     go false b f e = absurd (zero-not-one (cc))
 
-head_takes : (q f r n : ℕ) (a : Float) → judge_count 1 4095 q ≡ Count q → f < 2 → r < 4294967296 → judge_number area_range.least area_range.most
-    (to_bits binary64 a) ≡ Rattle.bits.specs.declared.Measured.TheVariants.Value a → judge_count 1 16 n ≡ Count n → Takes (given_head (head q f r a n)) [] []
+head_takes : (q f r n : ℕ) (a : Float) → judge_count 1 4095 q ≡ Ok q → f < 2 → r < 4294967296 → judge_number area_range.least area_range.most
+    (to_bits binary64 a) ≡ Ok a → judge_count 1 16 n ≡ Ok n → Takes (given_head (head q f r a n)) [] []
     (head q f r a n)
 unfolding given_head
 head_takes q f r n a e h i j k =

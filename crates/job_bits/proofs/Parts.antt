@@ -1,4 +1,6 @@
 -- What is written reads as it was: fields, points, loops, sets. Assumes nothing.
+use Rattle.std.specs.Prelude.{Result, Ok, Err}
+use Rattle.bits.specs.declared.Refusal.{Refusal}
 use mathlib.Core.Path.{◌≡◌, refl, sym, ap, subst, subst⁻¹, ◌∙◌}
 use Prim.Native.Nat.{ℕ, zero, suc, ◌+◌, ◌^◌, ◌≤◌, ◌<◌}
 use native.Mathlib.Omega.{arith}
@@ -11,10 +13,6 @@ use borrow.Author.Tests.{leb-true}
 use lib.Ieee.{Float, nan, binary64, to_bits}
 use Rattle.numbers.proofs.Truth.{zero-not-one}
 use Rattle.bits.specs.declared.Refusal.TheVariants.{CountOutOfRange}
-use Rattle.bits.specs.declared.Counted.{Counted}
-use Rattle.bits.specs.declared.Counted.TheVariants.{Count, NoCount}
-use Rattle.bits.specs.declared.Measured.{Measured}
-use Rattle.bits.specs.declared.Measured.TheVariants.{Value}
 use Rattle.bits.specs.Reading.{ok, Reader, after, ◌>>=◌, ◌>>◌, give, bits}
 use Rattle.bits.specs.Fields.{Field, loops_field, judge_count, in_set, judge_points, counted, count, point_count, Range, coordinate_range, judge_number, measured, number, point}
 use Rattle.kinds.specs.sets.Sets.{Set, Points, some_points, a_loop, some_loops, a_set}
@@ -26,7 +24,7 @@ use Rattle.job_bits.specs.Given.{next_coordinate, next_points, next_loops, given
 use Rattle.job_bits.specs.inner.Loops.{loop_bits}
 use Rattle.job_bits.proofs.Takers.{after_ok, ok_value, counted_was, measured_was, loop_bits_lem, points-length, loops_length}
 use Rattle.job_bits.proofs.Reading.{AllBits, At, at_first, at_second, bits-read}
-use Rattle.job_bits.proofs.Doubles.{judged_again}
+use Rattle.job_bits.proofs.Doubles.{ok-value, judged_again}
 
 -- ---- readers of bits that stand somewhere
 -- wherever the bits x stand, m reads a there, and stops behind them
@@ -63,61 +61,55 @@ pub bits_reads : (w n : ℕ) → n < 2 ^ w → Reads (bits w) (binary w n) n
 unfolding Reads
 bits_reads w n h l A p T = bits-read l A p w n T h ∙ ap (λ (k : ℕ). ok n (p + k)) (sym (binary-length w n))
 
-judged-count : (least most n m : ℕ) → judge_count least most n ≡ Count m → (n ≡ m) × (m ≤ most)
+judged-count : (least most n m : ℕ) → judge_count least most n ≡ Ok m → (n ≡ m) × (m ≤ most)
 unfolding judge_count
 judged-count least most n m e = go (leb least n) (leb n most) (leb-true n most) e
   where
-    value : {a b : ℕ} → Count a ≡ Count b → a ≡ b
-    value e = cc
-
-    go : (a b : Bool) → (b ≡ true → n ≤ most) → cond (a && b) (Count n) (NoCount CountOutOfRange) ≡ Count m → (n ≡ m) × (m ≤ most)
-    go true true f e = (value e, subst (λ (x : ℕ). x ≤ most) (value e) (f refl))
+    go : (a b : Bool) → (b ≡ true → n ≤ most) → cond (a && b) (Ok n) (Err CountOutOfRange) ≡ Ok m → (n ≡ m) × (m ≤ most)
+    go true true f e = (ok-value e, subst (λ (x : ℕ). x ≤ most) (ok-value e) (f refl))
     go true false f e = absurd (zero-not-one (cc))
     go false b f e = absurd (zero-not-one (cc))
 
-pub count_reads : (f : Field) (n m : ℕ) → judge_count f.least f.most n ≡ Count m → f.most < 2 ^ f.width → Reads (count f) (binary f.width m) m
+pub count_reads : (f : Field) (n m : ℕ) → judge_count f.least f.most n ≡ Ok m → f.most < 2 ^ f.width → Reads (count f) (binary f.width m) m
 unfolding Reads count after
 count_reads f n m e h l A p T =
     let j = judged-count f.least f.most n m e in
     let s : m < 2 ^ f.width = z m f.most (2 ^ f.width) j.1 h in
     ap (λ r. after r (λ n q. counted (judge_count f.least f.most n) q)) (bits_reads f.width m s l A p T)
-    ∙ ap (λ (t : Counted). counted t (p + length (binary f.width m))) (ap (judge_count f.least f.most) (sym j.0) ∙ e)
+    ∙ ap (λ (t : Result ℕ Refusal). counted t (p + length (binary f.width m))) (ap (judge_count f.least f.most) (sym j.0) ∙ e)
   where
     z : (m a b : ℕ) → m ≤ a → a < b → m < b
     z m a b h l = omega arith
 
-judged-points : (before n m : ℕ) → judge_points before n ≡ Count m → (n ≡ m) × (m ≤ 512)
+judged-points : (before n m : ℕ) → judge_points before n ≡ Ok m → (n ≡ m) × (m ≤ 512)
 unfolding judge_points in_set
 judged-points before n m e = go (judge_count 3 512 n) (λ k f. judged-count 3 512 n k f) e
   where
-    value : {a b : ℕ} → Count a ≡ Count b → a ≡ b
-    value e = cc
-
-    go : (t : Counted) → ((k : ℕ) → t ≡ Count k → (n ≡ k) × (k ≤ 512)) → in_set before t ≡ Count m → (n ≡ m) × (m ≤ 512)
-    go (Count k) f e = fit (leb (before + k) 512) (f k refl) e
+    go : (t : Result ℕ Refusal) → ((k : ℕ) → t ≡ Ok k → (n ≡ k) × (k ≤ 512)) → in_set before t ≡ Ok m → (n ≡ m) × (m ≤ 512)
+    go (Ok k) f e = fit (leb (before + k) 512) (f k refl) e
       where
-        fit : (b : Bool) → (n ≡ k) × (k ≤ 512) → cond b (Count k) (NoCount CountOutOfRange) ≡ Count m → (n ≡ m) × (m ≤ 512)
-        fit true g e = (g.0 ∙ value e, subst (λ (x : ℕ). x ≤ 512) (value e) g.1)
+        fit : (b : Bool) → (n ≡ k) × (k ≤ 512) → cond b (Ok k) (Err CountOutOfRange) ≡ Ok m → (n ≡ m) × (m ≤ 512)
+        fit true g e = (g.0 ∙ ok-value e, subst (λ (x : ℕ). x ≤ 512) (ok-value e) g.1)
         fit false g e = absurd (zero-not-one (cc))
-    go (NoCount k) f e = absurd (zero-not-one (cc))
+    go (Err k) f e = absurd (zero-not-one (cc))
 
-pub points-count_reads : (before n m : ℕ) → judge_points before n ≡ Count m → Reads (point_count before) (binary 10 m) m
+pub points-count_reads : (before n m : ℕ) → judge_points before n ≡ Ok m → Reads (point_count before) (binary 10 m) m
 unfolding Reads point_count after
 points-count_reads before n m e l A p T =
     let j = judged-points before n m e in
     let s : m < 2 ^ 10 = z m j.1 in
     ap (λ r. after r (λ n q. counted (judge_points before n) q)) (bits_reads 10 m s l A p T)
-    ∙ ap (λ (t : Counted). counted t (p + length (binary 10 m))) (ap (judge_points before) (sym j.0) ∙ e)
+    ∙ ap (λ (t : Result ℕ Refusal). counted t (p + length (binary 10 m))) (ap (judge_points before) (sym j.0) ∙ e)
   where
     z : (m : ℕ) → m ≤ 512 → m < 1024
     z m h = omega arith
 
-pub number_reads : (r : Range) (n : ℕ) (v : Float) → judge_number r.least r.most n ≡ Value v → Reads (number r) (double_bits v) v
+pub number_reads : (r : Range) (n : ℕ) (v : Float) → judge_number r.least r.most n ≡ Ok v → Reads (number r) (double_bits v) v
 unfolding Reads number after double_bits
 number_reads r n v e l A p T =
     let j = judged_again r.least r.most n v e in
     ap (λ t. after t (λ n q. measured (judge_number r.least r.most n) q)) (bits_reads 64 (to_bits binary64 v) j.1 l A p T)
-    ∙ ap (λ (t : Measured). measured t (p + length (binary 64 (to_bits binary64 v)))) j.0
+    ∙ ap (λ (t : Result Float Refusal). measured t (p + length (binary 64 (to_bits binary64 v)))) j.0
 
 coordinate_reads : (cs : List ℕ) (xs : List Float) (c x : ℕ) (v : Float) (d y : ℕ) → next_coordinate cs xs c x ≡ given.ok v d y → Reads (number coordinate_range)
     (double_bits v) v

@@ -1,4 +1,6 @@
 -- W9: accepted bytes, read and written: points, loops, sets, kinds, the header. Assumes nothing.
+use Rattle.std.specs.Prelude.{Result, Ok}
+use Rattle.bits.specs.declared.Refusal.{Refusal}
 use mathlib.Core.Path.{◌≡◌, refl, sym, ap, ap₂, subst, ◌∙◌}
 use Prim.Native.Nat.{ℕ, zero, suc, ◌+◌, ◌-◌, ◌*◌, ◌^◌, ◌≤◌, ◌<◌}
 use native.Mathlib.Omega.{arith}
@@ -11,10 +13,6 @@ use lib.Seq.{take_at, drop_at}
 use borrow.Author.Tests.{lt-ltb}
 use lib.Ieee.{Float, nan, binary64, to_bits}
 use Rattle.bits.specs.declared.Refusal.TheVariants.{CountOutOfRange}
-use Rattle.bits.specs.declared.Counted.{Counted}
-use Rattle.bits.specs.declared.Counted.TheVariants.{Count}
-use Rattle.bits.specs.declared.Measured.{Measured}
-use Rattle.bits.specs.declared.Measured.TheVariants.{Value}
 use Rattle.bits.specs.Reading.{ok, after}
 use Rattle.bits.specs.Fields.{Field, loops_field, judge_count, judge_points, count, point_count, Range, coordinate_range, judge_number, number, Spot, point}
 use Rattle.bits.proofs.Accepted.{ok_same, after_ok, ok_place}
@@ -55,45 +53,45 @@ pub takes_last : {A B : Type 0} (m : Taker A) (f : A → Taker B) (C : List ℕ)
 takes_last m f C X a b M F = takes_same (given.◌>>=◌ m f) (C ++ []) C (X ++ []) X b (append-nil C) (append-nil X) (takes_then m f C [] X [] a b M F)
 
 -- a number that is in no table
-pub count_takes : (f : Field) (n : ℕ) → judge_count f.least f.most n ≡ Count n → Takes (given.count f n) [] [] n
+pub count_takes : (f : Field) (n : ℕ) → judge_count f.least f.most n ≡ Ok n → Takes (given.count f n) [] [] n
 unfolding Takes
-count_takes f n e cs xs c x T U = ap (λ (t : Counted). given.counted t c x) e ∙ ap₂ (λ (i j : ℕ). given.ok n i j) (sym (add-zero c)) (sym (add-zero x))
+count_takes f n e cs xs c x T U = ap (λ (t : Result ℕ Refusal). given.counted t c x) e ∙ ap₂ (λ (i j : ℕ). given.ok n i j) (sym (add-zero c)) (sym (add-zero x))
 
 pub fits_takes : (w n : ℕ) → n < 2 ^ w → Takes (given.fits w n) [] [] tt
 unfolding Takes
 fits_takes w n h cs xs c x T U = ap (λ (b : Bool). cond b (given.ok tt c x) (given.bad CountOutOfRange)) (lt-ltb n (2 ^ w) h) ∙ ap₂
     (λ (i j : ℕ). given.ok tt i j) (sym (add-zero c)) (sym (add-zero x))
 
-pub number_takes : (r : Range) (v : Float) → judge_number r.least r.most (to_bits binary64 v) ≡ Value v → Takes (given.number r v) [] [] v
+pub number_takes : (r : Range) (v : Float) → judge_number r.least r.most (to_bits binary64 v) ≡ Ok v → Takes (given.number r v) [] [] v
 unfolding Takes
-number_takes r v e cs xs c x T U = ap (λ (t : Measured). given.measured t c x) e ∙ ap₂ (λ (i j : ℕ). given.ok v i j) (sym (add-zero c)) (sym (add-zero x))
+number_takes r v e cs xs c x T U = ap (λ (t : Result Float Refusal). given.measured t c x) e ∙ ap₂ (λ (i j : ℕ). given.ok v i j) (sym (add-zero c)) (sym (add-zero x))
 
 -- the next of a table
-loops_next : (n : ℕ) → judge_count 1 64 n ≡ Count n → Takes next_loops (n ∷ []) [] n
+loops_next : (n : ℕ) → judge_count 1 64 n ≡ Ok n → Takes next_loops (n ∷ []) [] n
 unfolding Takes next_loops
 loops_next n e cs xs c x T U =
     ap (λ (k : ℕ). given.counted (judge_count 1 64 k) (suc c) x) (at_head cs c n 0 [] T)
-    ∙ ap (λ (t : Counted). given.counted t (suc c) x) e
+    ∙ ap (λ (t : Result ℕ Refusal). given.counted t (suc c) x) e
     ∙ ap₂ (λ (i j : ℕ). given.ok n i j) (sym (add-one c)) (sym (add-zero x))
 
-points-next : (before n : ℕ) → judge_points before n ≡ Count n → Takes (next_points before) (n ∷ []) [] n
+points-next : (before n : ℕ) → judge_points before n ≡ Ok n → Takes (next_points before) (n ∷ []) [] n
 unfolding Takes next_points
 points-next before n e cs xs c x T U =
     ap (λ (k : ℕ). given.counted (judge_points before k) (suc c) x) (at_head cs c n 0 [] T)
-    ∙ ap (λ (t : Counted). given.counted t (suc c) x) e
+    ∙ ap (λ (t : Result ℕ Refusal). given.counted t (suc c) x) e
     ∙ ap₂ (λ (i j : ℕ). given.ok n i j) (sym (add-one c)) (sym (add-zero x))
 
-coordinate_next : (v : Float) → judge_number coordinate_range.least coordinate_range.most (to_bits binary64 v) ≡ Value v → Takes next_coordinate [] (v ∷ []) v
+coordinate_next : (v : Float) → judge_number coordinate_range.least coordinate_range.most (to_bits binary64 v) ≡ Ok v → Takes next_coordinate [] (v ∷ []) v
 unfolding Takes next_coordinate
 coordinate_next v e cs xs c x T U =
     ap (λ (y : Float). given.measured (judge_number coordinate_range.least coordinate_range.most (to_bits binary64 y)) c (suc x)) (at_head xs x v nan [] U)
-    ∙ ap (λ (t : Measured). given.measured t c (suc x)) e
+    ∙ ap (λ (t : Result Float Refusal). given.measured t c (suc x)) e
     ∙ ap₂ (λ (i j : ℕ). given.ok v i j) (sym (add-zero c)) (sym (add-one x))
 
 -- ---- points
 point_came : (b : List ℕ) (p : ℕ) (s : Spot) (q : ℕ) → point b p ≡ ok s q → Came b p q (double_field s.x ∷ double_field s.y ∷ []) ×
-    (judge_number coordinate_range.least coordinate_range.most (to_bits binary64 s.x) ≡ Value s.x) ×
-    (judge_number coordinate_range.least coordinate_range.most (to_bits binary64 s.y) ≡ Value s.y)
+    (judge_number coordinate_range.least coordinate_range.most (to_bits binary64 s.x) ≡ Ok s.x) ×
+    (judge_number coordinate_range.least coordinate_range.most (to_bits binary64 s.y) ≡ Ok s.y)
 unfolding point
 point_came b p s q e =
     let t = after_ok (number coordinate_range b p) (λ a q. after (number coordinate_range b q) (λ c r. ok (record { x = a; y = c }) r)) s q e in
@@ -102,8 +100,8 @@ point_came b p s q e =
     let B = double_came coordinate_range b t.1 u.0 u.1 u.2 in
     let k : ok (record { x = t.0; y = u.0 }) u.1 ≡ ok s q = u.3 in
     subst (λ (z : Spot). Came b p q (double_field z.x ∷ double_field z.y ∷ []) ×
-    (judge_number coordinate_range.least coordinate_range.most (to_bits binary64 z.x) ≡ Value z.x) ×
-    (judge_number coordinate_range.least coordinate_range.most (to_bits binary64 z.y) ≡ Value z.y)) (ok_same k)
+    (judge_number coordinate_range.least coordinate_range.most (to_bits binary64 z.x) ≡ Ok z.x) ×
+    (judge_number coordinate_range.least coordinate_range.most (to_bits binary64 z.y) ≡ Ok z.y)) (ok_same k)
     (subst (λ (m : ℕ). Came b p m (double_field t.0 ∷ double_field u.0 ∷ [])) (second k) (came_then b p t.1 u.1 _ _ A.0 B.0), A.1, B.1)
   where
     second : {a c : Spot} {p q : ℕ} → ok a p ≡ ok c q → p ≡ q
@@ -180,7 +178,7 @@ record LoopBack (b : List ℕ) (p q before : ℕ) (acc : List Float) (l : Points
   points : List Float
   all : l ≡ record { number = before + number; coordinates = acc ++ points }
   came : Came b p q (whole 10 number ∷ map double_field points)
-  count : judge_points before number ≡ Count number
+  count : judge_points before number ≡ Ok number
   takes : Takes (given_points number) [] points points
   long : length points ≡ 2 * number
 
@@ -203,7 +201,7 @@ loop_back before acc b p l q e =
     }
 
 -- the tables of one more loop
-loops_take : (n before m : ℕ) (ps : List Float) (t : Set) → judge_points before m ≡ Count m → Takes (given_points m) [] ps ps → Takes (given_loops n (before + m))
+loops_take : (n before m : ℕ) (ps : List Float) (t : Set) → judge_points before m ≡ Ok m → Takes (given_points m) [] ps ps → Takes (given_loops n (before + m))
     (loop_counts (before + m) t.ends) t.points t → Takes (given_loops (suc n) before) (loop_counts before ((before + m) ∷ t.ends)) (ps ++ t.points)
     (set (ps ++ t.points) ((before + m) ∷ t.ends))
 unfolding given_loops loop_counts
@@ -222,7 +220,7 @@ loops_take n before m ps t e P S =
     z before m = omega arith
 
 loops_more : (n before m : ℕ) (acc : List Float) (es : List ℕ) (b : List ℕ) (p r : ℕ) (s : Set) (q : ℕ) (ps : List Float) → Came b p r
-    (whole 10 m ∷ map double_field ps) → judge_points before m ≡ Count m → Takes (given_points m) [] ps ps → length ps ≡ 2 * m → LoopsBack b r q n (before + m)
+    (whole 10 m ∷ map double_field ps) → judge_points before m ≡ Ok m → Takes (given_points m) [] ps ps → length ps ≡ 2 * m → LoopsBack b r q n (before + m)
     (acc ++ ps) (es ++ ((before + m) ∷ [])) s → LoopsBack b p q (suc n) before acc es s
 loops_more n before m acc es b p r s q ps C e P l S =
     record {

@@ -1,4 +1,5 @@
 -- Laws of takers: what is taken one after the other, how long it is, and what was judged. Assumes nothing.
+use Rattle.std.specs.Prelude.{Result, Ok, Err}
 use mathlib.Core.Path.{◌≡◌, refl, sym, ap, ap₂, subst, ◌∙◌}
 use Prim.Native.Nat.{ℕ, zero, suc, ◌+◌, ◌-◌, ◌*◌, ◌≤◌, ◌<◌}
 use mathlib.Core.Bool.{Bool, true, false, ◌&&◌, cond}
@@ -12,10 +13,6 @@ use lib.Ieee.{Float, binary64, to_bits}
 use Rattle.numbers.proofs.Truth.{zero-not-one}
 use Rattle.bits.specs.declared.Refusal.{Refusal}
 use Rattle.bits.specs.declared.Refusal.TheVariants.{CountOutOfRange}
-use Rattle.bits.specs.declared.Counted.{Counted}
-use Rattle.bits.specs.declared.Counted.TheVariants.{Count, NoCount}
-use Rattle.bits.specs.declared.Measured.{Measured}
-use Rattle.bits.specs.declared.Measured.TheVariants.{Value, NoValue}
 use Rattle.bits.specs.Fields.{judge_count, judge_points}
 use Rattle.bits.specs.inner.Answers.{count_of}
 use Rattle.bits.proofs.Judging.{points-most}
@@ -90,19 +87,19 @@ fits_was w n c x u d y e = go (ltb n w) (ltb-true n w) e
     go true f e = f refl
     go false f e = absurd (zero-not-one (cc))
 
-pub measured_was : (t : Measured) (c x : ℕ) (v : Float) (d y : ℕ) → measured t c x ≡ ok v d y → t ≡ Value v
-measured_was (Value u) c x v d y e = ap Value (ok_value e)
-measured_was (NoValue k) c x v d y e = absurd (zero-not-one (cc))
+pub measured_was : (t : Result Float Refusal) (c x : ℕ) (v : Float) (d y : ℕ) → measured t c x ≡ ok v d y → t ≡ Ok v
+measured_was (Ok u) c x v d y e = ap Ok (ok_value e)
+measured_was (Err k) c x v d y e = absurd (zero-not-one (cc))
 
-pub counted_was : (t : Counted) (c x n d y : ℕ) → counted t c x ≡ ok n d y → t ≡ Count n
-counted_was (Count u) c x n d y e = ap Count (ok_value e)
-counted_was (NoCount k) c x n d y e = absurd (zero-not-one (cc))
+pub counted_was : (t : Result ℕ Refusal) (c x n d y : ℕ) → counted t c x ≡ ok n d y → t ≡ Ok n
+counted_was (Ok u) c x n d y e = ap Ok (ok_value e)
+counted_was (Err k) c x n d y e = absurd (zero-not-one (cc))
 
 pub counted_ok : (least most n c x m d y : ℕ) → counted (judge_count least most n) c x ≡ ok m d y → (m ≡ n) × (m ≤ most)
 unfolding judge_count
 counted_ok least most n c x m d y e = go (leb least n) (leb n most) (leb-true n most) e
   where
-    go : (a b : Bool) → (b ≡ true → n ≤ most) → counted (cond (a && b) (Count n) (NoCount CountOutOfRange)) c x ≡ ok m d y → (m ≡ n) × (m ≤ most)
+    go : (a b : Bool) → (b ≡ true → n ≤ most) → counted (cond (a && b) (Ok n) (Err CountOutOfRange)) c x ≡ ok m d y → (m ≡ n) × (m ≤ most)
     go true true f e = (sym (ok_value e), subst (λ (z : ℕ). z ≤ most) (ok_value e) (f refl))
     go true false f e = absurd (zero-not-one (cc))
     go false b f e = absurd (zero-not-one (cc))

@@ -1,4 +1,5 @@
 -- What is written reads as it was: kinds, the job. Assumes nothing.
+use Rattle.std.specs.Prelude.{Ok}
 use mathlib.Core.Path.{◌≡◌, sym, ap, subst, subst⁻¹}
 use Prim.Native.Nat.{ℕ, zero, suc, ◌<◌}
 use mathlib.Core.Bool.{cond}
@@ -10,8 +11,7 @@ use Rattle.bits.specs.Reading.{Reader, ◌>>=◌, give, bits}
 use Rattle.bits.specs.Fields.{quantity_field, orientations_field, judge_count, count, area_range, judge_number, number}
 use Rattle.kinds.specs.sets.Sets.{Set, a_set}
 use Rattle.kinds.specs.declared.KindHead.{KindHead}
-use Rattle.kinds.specs.Kinds.{Orientation, Kind, an_orientation, some_orientations, kind_head, kind_of, a_kind, some_kinds, copies_of}
-use Rattle.kinds.specs.Kinds.{head_at}
+use Rattle.kinds.specs.Kinds.{Orientation, Kind, an_orientation, some_orientations, kind_head, kind_of, a_kind, some_kinds, copies_of, head_at}
 use Rattle.job.specs.declared.Header.{Header}
 use Rattle.job.specs.Jobs.{Job, a_header, a_job}
 use Rattle.bit_writer.specs.Packed.{binary}
@@ -58,9 +58,9 @@ orientations_reads (suc n) cs xs c x os d y e acc =
 abbrev head : ℕ → ℕ → ℕ → Float → ℕ → KindHead
 head q f p a n = record { quantity = q; fill = f; priority = p; area = a; orientations = n }
 
-fields_read : (q f r n q₀ n₀ a₀ : ℕ) (a : Float) → judge_count 1 4095 q₀ ≡ Rattle.bits.specs.declared.Counted.TheVariants.Count q → f < 2 → r < 4294967296 →
-    judge_number area_range.least area_range.most a₀ ≡ Rattle.bits.specs.declared.Measured.TheVariants.Value a → judge_count 1 16 n₀ ≡
-    Rattle.bits.specs.declared.Counted.TheVariants.Count n → Reads kind_head (head_bits (head q f r a n)) (head q f r a n)
+fields_read : (q f r n q₀ n₀ a₀ : ℕ) (a : Float) → judge_count 1 4095 q₀ ≡ Ok q → f < 2 → r < 4294967296 →
+    judge_number area_range.least area_range.most a₀ ≡ Ok a → judge_count 1 16 n₀ ≡
+    Ok n → Reads kind_head (head_bits (head q f r a n)) (head q f r a n)
 unfolding kind_head head_bits
 fields_read q f r n q₀ n₀ a₀ a e h i j k =
     reads_then (count quantity_field) (λ q. bits 1 >>= (λ f. bits 32 >>= (λ r. number area_range

@@ -1,16 +1,12 @@
 -- Document 02, W9, "the job it was given": a job as tables, judged field by field in the reader's order. rows and areas have four numbers and one for each
 -- kind (head_at); counts has for each set, in the job's order, its loops, then each loop's points; coordinates the x and y of all points, in the job's order.
 -- What a table lacks is 0, or no number. Definitions only. Assumes nothing.
-use Rattle.std.specs.Prelude.{ℕ, zero, suc, ◌+◌, ◌^◌, Bool, ◌&&◌, cond, List, [], ◌∷◌, ◌++◌, get_or, leb, ltb, eqb, Float}
+use Rattle.std.specs.Prelude.{Result, Ok, Err, ℕ, zero, suc, ◌+◌, ◌^◌, Bool, ◌&&◌, cond, List, [], ◌∷◌, ◌++◌, get_or, leb, ltb, eqb, Float}
 use Rattle.std.specs.Float.{nan, binary64}
 use Rattle.std.specs.Float.Ieee.{lt, to_bits}
 use Rattle.numbers.specs.Numbers.{◌⊘◌, from_int}
 use Rattle.bits.specs.declared.Refusal.{Refusal}
 use Rattle.bits.specs.declared.Refusal.TheVariants.{UnknownVersion, CountOutOfRange, TooManyCopies, TooManyColumns}
-use Rattle.bits.specs.declared.Counted.{Counted}
-use Rattle.bits.specs.declared.Counted.TheVariants.{Count, NoCount}
-use Rattle.bits.specs.declared.Measured.{Measured}
-use Rattle.bits.specs.declared.Measured.TheVariants.{Value, NoValue}
 use Rattle.bits.specs.Fields.{Field, kinds_field, quantity_field, orientations_field, loops_field, judge_count, judge_points}
 use Rattle.bits.specs.Fields.{Range, coordinate_range, area_range, resolution_range, judge_number}
 use Rattle.job.specs.declared.Header.{Header}
@@ -45,13 +41,13 @@ give a cs xs c x = ok a c x
 
 -- ---- numbers
 
-abbrev pub counted : Counted → ℕ → ℕ → Taken ℕ
-counted (Count n) c x = ok n c x
-counted (NoCount k) c x = bad k
+abbrev pub counted : Result ℕ Refusal → ℕ → ℕ → Taken ℕ
+counted (Ok n) c x = ok n c x
+counted (Err k) c x = bad k
 
-abbrev pub measured : Measured → ℕ → ℕ → Taken Float
-measured (Value v) c x = ok v c x
-measured (NoValue k) c x = bad k
+abbrev pub measured : Result Float Refusal → ℕ → ℕ → Taken Float
+measured (Ok v) c x = ok v c x
+measured (Err k) c x = bad k
 
 -- a count that is given
 abbrev pub count : Field → ℕ → Taker ℕ

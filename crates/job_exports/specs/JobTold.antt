@@ -1,26 +1,23 @@
 -- What C is told of a job's tables, and of a job that is written (document 02, W9). Definitions only. Assumes nothing.
-use Rattle.std.specs.Prelude.{ℕ, List, [], ◌∷◌, get_or, set, Float}
+use Rattle.std.specs.Prelude.{Result, Ok, Err, ℕ, List, [], ◌∷◌, get_or, set, Float}
+use Rattle.std.specs.Result.{result_unwrap_or}
 use Rattle.std.proofs.lemmas.List.Edits.{sets}
 use Rattle.job.specs.declared.Header.{Header}
-use Rattle.read_tables.specs.declared.Reply as Read
-use Rattle.read_tables.specs.declared.Reply.TheVariants as read
+use Rattle.job_bits.specs.declared.JobError.{JobError}
+use Rattle.job_bits.specs.Replies.{reply_number}
 use Rattle.read_tables.specs.Tabled as tabling
-use Rattle.write_job.specs.declared.Reply as Write
-use Rattle.write_job.specs.declared.Reply.TheVariants as write
 use Rattle.write_job.specs.Written as writing
 
 -- ---- tables
 
 -- the header's numbers, how many counts and how many coordinates there are, as far as the room goes; nothing of a refusal
-abbrev pub told_header : Read.Reply → List ℕ → List ℕ
-told_header (read.Tables h c x) room = sets room 0 (h.version ∷ h.corner ∷ h.axis ∷ h.kinds ∷ h.rounds ∷ h.seed ∷ c ∷ x ∷ [])
-told_header (read.Refused k) room = room
-told_header read.ShortRoom room = room
+abbrev pub told_header : tabling.Reply → List ℕ → List ℕ
+told_header (Ok (h, c, x)) room = sets room 0 (h.version ∷ h.corner ∷ h.axis ∷ h.kinds ∷ h.rounds ∷ h.seed ∷ c ∷ x ∷ [])
+told_header (Err e) room = room
 
-abbrev pub told_resolution : Read.Reply → List Float → List Float
-told_resolution (read.Tables h c x) room = set room 0 h.resolution
-told_resolution (read.Refused k) room = room
-told_resolution read.ShortRoom room = room
+abbrev pub told_resolution : tabling.Reply → List Float → List Float
+told_resolution (Ok (h, c, x)) room = set room 0 h.resolution
+told_resolution (Err e) room = room
 
 pub record ToldTables : Type 0 where
   pub number : ℕ
@@ -35,7 +32,7 @@ pub record ToldTables : Type 0 where
 unfoldable pub told_tables : List ℕ → List Float → tabling.Laid → ToldTables
 told_tables header resolution t =
     record {
-      number = tabling.reply_number t.reply;
+      number = reply_number t.reply;
       header = told_header t.reply header;
       resolution = told_resolution t.reply resolution;
       rows = t.rows;
@@ -59,10 +56,9 @@ header_of ns r =
       resolution = r;
     }
 
-abbrev pub bytes_written : Write.Reply → ℕ
-bytes_written (write.Written n) = n
-bytes_written (write.Refused k) = 0
-bytes_written write.ShortRoom = 0
+-- how many bytes were written
+abbrev pub bytes_written : Result ℕ JobError → ℕ
+bytes_written r = result_unwrap_or r 0
 
 pub record ToldJob : Type 0 where
   pub number : ℕ
@@ -71,4 +67,4 @@ pub record ToldJob : Type 0 where
 
 -- a number, the room after, and how many bytes were written in the first place of another room
 unfoldable pub told_job : List ℕ → writing.Left → ToldJob
-told_job length l = record { number = writing.reply_number l.reply; out = l.out; length = set length 0 (bytes_written l.reply) }
+told_job length l = record { number = reply_number l.reply; out = l.out; length = set length 0 (bytes_written l.reply) }

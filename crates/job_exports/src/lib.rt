@@ -1,5 +1,5 @@
 // What C and Rust may link (by job_exports_c, include/panel.h) to edit jobs, under plain names: a
-// job's bytes to its tables, and back (document 02, W9).
+// job's bytes to its tables, and back (document 02, W9). Names, arguments and numbers are those of include/panel.h.
 #![tactic(auto)]
 
 ghost use Rattle.std.specs.Prelude.{◌≡◌, [], ◌∷◌, set};
@@ -9,49 +9,43 @@ ghost use Rattle.job.specs.Jobs.{read_job};
 ghost use Rattle.job_bits.specs.Given.{given_job};
 ghost use Rattle.write_job.specs.Written.{written};
 ghost use Rattle.read_tables.specs.Tabled.{tabled};
-ghost use Rattle.job_exports.specs.JobTold.{header_of, bytes_written, told_header, told_resolution, told_tables, told_job};
+ghost use Rattle.job_exports.specs.JobTold.{header_of, told_header, told_resolution, told_tables, told_job};
 
 use job::Header;
-use read_tables::stores;
+use job_bits::JobError;
+use set_writer::value_at;
 
-// The header's numbers, how many counts and how many coordinates there are, as far as the room goes.
+// The header's numbers, how many counts and how many coordinates there are, as far as the room goes: one store to a
+// place, as a lent room may end after any of them.
 fn store_header(room: &mut [u64], h: Header, counts: u64, coordinates: u64)
     ensures { room.new ≡ sets room.old 0
         (h.version ∷ h.corner ∷ h.axis ∷ h.kinds ∷ h.rounds ∷ h.seed ∷ counts ∷ coordinates ∷ []) }
 {
-    stores::store_number(room, 0, h.version);
-    stores::store_number(room, 1, h.corner);
-    stores::store_number(room, 2, h.axis);
-    stores::store_number(room, 3, h.kinds);
-    stores::store_number(room, 4, h.rounds);
-    stores::store_number(room, 5, h.seed);
-    stores::store_number(room, 6, counts);
-    stores::store_number(room, 7, coordinates);
+    bit_writer::store(room, 0, h.version);
+    bit_writer::store(room, 1, h.corner);
+    bit_writer::store(room, 2, h.axis);
+    bit_writer::store(room, 3, h.kinds);
+    bit_writer::store(room, 4, h.rounds);
+    bit_writer::store(room, 5, h.seed);
+    bit_writer::store(room, 6, counts);
+    bit_writer::store(room, 7, coordinates);
 }
 
 // The numbers of tables that were read; none of a refusal.
-fn tell_header(room: &mut [u64], r: read_tables::Reply)
+fn tell_header(room: &mut [u64], r: Result<(Header, usize, usize), JobError>)
     ensures { room.new ≡ told_header r room.old }
 {
-    match r {
-        read_tables::Reply::Tables(h, c, x) => {
-            store_header(room, h, c as u64, x as u64);
-        }
-        read_tables::Reply::Refused(_) => {}
-        read_tables::Reply::ShortRoom => {}
+    if let Ok((h, counts, coordinates)) = r {
+        store_header(room, h, counts as u64, coordinates as u64);
     }
 }
 
 // Their resolution, in the first place, where there is one.
-fn tell_resolution(room: &mut [f64], r: read_tables::Reply)
+fn tell_resolution(room: &mut [f64], r: Result<(Header, usize, usize), JobError>)
     ensures { room.new ≡ told_resolution r room.old }
 {
-    match r {
-        read_tables::Reply::Tables(h, _, _) => {
-            stores::store_double(room, 0, h.resolution);
-        }
-        read_tables::Reply::Refused(_) => {}
-        read_tables::Reply::ShortRoom => {}
+    if let Ok((h, _, _)) = r {
+        bit_writer::store(room, 0, h.resolution);
     }
 }
 
@@ -82,38 +76,21 @@ pub extern "C" fn panel_tables(
     let r = read_tables::read_tables(bytes, rows, areas, counts, coordinates);
     tell_header(header, r);
     tell_resolution(resolution, r);
-    read_tables::reply_number(r)
+    job_bits::reply_number(r)
 }
 
 // The header of six numbers and a resolution; a number that is missing is 0.
 fn header_of(numbers: &[u64], resolution: f64) -> Header
     ensures { result ≡ header_of numbers.now resolution }
 {
-    let version = set_writer::count_at(numbers, 0);
-    let corner = set_writer::count_at(numbers, 1);
-    let axis = set_writer::count_at(numbers, 2);
-    let kinds = set_writer::count_at(numbers, 3);
-    let rounds = set_writer::count_at(numbers, 4);
-    let seed = set_writer::count_at(numbers, 5);
     Header {
-        version,
-        corner,
-        axis,
-        kinds,
-        rounds,
-        seed,
+        version: value_at(numbers, 0, 0),
+        corner: value_at(numbers, 1, 0),
+        axis: value_at(numbers, 2, 0),
+        kinds: value_at(numbers, 3, 0),
+        rounds: value_at(numbers, 4, 0),
+        seed: value_at(numbers, 5, 0),
         resolution,
-    }
-}
-
-// How many bytes were written.
-fn bytes_written(r: write_job::Reply) -> u64
-    ensures { result ≡ bytes_written r }
-{
-    match r {
-        write_job::Reply::Written(n) => n as u64,
-        write_job::Reply::Refused(_) => 0,
-        write_job::Reply::ShortRoom => 0,
     }
 }
 
@@ -142,6 +119,6 @@ pub extern "C" fn panel_write(
         coordinates,
         out,
     );
-    stores::store_number(length, 0, bytes_written(r));
-    write_job::reply_number(r)
+    bit_writer::store(length, 0, r.unwrap_or(0) as u64);
+    job_bits::reply_number(r)
 }

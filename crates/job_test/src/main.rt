@@ -2,15 +2,15 @@
 // printed: ok, or no and the number of its refusal. The file stdout holds the oracle's answers.
 #![tactic(auto)]
 
-use job::Verdict;
-use replay::records::Part;
+use replay::records;
 
-fn print_verdict(v: Verdict) {
-    match v {
-        Verdict::Accepted(_, _) => {
+// Prints the answer to a job.
+fn answer(job: &[u8]) {
+    match job::judge(job) {
+        Ok(_) => {
             io::write_all(1, b"ok\n");
         }
-        Verdict::Refused(k) => {
+        Err(k) => {
             io::write_all(1, b"no ");
             io::print_decimal(1, bits::refusal_number(k));
             io::write_all(1, b"\n");
@@ -18,38 +18,14 @@ fn print_verdict(v: Verdict) {
     }
 }
 
-// Prints the answer to the job that the first n bytes are.
-fn answer(room: &[u8], n: usize) -> bool {
-    if room.len() < n {
-        return false;
-    }
-    print_verdict(job::judge(&room[..n]));
-    true
-}
-
-// Whether there was one more record; the answer to its job is printed.
-fn replay(room: &mut [u8]) -> bool {
-    let Part::Bytes(_) = replay::records::read_label(room) else {
-        return false;
-    };
-    let Part::Bytes(n) = replay::records::read_job(room) else {
-        return false;
-    };
-    answer(room, n)
-}
-
-fn replay_all(room: &mut [u8]) {
-    let mut turns: usize = 0;
-    while turns < 1000000 {
-        if replay(room) {
-            turns += 1;
-        } else {
-            return;
-        }
-    }
+// One more record, if there is one; the answer to its job is printed.
+fn replay(room: &mut [u8]) -> Option<()> {
+    records::read_label(room)?;
+    answer(records::read_job(room)?);
+    Some(())
 }
 
 fn main() {
     let mut room = [0u8; 131072];
-    replay_all(&mut room);
+    records::replay_all(|| replay(&mut room));
 }

@@ -1,4 +1,5 @@
 -- A layout of an accepted job: its tables where it is prepared, its refusal where it is not; reply and rooms together. Assumes nothing.
+use Rattle.std.specs.Prelude.{Ok, Err}
 use Prim.Native.Nat.{ℕ, ◌*◌, ◌≤◌}
 use mathlib.Core.Path.{◌≡◌, refl, sym, ap, ap₂, subst, ◌∙◌}
 use mathlib.Core.List.{List, []}
@@ -10,7 +11,6 @@ use Rattle.index.specs.Buckets.{standing_capacity}
 use Rattle.job.specs.declared.Header.{Header}
 use Rattle.job.specs.Jobs.{Job, read_job}
 use Rattle.filling.specs.declared.Refusal.{Refusal}
-use Rattle.filling.specs.declared.Verdict.TheVariants.{Accepted, Refused}
 use Rattle.filling.specs.Shapes.{planner_of}
 use Rattle.filling.specs.Rooms.{Rooms, rooms_of, zeros}
 use Rattle.filling.specs.Start.{prepare_verdict}
@@ -33,11 +33,11 @@ use Rattle.judge_layout.specs.inner.Zero.{rooms_alone, ZeroRooms}
 -- ---- by what is prepared
 
 module _ (j : Job) (ls : List PutLine) (w : Rooms) where
-  lines_judged : prepare_verdict (planner_of j) w ≡ Accepted → layout_from j (planner_of j) w [] [] ls ≡ layout_job j ls w
+  lines_judged : prepare_verdict (planner_of j) w ≡ (Ok tt) → layout_from j (planner_of j) w [] [] ls ≡ layout_job j ls w
   unfolding layout_job
   lines_judged e = rw (e, layout_job)
 
-  none-judged : (k : Refusal) → prepare_verdict (planner_of j) w ≡ Refused k → not_judged k ≡ layout_job j ls w
+  none-judged : (k : Refusal) → prepare_verdict (planner_of j) w ≡ Err k → not_judged k ≡ layout_job j ls w
   unfolding layout_job
   none-judged k e = rw (e, layout_job)
 
@@ -47,7 +47,7 @@ module _ {j : Job} {bytes : List ℕ} {at : ℕ} {h : Header} {rows : List ℕ} 
     (q : Answers.Prepared) (shapes sheet : List Float) (entries firsts : List ℕ)
     (E : PreparedIs q (planner_of j) (Rooms₀.given shapes₀ sheet₀ entries₀ firsts₀) shapes sheet entries firsts) where
   -- the lines are judged by the job's tables
-  pub tables-ready : q.verdict ≡ Accepted → (g : Grid) → g ≡ grid_of q.tables
+  pub tables-ready : q.verdict ≡ (Ok tt) → (g : Grid) → g ≡ grid_of q.tables
       → TablesOf j g h.kinds rows q.tables.inset_bounds q.tables.parts shapes (take (6 * q.tables.sheet_strips) sheet)
   tables-ready e g d =
       subst (λ (g : Grid). TablesOf j g h.kinds rows q.tables.inset_bounds q.tables.parts shapes (take (6 * q.tables.sheet_strips) sheet))
@@ -60,7 +60,7 @@ module _ {j : Job} {bytes : List ℕ} {at : ℕ} {h : Header} {rows : List ℕ} 
         number = R.number;
       })
 
-  pub shapes-ready : q.verdict ≡ Accepted → (g : Grid) → g ≡ grid_of q.tables → 6 * g.apart_strips ≤ length shapes
+  pub shapes-ready : q.verdict ≡ (Ok tt) → (g : Grid) → g ≡ grid_of q.tables → 6 * g.apart_strips ≤ length shapes
   shapes-ready e g d = subst (λ (g : Grid). 6 * g.apart_strips ≤ length shapes) (sym d) (ready-shapes R Z q shapes sheet entries firsts E e)
 
   pub room_is : standing_capacity w.placed w.placed_firsts ≡ standing_capacity placed₀ placed-firsts₀
@@ -70,10 +70,10 @@ module _ {j : Job} {bytes : List ℕ} {at : ℕ} {h : Header} {rows : List ℕ} 
   pub entries_are : length w.placed_entries ≡ length placed-entries₀
   entries_are = sym (ap length Z.placed_entries_zero ∙ length-zeros 0 w.placed_entries)
 
-  pub lines_are : q.verdict ≡ Accepted → (ls : List PutLine) (r : Judgement) → r ≡ layout_from j (planner_of j) w [] [] ls → r ≡ layout_job j ls w
+  pub lines_are : q.verdict ≡ (Ok tt) → (ls : List PutLine) (r : Judgement) → r ≡ layout_from j (planner_of j) w [] [] ls → r ≡ layout_job j ls w
   lines_are e ls r d = d ∙ lines_judged j ls w (same-verdict R Z q shapes sheet entries firsts E ∙ e)
 
-  pub refusal_is : (k : Refusal) → q.verdict ≡ Refused k → (ls : List PutLine) (r : Judgement) → r ≡ not_judged k → r ≡ layout_job j ls w
+  pub refusal_is : (k : Refusal) → q.verdict ≡ Err k → (ls : List PutLine) (r : Judgement) → r ≡ not_judged k → r ≡ layout_job j ls w
   refusal_is k e ls r d = d ∙ none-judged j ls w k (same-verdict R Z q shapes sheet entries firsts E ∙ e)
 
 -- ---- reply and rooms

@@ -10,9 +10,9 @@ ghost use Rattle.layouts.specs.Layouts.{lines_of, not_judged, layout_job, layout
 ghost use Rattle.judge_layout.specs.Judging.{judged};
 ghost use Rattle.judge_layout.specs.inner.Zero.{ZeroRooms};
 
-use filling::{Refusal, Verdict};
+use filling::Refusal;
 use index::{Bucket, Entry};
-use job::{Header, JobRead};
+use job::Header;
 use layouts::Judgement;
 
 // Refused before the first line.
@@ -20,7 +20,7 @@ fn not_judged(k: Refusal) -> Judgement
     ensures { result ≡ not_judged k }
 {
     Judgement {
-        verdict: Verdict::Refused(k),
+        verdict: Err(k),
         line: 0,
     }
 }
@@ -62,7 +62,7 @@ fn layout_job(
     );
     let verdict = p.verdict;
     match verdict {
-        Verdict::Accepted => {
+        Ok(()) => {
             let g = choose::grid_of(p.tables);
             let f = job::frame_of(h);
             let inset_bounds = p.tables.inset_bounds;
@@ -84,7 +84,7 @@ fn layout_job(
                 placed_entries.len(),
             )
         }
-        Verdict::Refused(k) => not_judged(k),
+        Err(k) => not_judged(k),
     }
 }
 
@@ -111,7 +111,7 @@ fn judge_bytes(
     let places = j.places;
     let answer = j.answer;
     match answer {
-        JobRead::Good(h, at, _) => layout_job(
+        Ok((h, at, _)) => layout_job(
             bytes,
             at,
             h,
@@ -126,7 +126,7 @@ fn judge_bytes(
             sheet_firsts,
             placed_firsts,
         ),
-        JobRead::NoJob(k) => not_judged(Refusal::Job(k)),
+        Err(k) => not_judged(Refusal::Job(k)),
     }
 }
 

@@ -1,4 +1,5 @@
 -- The lines one after another: what is kept between them, and the definition's answer. Assumes nothing.
+use Rattle.std.specs.Prelude.{Result, Ok, Err}
 use Prim.Native.Nat.{ℕ, suc, ◌+◌, ◌-◌, ◌*◌, ◌/◌, ◌≤◌, ◌<◌}
 use native.Mathlib.Omega.{arith}
 use mathlib.Core.Path.{◌≡◌, refl, sym, ap, ap₂, subst, ◌∙◌}
@@ -16,8 +17,6 @@ use Rattle.index.specs.Buckets.{up_from, standing_capacity}
 use Rattle.frames.specs.declared.Point.{Point}
 use Rattle.job.specs.Jobs.{Job, frame_of}
 use Rattle.filling.specs.declared.Refusal.{Refusal}
-use Rattle.filling.specs.declared.Verdict.{Verdict}
-use Rattle.filling.specs.declared.Verdict.TheVariants.{Accepted, Refused}
 use Rattle.filling.specs.Shapes.{planner_of, shape_of, moved_strips}
 use Rattle.filling.specs.Rooms.{Rooms}
 use Rattle.filling.specs.Order.{count_in}
@@ -31,8 +30,6 @@ use Rattle.choose.specs.inner.Choosing.{part_at, apart_part}
 use Rattle.layouts.specs.declared.PutLine.{PutLine}
 use Rattle.layouts.specs.Layouts.{line_at, lines_of, place_of, line_strips, line_verdict, layout_from}
 use Rattle.judge_lines.specs.declared.Standing.{Standing}
-use Rattle.judge_lines.specs.declared.Line.{Line}
-use Rattle.judge_lines.specs.declared.Line.TheVariants.{Stands, Bad}
 use Rattle.judge_lines.specs.inner.Judging.{fits_by, stored, stored_of, TablesOf, Kept, LineIs}
 use Rattle.judge_lines.proofs.Slots.{kinds_few, kind_in, apart_is}
 use Rattle.judge_lines.proofs.Verdicts.{fits_lacking}
@@ -73,7 +70,7 @@ module _ {j : Job} {g : Grid} {kinds : ℕ} {rows : List ℕ} {ib : List Float} 
     (room_is : standing_capacity w.placed w.placed_firsts ≡ room) (counts : List ℕ) (placed : List Float) (s : Standing)
     (kept : Kept j w ks st counts placed s)
     (kind orientation : ℕ) (at : Point) (kind_is : l.kind ≡ kind) (turn_is : l.orientation ≡ orientation) (at-is : place_of (frame_of j.header) l ≡ at) where
-  abbrev Fits : ℕ → List Float → Verdict
+  abbrev Fits : ℕ → List Float → Result (Unit {0}) Refusal
   Fits n standing = fits_by j n standing kind orientation at
 
   counts_same : Fits (get_or counts kind 0) (take (6 * s.strips) placed) ≡ Fits (count_in kind ks) st
@@ -85,7 +82,7 @@ module _ {j : Job} {g : Grid} {kinds : ℕ} {rows : List ℕ} {ib : List Float} 
   ]
 
   -- the code's tests are those of the line
-  pub fits-same : (r : Verdict) → r ≡ Fits (get_or counts kind 0) (take (6 * s.strips) placed)
+  pub fits-same : (r : Result (Unit {0}) Refusal) → r ≡ Fits (get_or counts kind 0) (take (6 * s.strips) placed)
       → r ≡ fits_by j (count_in l.kind ks) st l.kind l.orientation (place_of (frame_of j.header) l)
   fits-same r e =
       e ∙ (counts_same ∙ (ap₂ (λ (k o : ℕ). fits_by j (count_in k ks) st k o at) (sym kind_is) (sym turn_is)
@@ -103,10 +100,10 @@ module _ {j : Job} {g : Grid} {kinds : ℕ} {rows : List ℕ} {ib : List Float} 
         ∙ ap (λ (q : Point). st ++ moved_strips (shape_of (planner_of j) l.kind l.orientation).apart q.x q.y) (sym at-is))
 
     module _ (counts' : List ℕ) (more : (k : ℕ) → k < 64 → get_or counts' k 0 ≡ count_in k (ks ++ (kind ∷ []))) (placed' : List Float) where
-      stands_so : (r : Line) (now : List Float) → now ≡ st ++ line_strips (planner_of j) (frame_of j.header) l → (v : Verdict)
+      stands_so : (r : Result Standing Refusal) (now : List Float) → now ≡ st ++ line_strips (planner_of j) (frame_of j.header) l → (v : Result (Unit {0}) Refusal)
           → v ≡ store_verdict (planner_of j) w (st ++ line_strips (planner_of j) (frame_of j.header) l)
           → StoredAs j w now r placed' → LineIs j w ks st l v counts' placed' r
-      stands_so (Stands z) now e v d q = (
+      stands_so (Ok z) now e v d q = (
         d ∙ (ap (store_verdict (planner_of j) w) (sym e) ∙ q.0),
         record {
           counted = λ k h. more k h ∙ ap (λ (n : ℕ). count_in k (ks ++ (n ∷ []))) (sym kind_is);
@@ -114,19 +111,19 @@ module _ {j : Job} {g : Grid} {kinds : ℕ} {rows : List ℕ} {ib : List Float} 
           entries = q.2 ∙ ap (λ (a : List Float). z.entries + length (entries_for (planner_of j).bounds a)) e;
         },
       )
-      stands_so (Bad r) now e v d q = d ∙ (ap (store_verdict (planner_of j) w) (sym e) ∙ q)
+      stands_so (Err r) now e v d q = d ∙ (ap (store_verdict (planner_of j) w) (sym e) ∙ q)
 
       -- what `store_line` answers is the line's
-      pub line-stored : (r : Line) → stored r placed' ≡ stored_of g.index Apart at room s placed → (v : Verdict)
+      pub line-stored : (r : Result Standing Refusal) → stored r placed' ≡ stored_of g.index Apart at room s placed → (v : Result (Unit {0}) Refusal)
           → v ≡ store_verdict (planner_of j) w (st ++ line_strips (planner_of j) (frame_of j.header) l) → LineIs j w ks st l v counts' placed' r
       line-stored r e v d =
           stands_so r _ strips_are v d
           (stored_is j w Apart at s placed st room kept.stands room_is kept.entries long upto g.index t.prepared.index r placed' e)
 
 -- another name of the verdict
-pub line_as : (j : Job) (w : Rooms) (ks : List ℕ) (st : List Float) (l : PutLine) (counts : List ℕ) (placed : List Float) (r : Line) (u v : Verdict) → u ≡ v
+pub line_as : (j : Job) (w : Rooms) (ks : List ℕ) (st : List Float) (l : PutLine) (counts : List ℕ) (placed : List Float) (r : Result Standing Refusal) (u v : Result (Unit {0}) Refusal) → u ≡ v
     → LineIs j w ks st l v counts placed r → LineIs j w ks st l u counts placed r
-line_as j w ks st l counts placed r u v e q = subst (λ (z : Verdict). LineIs j w ks st l z counts placed r) (sym e) q
+line_as j w ks st l counts placed r u v e q = subst (λ (z : Result (Unit {0}) Refusal). LineIs j w ks st l z counts placed r) (sym e) q
 
 -- ---- between the lines
 
@@ -172,13 +169,13 @@ module _ (j : Job) (w : Rooms) (given : List ℕ) where
         let f : i + 1 ≡ suc i = omega arith in
         rw (e, up_from) (ap (λ (n : ℕ). line_at given i ∷ map (line_at given) (up_from (length given / 4 - (i + 1)) n)) (sym f))
 
-    from-accepted : (l : PutLine) (ls : List PutLine) → line_verdict j P w g.ks g.st l ≡ Accepted
+    from-accepted : (l : PutLine) (ls : List PutLine) → line_verdict j P w g.ks g.st l ≡ (Ok tt)
         → layout_from j P w g.ks g.st (l ∷ ls) ≡ layout_from j P w (g.ks ++ (l.kind ∷ [])) (g.st ++ line_strips P (frame_of j.header) l) ls
     unfolding layout_from
     from-accepted l ls e = rw (e, layout_from)
 
-    from-refused : (l : PutLine) (ls : List PutLine) (r : Refusal) → line_verdict j P w g.ks g.st l ≡ Refused r
-        → layout_from j P w g.ks g.st (l ∷ ls) ≡ record { verdict = Refused r; line = length g.ks }
+    from-refused : (l : PutLine) (ls : List PutLine) (r : Refusal) → line_verdict j P w g.ks g.st l ≡ Err r
+        → layout_from j P w g.ks g.st (l ∷ ls) ≡ record { verdict = Err r; line = length g.ks }
     unfolding layout_from
     from-refused l ls r e = rw (e, layout_from)
 
@@ -186,10 +183,10 @@ module _ (j : Job) (w : Rooms) (given : List ℕ) where
       abbrev L : PutLine
       L = line_at given i
 
-      abbrev Is : PutLine → Line → Type 0
+      abbrev Is : PutLine → Result Standing Refusal → Type 0
       Is l r = LineIs j w g.ks g.st l (line_verdict j P w g.ks g.st l) counts' placed' r
 
-      going_next : (t : Standing) → Is L (Stands t) → Going j w given counts' placed' t (i + 1)
+      going_next : (t : Standing) → Is L (Ok t) → Going j w given counts' placed' t (i + 1)
       going_next t q =
           record {
             ks = g.ks ++ (L.kind ∷ []);
@@ -199,22 +196,22 @@ module _ (j : Job) (w : Rooms) (given : List ℕ) where
             same = g.same ∙ (ap (layout_from j P w g.ks g.st) (next_is h) ∙ from-accepted L (lines_from given (i + 1)) q.0);
           }
 
-      going-bad : (r : Refusal) → Is L (Bad r) → record { verdict = Refused r; line = i } ≡ layout_from j P w [] [] (lines_of given)
+      going-bad : (r : Refusal) → Is L (Err r) → record { verdict = Err r; line = i } ≡ layout_from j P w [] [] (lines_of given)
       going-bad r q =
           sym (g.same ∙ (ap (layout_from j P w g.ks g.st) (next_is h) ∙ (from-refused L (lines_from given (i + 1)) r q
-          ∙ ap (λ (n : ℕ). record { verdict = Refused r; line = n }) g.so_far)))
+          ∙ ap (λ (n : ℕ). record { verdict = Err r; line = n }) g.so_far)))
 
       -- with the line and the answer as the code has them
-      module _ (l : PutLine) (e : l ≡ line_at given i) (a : Line) (q : Is l a) where
-        pub going_on : (t : Standing) → a ≡ Stands t → Going j w given counts' placed' t (i + 1)
-        going_on t d = going_next t (subst (λ (z : Line). Is L z) d (subst (λ (z : PutLine). Is z a) e q))
+      module _ (l : PutLine) (e : l ≡ line_at given i) (a : Result Standing Refusal) (q : Is l a) where
+        pub going_on : (t : Standing) → a ≡ Ok t → Going j w given counts' placed' t (i + 1)
+        going_on t d = going_next t (subst (λ (z : Result Standing Refusal). Is L z) d (subst (λ (z : PutLine). Is z a) e q))
 
-        pub going-ends : (r : Refusal) → a ≡ Bad r → record { verdict = Refused r; line = i } ≡ layout_from j P w [] [] (lines_of given)
-        going-ends r d = going-bad r (subst (λ (z : Line). Is L z) d (subst (λ (z : PutLine). Is z a) e q))
+        pub going-ends : (r : Refusal) → a ≡ Err r → record { verdict = Err r; line = i } ≡ layout_from j P w [] [] (lines_of given)
+        going-ends r d = going-bad r (subst (λ (z : Result Standing Refusal). Is L z) d (subst (λ (z : PutLine). Is z a) e q))
 
-    pub going-last : length given / 4 ≤ i → record { verdict = Accepted; line = i } ≡ layout_from j P w [] [] (lines_of given)
+    pub going-last : length given / 4 ≤ i → record { verdict = Ok tt; line = i } ≡ layout_from j P w [] [] (lines_of given)
     unfolding layout_from up_from
     going-last h =
         let e : length given / 4 - i ≡ 0 = omega arith in
         sym (g.same ∙ (ap (λ (n : ℕ). layout_from j P w g.ks g.st (map (line_at given) (up_from n i))) e
-        ∙ ap (λ (n : ℕ). record { verdict = Accepted; line = n }) g.so_far))
+        ∙ ap (λ (n : ℕ). record { verdict = Ok tt; line = n }) g.so_far))

@@ -1,4 +1,6 @@
 -- Storing a line's strips by counts is what the definition says of strips and entries: 20, 21, or that they stand. Assumes nothing.
+use Rattle.std.specs.Prelude.{Option, Some, None, Result, Ok, Err}
+use Rattle.filling.specs.declared.Refusal.{Refusal}
 use Prim.Native.Nat.{ℕ, ◌+◌, ◌-◌, ◌*◌, ◌/◌, ◌≤◌, ◌<◌}
 use native.Mathlib.Omega.{arith}
 use mathlib.Core.Path.{◌≡◌, sym, ap, ap₂, subst, ◌∙◌}
@@ -17,21 +19,16 @@ use Rattle.index.specs.Buckets.{entries_of, standing_capacity}
 use Rattle.frames.specs.declared.Point.{Point}
 use Rattle.job.specs.Jobs.{Job}
 use Rattle.filling.specs.declared.Refusal.TheVariants as Why
-use Rattle.filling.specs.declared.Verdict.TheVariants.{Accepted, Refused}
 use Rattle.filling.specs.Shapes.{Planner, planner_of, moved_strips}
 use Rattle.filling.specs.Rooms.{Rooms}
 use Rattle.filling.specs.Consistent.{sheet_index, entries_for}
 use Rattle.filling.specs.NextCopy.{store_verdict}
 use Rattle.filling.proofs.Steps.{refuse_yes, refuse_no}
-use Rattle.store.specs.declared.Rest.{Rest}
-use Rattle.store.specs.declared.Rest.TheVariants.{Enough, Short}
 use Rattle.store.specs.inner.Storing.{moved_to, widths_to, rest_of, together}
 use Rattle.store.proofs.Strips.{after-strip, after-before, strips-count, strips-take, strips-same, prefix_strip}
 use Rattle.store.proofs.Widths.{entries-same, entries-sum}
 use Rattle.store.proofs.Whole.{rest-enough, rest_short}
 use Rattle.judge_lines.specs.declared.Standing.{Standing}
-use Rattle.judge_lines.specs.declared.Line.{Line}
-use Rattle.judge_lines.specs.declared.Line.TheVariants.{Stands, Bad}
 use Rattle.judge_lines.specs.inner.Judging.{Stored, stored, rest_stored, stored_of, Within}
 
 -- ---- the code's answer by its two tests
@@ -44,9 +41,9 @@ module _ (ix : Index) (apart : List Float) (q : Point) (room : ℕ) (s : Standin
   width = widths_to ix apart q.x (capacity apart)
 
   abbrev Done : Stored
-  Done = stored (Stands (record { strips = s.strips + k; entries = s.entries - width })) (moved_to apart q.x q.y s.strips placed k)
+  Done = stored (Ok (record { strips = s.strips + k; entries = s.entries - width })) (moved_to apart q.x q.y s.strips placed k)
 
-  stored_short : room - s.strips < k → stored_of ix apart q room s placed ≡ stored (Bad Why.StripRoom) placed
+  stored_short : room - s.strips < k → stored_of ix apart q room s placed ≡ stored (Err Why.StripRoom) placed
   unfolding stored_of
   stored_short h = rw (lt-ltb (room - s.strips) (capacity apart) h, stored_of)
 
@@ -54,17 +51,17 @@ module _ (ix : Index) (apart : List Float) (q : Point) (room : ℕ) (s : Standin
   unfolding stored_of
   stored-rest h = rw (le-ltb (room - s.strips) (capacity apart) h, stored_of)
 
-  stored_full : k ≤ room - s.strips → leb width s.entries ≡ false → stored_of ix apart q room s placed ≡ stored (Bad Why.EntryRoom) placed
+  stored_full : k ≤ room - s.strips → leb width s.entries ≡ false → stored_of ix apart q room s placed ≡ stored (Err Why.EntryRoom) placed
   unfolding rest_stored
-  stored_full h e = stored-rest h ∙ ap (λ (r : Rest). rest_stored r apart q s placed) (rest_short s.entries width e)
+  stored_full h e = stored-rest h ∙ ap (λ (r : Option ℕ). rest_stored r apart q s placed) (rest_short s.entries width e)
 
   stored-done : k ≤ room - s.strips → leb width s.entries ≡ true → stored_of ix apart q room s placed ≡ Done
   unfolding rest_stored
-  stored-done h e = stored-rest h ∙ ap (λ (r : Rest). rest_stored r apart q s placed) (rest-enough s.entries width e)
+  stored-done h e = stored-rest h ∙ ap (λ (r : Option ℕ). rest_stored r apart q s placed) (rest-enough s.entries width e)
 
   -- a property of the answer
-  pub stored_cases : (A : Stored → Type 0) → (room - s.strips < k → A (stored (Bad Why.StripRoom) placed))
-      → (k ≤ room - s.strips → s.entries < width → A (stored (Bad Why.EntryRoom) placed)) → (k ≤ room - s.strips → width ≤ s.entries → A Done)
+  pub stored_cases : (A : Stored → Type 0) → (room - s.strips < k → A (stored (Err Why.StripRoom) placed))
+      → (k ≤ room - s.strips → s.entries < width → A (stored (Err Why.EntryRoom) placed)) → (k ≤ room - s.strips → width ≤ s.entries → A Done)
       → A (stored_of ix apart q room s placed)
   stored_cases A a b c = elim (either (ltb (room - s.strips) (capacity apart))) [
     | inl e ↦ (let h = ltb-true (room - s.strips) (capacity apart) e in subst A (sym (stored_short h)) (a h))
@@ -86,33 +83,33 @@ module _ (ix : Index) (apart aparts : List Float) (e : aparts ≡ apart) (q : Po
   abbrev Of : List Float → Stored
   Of l = stored_of ix l q room s placed
 
-  abbrev rest : Rest
+  abbrev rest : Option ℕ
   rest = rest_of s.entries (widths_to ix aparts q.x (capacity aparts))
 
-  pub line_short : room - s.strips < k → stored (Bad Why.StripRoom) placed ≡ Of apart
+  pub line_short : room - s.strips < k → stored (Err Why.StripRoom) placed ≡ Of apart
   line_short h = sym (stored_short ix aparts q room s placed (subst (λ (n : ℕ). room - s.strips < n) d h)) ∙ ap Of e
 
-  pub line_full : k ≤ room - s.strips → (r : Rest) → r ≡ rest → r ≡ Short → stored (Bad Why.EntryRoom) placed ≡ Of apart
+  pub line_full : k ≤ room - s.strips → (r : Option ℕ) → r ≡ rest → r ≡ None → stored (Err Why.EntryRoom) placed ≡ Of apart
   unfolding rest_stored
   line_full h r a b =
       sym (stored-rest ix aparts q room s placed (subst (λ (n : ℕ). n ≤ room - s.strips) d h)
-      ∙ ap (λ (z : Rest). rest_stored z aparts q s placed) (sym a ∙ b)) ∙ ap Of e
+      ∙ ap (λ (z : Option ℕ). rest_stored z aparts q s placed) (sym a ∙ b)) ∙ ap Of e
 
-  pub line-done : k ≤ room - s.strips → (r : Rest) → r ≡ rest → (left : ℕ) → r ≡ Enough left → (placed' : List Float)
+  pub line-done : k ≤ room - s.strips → (r : Option ℕ) → r ≡ rest → (left : ℕ) → r ≡ Some left → (placed' : List Float)
       → placed' ≡ moved_to aparts q.x q.y s.strips placed (capacity aparts)
-      → stored (Stands (record { strips = s.strips + k; entries = left })) placed' ≡ Of apart
+      → stored (Ok (record { strips = s.strips + k; entries = left })) placed' ≡ Of apart
   unfolding rest_stored
   line-done h r a left b placed' f =
-      ap₂ (λ (n : ℕ) (z : List Float). stored (Stands (record { strips = s.strips + n; entries = left })) z) d f
+      ap₂ (λ (n : ℕ) (z : List Float). stored (Ok (record { strips = s.strips + n; entries = left })) z) d f
       ∙ (sym (stored-rest ix aparts q room s placed (subst (λ (n : ℕ). n ≤ room - s.strips) d h)
-      ∙ ap (λ (z : Rest). rest_stored z aparts q s placed) (sym a ∙ b)) ∙ ap Of e)
+      ∙ ap (λ (z : Option ℕ). rest_stored z aparts q s placed) (sym a ∙ b)) ∙ ap Of e)
 
 -- the strips stand, or the definition refuses them so
-abbrev pub StoredAs : Job → Rooms → List Float → Line → List Float → Type 0
-StoredAs j w now (Stands t) placed' =
-    (store_verdict (planner_of j) w now ≡ Accepted) × (take (6 * t.strips) placed' ≡ now)
+abbrev pub StoredAs : Job → Rooms → List Float → Result Standing Refusal → List Float → Type 0
+StoredAs j w now (Ok t) placed' =
+    (store_verdict (planner_of j) w now ≡ (Ok tt)) × (take (6 * t.strips) placed' ≡ now)
     × (length w.placed_entries ≡ t.entries + length (entries_for (planner_of j).bounds now))
-StoredAs j w now (Bad r) placed' = store_verdict (planner_of j) w now ≡ Refused r
+StoredAs j w now (Err r) placed' = store_verdict (planner_of j) w now ≡ Err r
 
 -- ---- the definition's verdict
 
@@ -145,7 +142,7 @@ module _ (j : Job) (w : Rooms) (apart : List Float) (q : Point) (s : Standing) (
   now_count : capacity Now ≡ n + m
   now_count = ap capacity (sym now_is) ∙ strips-count apart q.x q.y n placed (omega arith)
 
-  verdict_short : room - n < m → store_verdict P w Now ≡ Refused Why.StripRoom
+  verdict_short : room - n < m → store_verdict P w Now ≡ Err Why.StripRoom
   unfolding store_verdict
   verdict_short h =
       refuse_yes _ Why.StripRoom _
@@ -182,24 +179,24 @@ module _ (j : Job) (w : Rooms) (apart : List Float) (q : Point) (s : Standing) (
     roomy : standing_capacity w.placed w.placed_firsts ≡ room → capacity Now ≤ standing_capacity w.placed w.placed_firsts
     roomy e = let a = now_count in omega (arith, a, e, fits, upto)
 
-    verdict_full : s.entries < w₁ → store_verdict P w Now ≡ Refused Why.EntryRoom
+    verdict_full : s.entries < w₁ → store_verdict P w Now ≡ Err Why.EntryRoom
     unfolding store_verdict
     verdict_full h =
         refuse_no _ Why.StripRoom _ (le-ltb (standing_capacity w.placed w.placed_firsts) (capacity Now) (roomy room_is))
-        ∙ refuse_yes _ Why.EntryRoom Accepted
+        ∙ refuse_yes _ Why.EntryRoom (Ok tt)
         (lt-ltb (length w.placed_entries) (length (entries_for (planner_of j).bounds Now)) (let a = now_entries in omega (arith, a, h, entries)))
 
-    verdict-done : w₁ ≤ s.entries → store_verdict P w Now ≡ Accepted
+    verdict-done : w₁ ≤ s.entries → store_verdict P w Now ≡ (Ok tt)
     unfolding store_verdict
     verdict-done h =
         refuse_no _ Why.StripRoom _ (le-ltb (standing_capacity w.placed w.placed_firsts) (capacity Now) (roomy room_is))
-        ∙ refuse_no _ Why.EntryRoom Accepted
+        ∙ refuse_no _ Why.EntryRoom (Ok tt)
         (le-ltb (length w.placed_entries) (length (entries_for (planner_of j).bounds Now)) (let a = now_entries in omega (arith, a, h, entries)))
 
     entries-left : w₁ ≤ s.entries → length w.placed_entries ≡ s.entries - w₁ + length (entries_for (planner_of j).bounds Now)
     entries-left h = let a = now_entries in omega (arith, a, h, entries)
 
-  pub stored_is : (ix : Index) → ix ≡ Ix → (r : Line) (placed' : List Float) → stored r placed' ≡ stored_of ix apart q room s placed → StoredAs j w Now r placed'
+  pub stored_is : (ix : Index) → ix ≡ Ix → (r : Result Standing Refusal) (placed' : List Float) → stored r placed' ≡ stored_of ix apart q room s placed → StoredAs j w Now r placed'
   stored_is ix e r placed' d =
       subst (λ (z : Stored). StoredAs j w Now z.line z.placed) (sym (d ∙ ap (λ (i : Index). stored_of i apart q room s placed) e))
       (stored_cases Ix apart q room s placed (λ (z : Stored). StoredAs j w Now z.line z.placed) verdict_short (λ a b. verdict_full a b)

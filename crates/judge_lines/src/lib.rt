@@ -16,25 +16,16 @@ ghost use Rattle.layouts.specs.Layouts.{line_at, lines_of, place_of, place_verdi
 ghost use Rattle.judge_lines.specs.inner.Judging.{known_by, place_fits, fits_by, stored, stored_of, TablesOf, Within, Kept, LineIs};
 
 use choose::Grid;
-use filling::{Refusal, Verdict};
+use filling::Refusal;
 use frames::{Frame, Point};
 use layouts::{Judgement, PutLine};
-use numbers::Double;
 use search::columns::Columns;
-use store::Rest;
 
 // What the lines before leave: so many strips stand, and there is room for so many entries more.
 #[derive(Clone, Copy)]
 pub struct Standing {
     pub strips: usize,
     pub entries: usize,
-}
-
-// A line's strips stand, or why it is refused.
-#[derive(Clone, Copy)]
-pub enum Line {
-    Stands(Standing),
-    Bad(Refusal),
 }
 
 // Line i of the list: kind, orientation, and the bits of x and y.
@@ -54,19 +45,25 @@ fn line_at(given: &[u64], i: usize) -> PutLine
 }
 
 // 9 and 25: whether the job has the orientation of the kind, and one more copy of it.
-fn known(rows: &[u64], kinds: u64, counts: &[usize], kind: usize, orientation: usize) -> Verdict
+fn known(
+    rows: &[u64],
+    kinds: u64,
+    counts: &[usize],
+    kind: usize,
+    orientation: usize,
+) -> Result<(), Refusal>
     requires { ((j : Job) × (areas : List Float) × Tabled j rows.now areas × (length j.kinds ≡ kinds)) × (64 ≤ length counts.now) }
     ensures { (j : Job) (areas : List Float) → Tabled j rows.now areas → length j.kinds ≡ kinds
         → result ≡ known_by j (get_or counts.now kind 0) kind orientation }
 {
     if leaf::lacks(rows, kinds, kind, orientation) {
-        return Verdict::Refused(Refusal::MissingShape);
+        return Err(Refusal::MissingShape);
     }
     let quantity = rows[4 * kind] as usize;
     if quantity <= counts[kind] {
-        return Verdict::Refused(Refusal::TooManyOfKind);
+        return Err(Refusal::TooManyOfKind);
     }
-    Verdict::Accepted
+    Ok(())
 }
 
 // 26 and 27: whether a place is in the ranges of the slot, and clear of the sheet and of what stands.
@@ -79,7 +76,7 @@ fn place_fits(
     sheet: &[f64],
     standing: &[f64],
     at: Point,
-) -> Verdict
+) -> Result<(), Refusal>
     requires { (4 * slot + 4 ≤ length inset_bounds.now) × (4 * slot + 4 ≤ length parts.now) × (6 * g.apart_strips ≤ length shapes.now)
         × ((columns_of g.bounds (bounds_at inset_bounds.now slot) g.resolution).count ≤ 4000000000) }
     ensures { result ≡ place_fits (columns_of g.bounds (bounds_at inset_bounds.now slot) g.resolution)
@@ -90,7 +87,7 @@ fn place_fits(
     let b = choose::bounds_at(inset_bounds, slot);
     let k = Columns::new(g.bounds, b, g.resolution);
     if !placement::range::in_range(k, at.x, at.y) {
-        return Verdict::Refused(Refusal::OutsideRange);
+        return Err(Refusal::OutsideRange);
     }
     let p = choose::part_at(parts, slot);
     let end = 6 * g.apart_strips;
@@ -102,7 +99,7 @@ fn place_fits(
         p.inset_count,
     );
     if !placement::clear(insets, sheet, at.x, at.y) {
-        return Verdict::Refused(Refusal::InTheWay);
+        return Err(Refusal::InTheWay);
     }
     let aparts = trapezoid::strips_of(
         &shapes[..end],
@@ -112,9 +109,9 @@ fn place_fits(
         p.apart_count,
     );
     if !placement::clear(aparts, standing, at.x, at.y) {
-        return Verdict::Refused(Refusal::InTheWay);
+        return Err(Refusal::InTheWay);
     }
-    Verdict::Accepted
+    Ok(())
 }
 
 // 20 and 21: the slot's apart strips, moved, stand after those of the lines before; entries are only
@@ -128,7 +125,7 @@ fn store_line(
     room: usize,
     s: Standing,
     at: Point,
-) -> Line
+) -> Result<Standing, Refusal>
     requires { (4 * slot + 4 ≤ length parts.now) × (6 * g.apart_strips ≤ length shapes.now) × (6 * room ≤ length placed.old)
         × (s.strips ≤ room) }
     ensures { stored result placed.new ≡ stored_of g.index
@@ -145,14 +142,14 @@ fn store_line(
     );
     let k = trapezoid::capacity(aparts);
     if room - s.strips < k {
-        return Line::Bad(Refusal::StripRoom);
+        return Err(Refusal::StripRoom);
     }
-    let Rest::Enough(left) = store::entries_rest(g.index, aparts, at.x, s.entries) else {
-        return Line::Bad(Refusal::EntryRoom);
+    let Some(left) = store::entries_rest(g.index, aparts, at.x, s.entries) else {
+        return Err(Refusal::EntryRoom);
     };
     store::store_moved(aparts, at.x, at.y, placed, s.strips);
     let strips = s.strips + k;
-    Line::Stands(Standing {
+    Ok(Standing {
         strips: strips,
         entries: left,
     })
@@ -172,18 +169,18 @@ fn line_fits(
     kind: usize,
     orientation: usize,
     at: Point,
-) -> Verdict
+) -> Result<(), Refusal>
     requires { ((j : Job) × TablesOf j g kinds rows.now inset_bounds.now parts.now shapes.now sheet.now)
         × (64 ≤ length counts.now) × (6 * g.apart_strips ≤ length shapes.now) }
     ensures { (j : Job) → TablesOf j g kinds rows.now inset_bounds.now parts.now shapes.now
         sheet.now → result ≡ fits_by j (get_or counts.now kind 0) standing.now kind orientation at }
 {
     match known(rows, kinds, counts, kind, orientation) {
-        Verdict::Accepted => {
+        Ok(()) => {
             let slot = 16 * kind + orientation;
             place_fits(g, slot, inset_bounds, parts, shapes, sheet, standing, at)
         }
-        Verdict::Refused(r) => Verdict::Refused(r),
+        Err(r) => Err(r),
     }
 }
 
@@ -203,7 +200,7 @@ fn place_line(
     kind: usize,
     orientation: usize,
     at: Point,
-) -> Line
+) -> Result<Standing, Refusal>
     requires { ((j : Job) × TablesOf j g kinds rows.now inset_bounds.now parts.now shapes.now sheet.now)
         × (64 ≤ length counts.old) × (6 * g.apart_strips ≤ length shapes.now) × (6 * room ≤ length placed.old) × (s.strips ≤ room) }
     ensures { Within room result × ((j : Job) (w : Rooms) (ks : List ℕ) (st : List Float) (l : PutLine)
@@ -228,12 +225,12 @@ fn place_line(
         orientation,
         at,
     ) {
-        Verdict::Accepted => {
+        Ok(()) => {
             let slot = 16 * kind + orientation;
             counts[kind] = counts[kind] + 1;
             store_line(g, slot, parts, shapes, placed, room, s, at)
         }
-        Verdict::Refused(r) => Line::Bad(r),
+        Err(r) => Err(r),
     }
 }
 
@@ -252,7 +249,7 @@ fn judge_line(
     room: usize,
     s: Standing,
     l: PutLine,
-) -> Line
+) -> Result<Standing, Refusal>
     requires { ((j : Job) × TablesOf j g kinds rows.now inset_bounds.now parts.now shapes.now sheet.now)
         × (64 ≤ length counts.old) × (6 * g.apart_strips ≤ length shapes.now) × (6 * room ≤ length placed.old) × (s.strips ≤ room) }
     ensures { Within room result × ((j : Job) (w : Rooms) (ks : List ℕ) (st : List Float)
@@ -263,11 +260,11 @@ fn judge_line(
 {
     let dx = l.x;
     let dy = l.y;
-    let Double::Finite(x) = dx else {
-        return Line::Bad(Refusal::Job(bits::Refusal::NonFinite));
+    let Some(x) = dx else {
+        return Err(Refusal::Job(bits::Refusal::NonFinite));
     };
-    let Double::Finite(y) = dy else {
-        return Line::Bad(Refusal::Job(bits::Refusal::NonFinite));
+    let Some(y) = dy else {
+        return Err(Refusal::Job(bits::Refusal::NonFinite));
     };
     let at = f.to(x, y);
     let kind = l.kind as usize;
@@ -336,20 +333,20 @@ pub fn judge_lines(
             s,
             l,
         ) {
-            Line::Stands(t) => {
+            Ok(t) => {
                 s = t;
                 i += 1;
             }
-            Line::Bad(r) => {
+            Err(r) => {
                 return Judgement {
-                    verdict: Verdict::Refused(r),
+                    verdict: Err(r),
                     line: i,
                 };
             }
         }
     }
     Judgement {
-        verdict: Verdict::Accepted,
+        verdict: Ok(()),
         line: i,
     }
 }

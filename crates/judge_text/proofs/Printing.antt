@@ -1,4 +1,5 @@
 -- What the text of a judged layout leaves in its buffer, and how much of the input it needs. Assumes nothing.
+use Rattle.std.specs.Prelude.{Result, Ok, Err}
 use Prim.Native.Nat.{ℕ, suc, ◌-◌, ◌*◌, ◌/◌, ◌<◌, ◌≤◌}
 use native.Mathlib.Omega.{arith}
 use mathlib.Core.Path.{◌≡◌, sym, ap, ap₂, subst, ◌∙◌}
@@ -10,15 +11,13 @@ use lib.Seq.{length-take-le, take_all, take_at}
 use borrow.Author.Tests.{lt-ltb, le-ltb}
 use Rattle.numbers.proofs.Truth.{below_or_not}
 use Rattle.filling.specs.declared.Refusal.{Refusal}
-use Rattle.filling.specs.declared.Verdict.{Verdict}
-use Rattle.filling.specs.declared.Verdict.TheVariants.{Accepted, Refused}
 use Rattle.filling.specs.Refusals.{number_of}
 use Rattle.filling.specs.Rooms.{Rooms, rooms_of}
 use Rattle.plan_text.specs.Program.{longest_job, overlong_number, Buffered, text_in, strip_room, entry_room, first_room, program_rooms}
 use Rattle.layouts.specs.declared.Judgement.{Judgement}
 use Rattle.layouts.specs.Layouts.{Judged, layout_of}
-use Rattle.put_lines.specs.declared.ListRead.{ListRead}
-use Rattle.put_lines.specs.declared.ListRead.TheVariants.{Lines, Malformed, TooMany}
+use Rattle.put_lines.specs.declared.ListError.{ListError}
+use Rattle.put_lines.specs.declared.ListError.TheVariants.{Malformed, TooMany}
 use Rattle.put_lines.specs.PutLines.{PutList, put_list}
 use Rattle.put_lines.specs.inner.Storing.{list_in}
 use Rattle.put_lines.proofs.Listing.{Fitting, fitting}
@@ -52,11 +51,11 @@ job_overlong job given l = rw (lt-ltb longest_job (length job) l)
 
 -- ---- a verdict
 
-pub verdict-accepted : (v : Verdict) (n : ℕ) (out : List ℕ) (b : Buffered) → v ≡ Accepted → b ≡ text_in (accepted_line n) out → b ≡ text_in (verdict_line v n) out
+pub verdict-accepted : (v : Result (Unit {0}) Refusal) (n : ℕ) (out : List ℕ) (b : Buffered) → v ≡ (Ok tt) → b ≡ text_in (accepted_line n) out → b ≡ text_in (verdict_line v n) out
 unfolding verdict_line
 verdict-accepted v n out b e f = rw e f
 
-pub verdict-refused : (v : Verdict) (r : Refusal) (number n : ℕ) (out : List ℕ) (b : Buffered) → v ≡ Refused r → number ≡ number_of r
+pub verdict-refused : (v : Result (Unit {0}) Refusal) (r : Refusal) (number n : ℕ) (out : List ℕ) (b : Buffered) → v ≡ Err r → number ≡ number_of r
     → b ≡ text_in (no_line number n) out → b ≡ text_in (verdict_line v n) out
 unfolding verdict_line
 verdict-refused v r number n out b e g f = rw e (f ∙ ap (λ (k : ℕ). text_in (no_line k n) out) g)
@@ -85,7 +84,7 @@ module _ (bytes out : List ℕ) where
   text_list l = rw (le-ltb longest_input (length bytes) l)
 
   -- what the reader answers, of a room for 4,096 lines
-  module _ (room after : List ℕ) (r : ListRead) (i : room ≡ number_room) (e : record { found = r; numbers = after } ≡ list_in bytes room) where
+  module _ (room after : List ℕ) (r : Result (ℕ × ℕ) ListError) (i : room ≡ number_room) (e : record { found = r; numbers = after } ≡ list_in bytes room) where
     room_lines : length room / 4 ≡ most_lines
     unfolding number_room
     room_lines = let n : length room ≡ 16384 = ap length i ∙ length-replicate {A = ℕ} 16384 0 in omega arith
@@ -102,25 +101,25 @@ module _ (bytes out : List ℕ) where
       by_found : (t : List ℕ) → t ≡ found_line bytes (put_list most_lines bytes).numbers r → b ≡ text_in t out → b ≡ judge_answer bytes out
       unfolding list_line
       by_found t k f =
-          answer-long bytes out t b h (k ∙ (ap (λ (x : ListRead). found_line bytes (put_list most_lines bytes).numbers x) (sym found_is) ∙ text_list l)) f
+          answer-long bytes out t b h (k ∙ (ap (λ (x : Result (ℕ × ℕ) ListError). found_line bytes (put_list most_lines bytes).numbers x) (sym found_is) ∙ text_list l)) f
 
-      pub answer_malformed : (n : ℕ) → r ≡ Malformed n → b ≡ text_in (no_line malformed_number n) out → b ≡ judge_answer bytes out
+      pub answer_malformed : (n : ℕ) → r ≡ Err (Malformed n) → b ≡ text_in (no_line malformed_number n) out → b ≡ judge_answer bytes out
       unfolding found_line
-      answer_malformed n k f = by_found (no_line malformed_number n) (sym (ap (λ (x : ListRead). found_line bytes (put_list most_lines bytes).numbers x) k)) f
+      answer_malformed n k f = by_found (no_line malformed_number n) (sym (ap (λ (x : Result (ℕ × ℕ) ListError). found_line bytes (put_list most_lines bytes).numbers x) k)) f
 
-      pub answer_many : r ≡ TooMany → b ≡ text_in (no_line many_number most_lines) out → b ≡ judge_answer bytes out
+      pub answer_many : r ≡ Err TooMany → b ≡ text_in (no_line many_number most_lines) out → b ≡ judge_answer bytes out
       unfolding found_line
-      answer_many k f = by_found (no_line many_number most_lines) (sym (ap (λ (x : ListRead). found_line bytes (put_list most_lines bytes).numbers x) k)) f
+      answer_many k f = by_found (no_line many_number most_lines) (sym (ap (λ (x : Result (ℕ × ℕ) ListError). found_line bytes (put_list most_lines bytes).numbers x) k)) f
 
-      pub answer_lines : (n at : ℕ) (job given : List ℕ) → r ≡ Lines n at → job ≡ drop at bytes → given ≡ (put_list most_lines bytes).numbers
+      pub answer_lines : (n at : ℕ) (job given : List ℕ) → r ≡ Ok (n, at) → job ≡ drop at bytes → given ≡ (put_list most_lines bytes).numbers
           → b ≡ text_in (job_line job given) out → b ≡ judge_answer bytes out
       unfolding found_line
       answer_lines n at job given k p q f =
-          by_found (job_line job given) (ap₂ job_line p q ∙ sym (ap (λ (x : ListRead). found_line bytes (put_list most_lines bytes).numbers x) k)) f
+          by_found (job_line job given) (ap₂ job_line p q ∙ sym (ap (λ (x : Result (ℕ × ℕ) ListError). found_line bytes (put_list most_lines bytes).numbers x) k)) f
 
-    module _ (n at : ℕ) (k : r ≡ Lines n at) where
-      fits : Fitting bytes most_lines (Lines n at) (put_list most_lines bytes).numbers
-      fits = subst (λ (x : ListRead). Fitting bytes most_lines x (put_list most_lines bytes).numbers) (found_is ∙ k) (fitting bytes most_lines)
+    module _ (n at : ℕ) (k : r ≡ Ok (n, at)) where
+      fits : Fitting bytes most_lines (Ok (n, at)) (put_list most_lines bytes).numbers
+      fits = subst (λ (x : Result (ℕ × ℕ) ListError). Fitting bytes most_lines x (put_list most_lines bytes).numbers) (found_is ∙ k) (fitting bytes most_lines)
 
       pub lines_few : n ≤ most_lines
       unfolding Fitting

@@ -1,4 +1,5 @@
 -- What `plan` prints as `put` lines is read as their kinds, orientations and the bits of x and y. Assumes nothing.
+use Rattle.std.specs.Prelude.{Ok}
 use Prim.Native.Nat.{ℕ, zero, suc, ◌+◌, ◌*◌, ◌<◌, ◌≤◌}
 use native.Mathlib.Nat.{add-zero}
 use native.Mathlib.Omega.{arith}
@@ -14,16 +15,31 @@ use borrow.Author.Tests.{le-leb, eq-eqb}
 use Rattle.filling.specs.Accounts.{Position}
 use Rattle.nesting.specs.Text.{decimal, hex, line, put_word, put_line}
 use Rattle.lines.proofs.Digits.{hex-length}
-use Rattle.lines.proofs.Lines.{line-six}
 use Rattle.put_lines.specs.declared.Field.{Field}
 use Rattle.put_lines.specs.declared.Line.{Line}
-use Rattle.put_lines.specs.declared.ListRead.TheVariants.{Lines}
 use Rattle.put_lines.specs.PutLines.{byte_at, digit_of, digits_from, field_after, decimal_after, hex_after, line_from, line_numbers}
 use Rattle.put_lines.specs.PutLines.{begins, PutList, lines_from, put_list}
 use Rattle.put_lines.proofs.Numerals.{digits_none, digits_stop, digits_on}
 use Rattle.put_lines.proofs.Fields.{field_is, line_is}
 use Rattle.put_lines.proofs.Listing.{lines_end, lines_on}
 use Rattle.judge_text.proofs.Spelled.{value_of, Digital, most, hex_digital, hex_value, decimal_digital, decimal_value, decimal_short, decimal-some}
+
+-- ---- a line, field after field
+
+-- the fields, each after a blank, and then t
+unfoldable fields_then : List (List ℕ) → List ℕ → List ℕ
+fields_then [] t = t
+fields_then (f ∷ fs) t = (32 ∷ f) ++ fields_then fs t
+
+fields_then_lem : (fs : List (List ℕ)) (t : List ℕ) → fields_then fs t ≡ flat_map (λ f. 32 ∷ f) fs ++ t
+unfolding flat_map fields_then
+fields_then_lem [] t = refl
+fields_then_lem (f ∷ fs) t = ap (λ (l : List ℕ). (32 ∷ f) ++ l) (fields_then_lem fs t) ∙ sym (append_assoc (32 ∷ f) (flat_map (λ f. 32 ∷ f) fs) t)
+
+line-six : (word a b c d e f : List ℕ)
+    → word ++ ((32 ∷ a) ++ ((32 ∷ b) ++ ((32 ∷ c) ++ ((32 ∷ d) ++ ((32 ∷ e) ++ ((32 ∷ f) ++ (10 ∷ []))))))) ≡ line word (a ∷ b ∷ c ∷ d ∷ e ∷ f ∷ [])
+unfolding line fields_then
+line-six word a b c d e f = ap (λ (l : List ℕ). word ++ l) (fields_then_lem (a ∷ b ∷ c ∷ d ∷ e ∷ f ∷ []) (10 ∷ []))
 
 -- ---- digits and a byte that is none
 
@@ -321,13 +337,13 @@ Readables [] = ℕ
 Readables (p ∷ ps) = Readable p × Readables ps
 
 same_list : (n m p q : ℕ) (k l : List ℕ) → n ≡ m → p ≡ q → k ≡ l
-    → ◌≡◌ {A = PutList} (record { found = Lines n p; numbers = k }) (record { found = Lines m q; numbers = l })
+    → ◌≡◌ {A = PutList} (record { found = Ok (n, p); numbers = k }) (record { found = Ok (m, q); numbers = l })
 same_list n m p q k l e f g = rw (e, f, g)
 
 module _ (job : List ℕ) (none : begins job 0 ≡ false) where
   lines_read : (ps : List Position) (pre ns : List ℕ) (n m : ℕ) → Readables ps → length ps ≤ m
       → lines_from (pre ++ (flat_map put_line ps ++ job)) m (length pre) ns n
-      ≡ record { found = Lines (n + length ps) (length (pre ++ flat_map put_line ps)); numbers = ns ++ flat_map position_numbers ps }
+      ≡ record { found = Ok (n + length ps, length (pre ++ flat_map put_line ps)); numbers = ns ++ flat_map position_numbers ps }
   unfolding Readables flat_map
   lines_read [] pre ns n m r h =
       sym (lines_end (pre ++ job) m (length pre) ns n (begins_on pre job ∙ none))
@@ -362,7 +378,7 @@ module _ (job : List ℕ) (none : begins job 0 ≡ false) where
 
   -- what `plan` prints as `put` lines, and a job that begins with no such line: read as so many lines, with their numbers, and the job after them
   pub plan-read : (ps : List Position) (m : ℕ) → Readables ps → length ps ≤ m
-      → put_list m (flat_map put_line ps ++ job) ≡ record { found = Lines (length ps) (length (flat_map put_line ps)); numbers = flat_map position_numbers ps }
+      → put_list m (flat_map put_line ps ++ job) ≡ record { found = Ok (length ps, length (flat_map put_line ps)); numbers = flat_map position_numbers ps }
   unfolding put_list
   plan-read ps m r h =
       lines_read ps [] [] 0 m r h

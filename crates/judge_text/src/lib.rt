@@ -6,11 +6,10 @@ pub mod print_judgement;
 
 ghost use Rattle.std.specs.Prelude.{◌≤◌, ◌≡◌, length};
 ghost use Rattle.plan_text.specs.Program.{text_in};
-ghost use Rattle.judge_text.specs.Judging.{accepted_line, no_line, verdict_line, job_line, judge_answer};
+ghost use Rattle.judge_text.specs.Judging.{no_line, verdict_line, job_line, judge_answer};
 ghost use Rattle.judge_text.specs.inner.Room.{number_room};
 
-use filling::Verdict;
-use put_lines::ListRead;
+use put_lines::ListError;
 
 // 4,096 lines, four numbers to a line.
 const NUMBER_SLOTS: usize = 16384;
@@ -21,34 +20,22 @@ fn number_room() -> [u64; NUMBER_SLOTS]
     [0; NUMBER_SLOTS]
 }
 
-// `accepted` and the number of lines, zeros after it.
-fn accepted_line(out: &mut [u8], n: usize) -> usize
-    requires { 64 ≤ length out.old }
-    ensures { record { end = result; out = out.new } ≡ text_in (accepted_line n) out.old }
-{
-    let end = lines::count_line(out, 0, b"accepted", n);
-    plan_text::zero_from(out, end);
-    end
-}
-
 // `no`, the number and the line, zeros after it.
 fn no_line(out: &mut [u8], number: usize, n: usize) -> usize
     requires { 64 ≤ length out.old }
     ensures { record { end = result; out = out.new } ≡ text_in (no_line number n) out.old }
 {
-    let end = lines::pair_line(out, 0, b"no", number, n);
-    plan_text::zero_from(out, end);
-    end
+    program::line_text(out, b"no", &[number, n])
 }
 
 // The text of a verdict of line n, or of all n lines.
-fn verdict_line(out: &mut [u8], verdict: Verdict, n: usize) -> usize
+fn verdict_line(out: &mut [u8], verdict: Result<(), filling::Refusal>, n: usize) -> usize
     requires { 64 ≤ length out.old }
     ensures { record { end = result; out = out.new } ≡ text_in (verdict_line verdict n) out.old }
 {
     match verdict {
-        Verdict::Accepted => accepted_line(out, n),
-        Verdict::Refused(k) => {
+        Ok(()) => program::line_text(out, b"accepted", &[n]),
+        Err(k) => {
             let number = accounts::verdicts::refusal_number(k) as usize;
             no_line(out, number, n)
         }
@@ -81,9 +68,7 @@ fn job_line(bytes: &[u8], given: &[u64], out: &mut [u8]) -> usize
         &mut sheet_firsts,
         &mut placed_firsts,
     );
-    let verdict = r.verdict;
-    let n = r.line;
-    verdict_line(out, verdict, n)
+    verdict_line(out, r.verdict, r.line)
 }
 
 // The text for a list of `put` lines and a job right after it, in a buffer of at least 64 bytes: where
@@ -99,8 +84,8 @@ pub fn judge_text(bytes: &[u8], out: &mut [u8]) -> usize
     }
     let mut numbers = number_room();
     match put_lines::read(bytes, &mut numbers) {
-        ListRead::Lines(n, at) => job_line(&bytes[at..], &numbers[..4 * n], out),
-        ListRead::Malformed(n) => no_line(out, 15, n),
-        ListRead::TooMany => no_line(out, 7, 4096),
+        Ok((n, at)) => job_line(&bytes[at..], &numbers[..4 * n], out),
+        Err(ListError::Malformed(n)) => no_line(out, 15, n),
+        Err(ListError::TooMany) => no_line(out, 7, 4096),
     }
 }

@@ -10,20 +10,23 @@ ghost use Rattle.job_bits.specs.Given.{given_orientation, given_orientations, gi
 ghost use Rattle.set_writer.specs.inner.Walks.{Walks, Near, Ready};
 ghost use Rattle.kind_writer.specs.inner.WalksKinds.{WalksKinds, NearKinds};
 
-use bits::{Counted, Measured, Refusal};
+use bits::Refusal;
 use kinds::KindHead;
-use set_writer::{Walk, Walked};
+use set_writer::{Walk, value_at};
 
 // The two sets of an orientation.
-fn put_orientation(counts: &[u64], coordinates: &[f64], out: &mut [u8], w: Walk) -> Walked
+fn put_orientation(
+    counts: &[u64],
+    coordinates: &[f64],
+    out: &mut [u8],
+    w: Walk,
+) -> Result<Walk, Refusal>
     requires { Ready w 130 131072 8389902 }
     ensures { Walks (given_orientation counts.now coordinates.now w.counts w.coordinates) orientation_bits w out.old
         result out.new × Near w result 130 131072 8389902 }
 {
-    match set_writer::put_set(counts, coordinates, out, w) {
-        Walked::On(v) => set_writer::put_set(counts, coordinates, out, v),
-        Walked::Not(k) => Walked::Not(k),
-    }
+    let v = set_writer::put_set(counts, coordinates, out, w)?;
+    set_writer::put_set(counts, coordinates, out, v)
 }
 
 // The next n orientations.
@@ -33,77 +36,55 @@ fn put_orientations(
     out: &mut [u8],
     w: Walk,
     n: usize,
-) -> Walked
+) -> Result<Walk, Refusal>
     requires { Ready w (130 * n) (131072 * n) (8389902 * n) }
     ensures { Walks (given_orientations n counts.now coordinates.now w.counts w.coordinates) (flat_map orientation_bits) w
         out.old result out.new × Near w result (130 * n) (131072 * n) (8389902 * n) }
 {
-    if n == 0 {
-        return Walked::On(w);
+    let mut v = w;
+    for _ in 0..n {
+        v = put_orientation(counts, coordinates, out, v)?;
     }
-    match put_orientation(counts, coordinates, out, w) {
-        Walked::On(v) => put_orientations(counts, coordinates, out, v, n - 1),
-        Walked::Not(k) => Walked::Not(k),
-    }
+    Ok(v)
 }
 
 // A kind's fields before its sets.
-fn put_head(out: &mut [u8], w: Walk, h: KindHead) -> Walked
+fn put_head(out: &mut [u8], w: Walk, h: KindHead) -> Result<Walk, Refusal>
     requires { Ready w 0 0 114 }
     ensures { ((cs : List ℕ) (xs : List Float) → Walks (given_head h cs xs w.counts w.coordinates) head_bits w out.old result
         out.new) × Near w result 0 0 114 }
 {
-    let p = w.writer;
-    let quantity = match bits::judge_count(h.quantity, 1, 4095) {
-        Counted::Count(n) => n,
-        Counted::NoCount(k) => {
-            return Walked::Not(k);
-        }
-    };
-    let p = bit_writer::put(out, p, quantity, 12);
-    let fill = h.fill;
-    if 2 <= fill {
-        return Walked::Not(Refusal::CountOutOfRange);
+    let quantity = bits::judge_count(h.quantity, 1, 4095)?;
+    let p = bit_writer::put(out, w.writer, quantity, 12);
+    if 2 <= h.fill {
+        return Err(Refusal::CountOutOfRange);
     }
-    let p = bit_writer::put(out, p, fill, 1);
-    let priority = h.priority;
-    if 4294967296 <= priority {
-        return Walked::Not(Refusal::CountOutOfRange);
+    let p = bit_writer::put(out, p, h.fill, 1);
+    if 4294967296 <= h.priority {
+        return Err(Refusal::CountOutOfRange);
     }
-    let p = bit_writer::put(out, p, priority, 32);
-    let area = match bits::judge_number(numbers::bits_of(h.area), 0.0, 1000000000000.0) {
-        Measured::Value(x) => x,
-        Measured::NoValue(k) => {
-            return Walked::Not(k);
-        }
-    };
+    let p = bit_writer::put(out, p, h.priority, 32);
+    let area = bits::judge_number(numbers::bits_of(h.area), 0.0, 1000000000000.0)?;
     let p = bit_writer::put(out, p, numbers::bits_of(area), 64);
-    match bits::judge_count(h.orientations, 1, 16) {
-        Counted::Count(n) => {
-            let writer = bit_writer::put(out, p, n, 5);
-            Walked::On(Walk {
-                counts: w.counts,
-                coordinates: w.coordinates,
-                writer,
-            })
-        }
-        Counted::NoCount(k) => Walked::Not(k),
-    }
+    let orientations = bits::judge_count(h.orientations, 1, 16)?;
+    let writer = bit_writer::put(out, p, orientations, 5);
+    Ok(Walk { writer, ..w })
 }
 
 // A kind.
-fn put_kind(counts: &[u64], coordinates: &[f64], out: &mut [u8], w: Walk, h: KindHead) -> Walked
+fn put_kind(
+    counts: &[u64],
+    coordinates: &[f64],
+    out: &mut [u8],
+    w: Walk,
+    h: KindHead,
+) -> Result<Walk, Refusal>
     requires { Ready w 2080 2097152 134238546 }
     ensures { Walks (given_kind h counts.now coordinates.now w.counts w.coordinates) kind_bits w out.old result
         out.new × Near w result 2080 2097152 134238546 }
 {
-    match put_head(out, w, h) {
-        Walked::On(v) => {
-            let n = h.orientations as usize;
-            put_orientations(counts, coordinates, out, v, n)
-        }
-        Walked::Not(k) => Walked::Not(k),
-    }
+    let v = put_head(out, w, h)?;
+    put_orientations(counts, coordinates, out, v, h.orientations as usize)
 }
 
 // A kind's fields in the tables.
@@ -112,28 +93,16 @@ fn head_at(rows: &[u64], areas: &[f64], k: usize) -> KindHead
     ensures { result ≡ head_at rows.now areas.now k }
 {
     let j = 4 * k;
-    let quantity = set_writer::count_at(rows, j);
-    let fill = set_writer::count_at(rows, j + 1);
-    let priority = set_writer::count_at(rows, j + 2);
-    let orientations = set_writer::count_at(rows, j + 3);
-    let area = set_writer::number_at(areas, k);
     KindHead {
-        quantity,
-        fill,
-        priority,
-        area,
-        orientations,
+        quantity: value_at(rows, j, 0),
+        fill: value_at(rows, j + 1, 0),
+        priority: value_at(rows, j + 2, 0),
+        area: value_at(areas, k, f64::NAN),
+        orientations: value_at(rows, j + 3, 0),
     }
 }
 
-// The kinds that are put and their copies, or why one is refused.
-#[derive(Clone, Copy)]
-pub enum KindsPut {
-    Kinds(Walk, u64),
-    NoKinds(Refusal),
-}
-
-// n kinds, from kind k on.
+// n kinds, from kind k on, and how many copies they ask for.
 pub fn put_kinds(
     rows: &[u64],
     areas: &[f64],
@@ -143,23 +112,17 @@ pub fn put_kinds(
     w: Walk,
     n: usize,
     k: usize,
-) -> KindsPut
+) -> Result<(Walk, u64), Refusal>
     requires { Ready w (2080 * n) (2097152 * n) (134238546 * n) × (n + k ≤ 64) }
     ensures { WalksKinds (given_kinds rows.now areas.now n k counts.now coordinates.now w.counts
         w.coordinates) (flat_map kind_bits) w out.old result out.new × NearKinds w result (2080 * n) (2097152 * n) (134238546 * n) (4095 * n) }
 {
-    if n == 0 {
-        return KindsPut::Kinds(w, 0);
+    let mut v = w;
+    let mut copies = 0;
+    for i in k..k + n {
+        let h = head_at(rows, areas, i);
+        v = put_kind(counts, coordinates, out, v, h)?;
+        copies += h.quantity;
     }
-    let h = head_at(rows, areas, k);
-    match put_kind(counts, coordinates, out, w, h) {
-        Walked::On(v) => match put_kinds(rows, areas, counts, coordinates, out, v, n - 1, k + 1) {
-            KindsPut::Kinds(u, m) => {
-                let copies = h.quantity + m;
-                KindsPut::Kinds(u, copies)
-            }
-            KindsPut::NoKinds(j) => KindsPut::NoKinds(j),
-        },
-        Walked::Not(j) => KindsPut::NoKinds(j),
-    }
+    Ok((v, copies))
 }

@@ -1,14 +1,15 @@
 -- Laws of a kind's fields and of priorities. Assumes nothing.
-use mathlib.Core.Path.{◌≡◌, sym, ◌∙◌}
-use mathlib.Core.Logic.{◌⊎◌, inl, inr}
-use Prim.Native.Nat.{ℕ, suc, ◌+◌, ◌-◌, ◌%◌, ◌≤◌, ◌<◌}
-use native.Mathlib.Omega.{arith}
+use mathlib.Core.Path.{◌≡◌}
+use Prim.Native.Nat.{ℕ}
 use lib.Dec.{ltb}
-use lib.IntN.{pos, negsuc}
+use lib.IntN.{ℤ, pos, negsuc}
+use lib.Signed.{lt_z}
+use Rattle.std.proofs.Common.{w32}
+use Rattle.std.specs.Int.{cast_signed}
+use mathlib.Core.Bool.{Bool, true, false}
+use mathlib.Core.Path.{refl}
 use mathlib.Core.List.{List}
 use lib.Ieee.{Float}
-use borrow.Author.Tests.{lt-ltb, le-ltb}
-use Rattle.numbers.proofs.Truth.{below_or_not}
 use Rattle.bits.specs.declared.Refusal.{Refusal}
 use Rattle.bits.specs.Reading.{ok, bad, after, bits}
 use Rattle.bits.specs.Fields.{quantity_field, orientations_field, count, area_range, number}
@@ -44,27 +45,17 @@ module _ (bytes : List ℕ) (p : ℕ) where
           head_in e = rw (e1, e2, e3, e4, e)
 
 -- ---- priorities
-same_test : (x y a b : ℕ) → (x < y → a < b) → (y ≤ x → b ≤ a) → ltb x y ≡ ltb a b
-same_test x y a b f g = go (below_or_not x y)
+pub signed_is : (b : ℕ) → cast_signed w32 b ≡ signed b
+unfolding signed
+signed_is b = go (ltb b 2147483648) refl
   where
-    go : (x < y) ⊎ (y ≤ x) → ltb x y ≡ ltb a b
-    go (inl h) = lt-ltb x y h ∙ sym (lt-ltb a b (f h))
-    go (inr h) = le-ltb x y h ∙ sym (le-ltb a b (g h))
+    go : (t : Bool) → ltb b 2147483648 ≡ t → cast_signed w32 b ≡ signed b
+    go true e = rw (e, signed)
+    go false e = rw (e, signed)
 
-signed-pos : (b : ℕ) → b < 2147483648 → signed b ≡ pos b
-unfolding signed
-signed-pos b h = rw (lt-ltb b 2147483648 h, signed)
-
-signed_neg : (b : ℕ) → 2147483648 ≤ b → signed b ≡ negsuc (4294967296 - suc b)
-unfolding signed
-signed_neg b h = rw (le-ltb b 2147483648 h, signed)
-
-pub below_keys : (a b : ℕ) → a < 4294967296 → b < 4294967296 → ltb ((a + 2147483648) % 4294967296) ((b + 2147483648) % 4294967296) ≡ lower (signed a) (signed b)
+pub lower_is : (x y : ℤ) → lt_z x y ≡ lower x y
 unfolding lower
-below_keys a b m n = go (below_or_not a 2147483648) (below_or_not b 2147483648)
-  where
-    go : (a < 2147483648) ⊎ (2147483648 ≤ a) → (b < 2147483648) ⊎ (2147483648 ≤ b) → ltb ((a + 2147483648) % 4294967296) ((b + 2147483648) % 4294967296) ≡ lower (signed a) (signed b)
-    go (inl h) (inl k) = rw (signed-pos a h, signed-pos b k) (same_test ((a + 2147483648) % 4294967296) ((b + 2147483648) % 4294967296) a b (λ l. omega arith) (λ l. omega arith))
-    go (inl h) (inr k) = rw (signed-pos a h, signed_neg b k) (le-ltb ((a + 2147483648) % 4294967296) ((b + 2147483648) % 4294967296) (omega arith))
-    go (inr h) (inl k) = rw (signed_neg a h, signed-pos b k) (lt-ltb ((a + 2147483648) % 4294967296) ((b + 2147483648) % 4294967296) (omega arith))
-    go (inr h) (inr k) = rw (signed_neg a h, signed_neg b k) (same_test ((a + 2147483648) % 4294967296) ((b + 2147483648) % 4294967296) (4294967296 - suc b) (4294967296 - suc a) (λ l. omega arith) (λ l. omega arith))
+lower_is (pos a) (pos b) = refl
+lower_is (pos a) (negsuc b) = refl
+lower_is (negsuc a) (pos b) = refl
+lower_is (negsuc a) (negsuc b) = refl

@@ -11,8 +11,7 @@ use Rattle.numbers.proofs.Truth.{below_or_not, not-below-zero}
 use Rattle.bits.specs.declared.Refusal.{Refusal}
 use Rattle.bits.specs.Reading.{ok, bad, after}
 use Rattle.kinds.specs.declared.KindHead.{KindHead}
-use Rattle.kinds.specs.Kinds.{Orientation, Kind, kind_of, a_kind, some_kinds, head_at}
-use Rattle.kinds.specs.Kinds.{copies_of}
+use Rattle.kinds.specs.Kinds.{Orientation, Kind, kind_of, a_kind, some_kinds, head_at, copies_of}
 use Rattle.kinds.specs.inner.Tables.{tabulate, orientation_at, orientations_of, kind_with, kind_at}
 use Rattle.kinds.proofs.Tables.{get_d_same, tabulate-same, tabulate_more, orientation-same}
 

@@ -11,8 +11,7 @@ ghost use Rattle.kinds.specs.sets.inner.Answers.{run_read, run_fits};
 ghost use Rattle.kinds.specs.Kinds.{signed, lower, an_orientation, some_orientations, kind_head, a_kind, some_kinds, head_at};
 ghost use Rattle.kinds.specs.inner.Tables.{head_read, orientation_at, orientations_of, kind_read, kinds_read, head_fits, kind_fits, kinds_fit};
 
-use crate::sets::{Run, SetRead};
-use bits::{Counted, Measured, Refusal, Taken};
+use bits::Refusal;
 
 // The two sets of a slot: where each begins, into the table. The rooms take each set in turn.
 fn read_orientation(
@@ -22,27 +21,19 @@ fn read_orientation(
     places: &mut [u32],
     room: &mut [f64],
     ends: &mut [usize],
-) -> Run
+) -> Result<usize, Refusal>
     requires { (at ≤ 4000000000) × (slot < 1024) × (2048 ≤ length places.old) × (1024 ≤ length room.old) × (64 ≤ length ends.old) }
     ensures { (an_orientation bytes.now at ≡ run_read result (orientation_at bytes.now places.new slot))
         × run_fits result (at + 132366) × (take (2 * slot) places.new ≡ take (2 * slot) places.old) }
 {
     let apart = at as u32;
-    match sets::read_set(bytes, apart, room, ends) {
-        SetRead::Loops(_, _, p) => {
-            let inset = p as u32;
-            match sets::read_set(bytes, inset, room, ends) {
-                SetRead::Loops(_, _, q) => {
-                    let j = 2 * slot;
-                    places[j] = apart;
-                    places[j + 1] = inset;
-                    Run::Past(q)
-                }
-                SetRead::NoSet(k) => Run::Stopped(k),
-            }
-        }
-        SetRead::NoSet(k) => Run::Stopped(k),
-    }
+    let (_, _, p) = sets::read_set(bytes, apart, room, ends)?;
+    let inset = p as u32;
+    let (_, _, q) = sets::read_set(bytes, inset, room, ends)?;
+    let j = 2 * slot;
+    places[j] = apart;
+    places[j + 1] = inset;
+    Ok(q)
 }
 
 // The n orientations of a kind.
@@ -54,25 +45,16 @@ fn read_orientations(
     places: &mut [u32],
     room: &mut [f64],
     ends: &mut [usize],
-) -> Run
+) -> Result<usize, Refusal>
     requires { (at ≤ 3000000000) × (n ≤ 16) × (kind < 64) × (2048 ≤ length places.old) × (1024 ≤ length room.old) × (64 ≤ length ends.old) }
     ensures { (some_orientations n [] bytes.now at ≡ run_read result (orientations_of bytes.now places.new kind n))
         × run_fits result (at + 132366 * n) × (take (32 * kind) places.new ≡ take (32 * kind) places.old) }
 {
-    let mut i = 0;
     let mut p = at;
-    while i < n {
-        match read_orientation(bytes, p, 16 * kind + i, places, room, ends) {
-            Run::Past(q) => {
-                p = q;
-            }
-            Run::Stopped(k) => {
-                return Run::Stopped(k);
-            }
-        }
-        i += 1;
+    for i in 0..n {
+        p = read_orientation(bytes, p, 16 * kind + i, places, room, ends)?;
     }
-    Run::Past(p)
+    Ok(p)
 }
 
 // A kind's fields before its sets; the priority as 32 bits.
@@ -85,54 +67,25 @@ pub struct KindHead {
     pub orientations: u64,
 }
 
-#[derive(Clone, Copy)]
-pub enum HeadRead {
-    Head(KindHead),
-    NoHead(Refusal),
-}
-
-fn read_head(bytes: &[u8], at: usize) -> HeadRead
+fn read_head(bytes: &[u8], at: usize) -> Result<KindHead, Refusal>
     requires { at ≤ 3000000000 }
     ensures { (kind_head bytes.now at ≡ head_read result (at + 12 + 1 + 32 + 64 + 5)) × head_fits result }
 {
-    let quantity = match bits::read_count(bytes, at, 12, 1, 4095) {
-        Counted::Count(n) => n,
-        Counted::NoCount(k) => {
-            return HeadRead::NoHead(k);
-        }
-    };
+    let quantity = bits::read_count(bytes, at, 12, 1, 4095)?;
     let at_fill = at + 12;
-    let Taken::Bits(fill) = bits::read_field(bytes, at_fill, 1) else {
-        return HeadRead::NoHead(Refusal::Truncated);
-    };
+    let fill = bits::read_field(bytes, at_fill, 1)?;
     let at_priority = at_fill + 1;
-    let Taken::Bits(priority) = bits::read_field(bytes, at_priority, 32) else {
-        return HeadRead::NoHead(Refusal::Truncated);
-    };
+    let priority = bits::read_field(bytes, at_priority, 32)?;
     let at_area = at_priority + 32;
-    let area = match bits::read_number(bytes, at_area, 0.0, 1000000000000.0) {
-        Measured::Value(x) => x,
-        Measured::NoValue(k) => {
-            return HeadRead::NoHead(k);
-        }
-    };
-    match bits::read_count(bytes, at_area + 64, 5, 1, 16) {
-        Counted::Count(orientations) => HeadRead::Head(KindHead {
-            quantity,
-            fill,
-            priority,
-            area,
-            orientations,
-        }),
-        Counted::NoCount(k) => HeadRead::NoHead(k),
-    }
-}
-
-// A kind's fields and the position after it, or why it is refused.
-#[derive(Clone, Copy)]
-pub enum KindRead {
-    OneKind(KindHead, usize),
-    NoKind(Refusal),
+    let area = bits::read_number(bytes, at_area, 0.0, 1000000000000.0)?;
+    let orientations = bits::read_count(bytes, at_area + 64, 5, 1, 16)?;
+    Ok(KindHead {
+        quantity,
+        fill,
+        priority,
+        area,
+        orientations,
+    })
 }
 
 // A kind, with the places of its sets in the table.
@@ -143,21 +96,15 @@ fn read_kind(
     places: &mut [u32],
     room: &mut [f64],
     ends: &mut [usize],
-) -> KindRead
+) -> Result<(KindHead, usize), Refusal>
     requires { (at ≤ 2000000000) × (kind < 64) × (2048 ≤ length places.old) × (1024 ≤ length room.old) × (64 ≤ length ends.old) }
     ensures { (a_kind bytes.now at ≡ kind_read result bytes.now places.new kind) × kind_fits result (at + 2117970)
         × (take (32 * kind) places.new ≡ take (32 * kind) places.old) }
 {
-    match read_head(bytes, at) {
-        HeadRead::Head(h) => {
-            let n = h.orientations as usize;
-            match read_orientations(bytes, at + 114, n, kind, places, room, ends) {
-                Run::Past(q) => KindRead::OneKind(h, q),
-                Run::Stopped(k) => KindRead::NoKind(k),
-            }
-        }
-        HeadRead::NoHead(k) => KindRead::NoKind(k),
-    }
+    let h = read_head(bytes, at)?;
+    let n = h.orientations as usize;
+    let q = read_orientations(bytes, at + 114, n, kind, places, room, ends)?;
+    Ok((h, q))
 }
 
 // A kind's fields, into the tables.
@@ -174,13 +121,6 @@ fn put_head(rows: &mut [u64], areas: &mut [f64], kind: usize, h: KindHead)
     areas[kind] = h.area;
 }
 
-// The copies of all kinds and the position after them, or why one is refused.
-#[derive(Clone, Copy)]
-pub enum KindsRead {
-    AllKinds(u64, usize),
-    NoKinds(Refusal),
-}
-
 // The n kinds of a job, into the tables.
 pub fn read_kinds(
     bytes: &[u8],
@@ -191,29 +131,21 @@ pub fn read_kinds(
     places: &mut [u32],
     room: &mut [f64],
     ends: &mut [usize],
-) -> KindsRead
+) -> Result<(u64, usize), Refusal>
     requires { (at ≤ 1000000) × (n ≤ 64) × (256 ≤ length rows.old) × (64 ≤ length areas.old) × (2048 ≤ length places.old) × (1024 ≤ length room.old)
         × (64 ≤ length ends.old) }
     ensures { (some_kinds n [] bytes.now at ≡ kinds_read result bytes.now n rows.new areas.new places.new)
         × kinds_fit result (at + 2117970 * n) bytes.now n rows.new areas.new places.new }
 {
-    let mut i = 0;
     let mut p = at;
     let mut copies = 0;
-    while i < n {
-        match read_kind(bytes, p, i, places, room, ends) {
-            KindRead::OneKind(h, q) => {
-                copies += h.quantity;
-                put_head(rows, areas, i, h);
-                p = q;
-            }
-            KindRead::NoKind(k) => {
-                return KindsRead::NoKinds(k);
-            }
-        }
-        i += 1;
+    for i in 0..n {
+        let (h, q) = read_kind(bytes, p, i, places, room, ends)?;
+        copies += h.quantity;
+        put_head(rows, areas, i, h);
+        p = q;
     }
-    KindsRead::AllKinds(copies, p)
+    Ok((copies, p))
 }
 
 // Whether priority a, as 32 bits, is lower than priority b.
@@ -221,5 +153,5 @@ pub fn lower_priority(a: u64, b: u64) -> bool
     requires { (a < 4294967296) × (b < 4294967296) }
     ensures { result ≡ lower (signed a) (signed b) }
 {
-    (a + 2147483648) % 4294967296 < (b + 2147483648) % 4294967296
+    (a as u32).cast_signed() < (b as u32).cast_signed()
 }

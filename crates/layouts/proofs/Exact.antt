@@ -1,4 +1,5 @@
 -- Lines are accepted exactly if they are legal and their rooms suffice. Assumes nothing.
+use Rattle.std.specs.Prelude.{Result, Ok, Err}
 use Prim.Native.Nat.{ℕ, suc, ◌+◌, ◌≤◌, ◌<◌}
 use native.Mathlib.Omega.{arith}
 use mathlib.Core.Path.{◌≡◌, refl, sym, ap, subst, ◌∙◌}
@@ -15,8 +16,6 @@ use Rattle.trapezoid.specs.Strip.{capacity}
 use Rattle.frames.specs.declared.Frame.{Frame}
 use Rattle.job.specs.Jobs.{Job, accepted, read_job, frame_of}
 use Rattle.filling.specs.declared.Refusal.{Refusal}
-use Rattle.filling.specs.declared.Verdict.{Verdict}
-use Rattle.filling.specs.declared.Verdict.TheVariants.{Accepted, Refused}
 use Rattle.filling.specs.Refusals.{is_refused}
 use Rattle.filling.specs.Shapes.{Planner, planner_of, shape_of}
 use Rattle.filling.specs.Rooms.{Rooms}
@@ -39,7 +38,7 @@ use Rattle.layouts.proofs.Verdicts.{stored_less, Passes, passes-accepted, accept
 
 -- accepted, at a line
 abbrev pub accepted_at : ℕ → Judgement
-accepted_at n = record { verdict = Accepted; line = n }
+accepted_at n = record { verdict = Ok tt; line = n }
 
 -- no kind more often than its quantity, of kinds and of lines after them
 abbrev pub Few : Job → List ℕ → List PutLine → Type 0
@@ -99,7 +98,7 @@ module _ (j : Job) (p : Planner) (w : Rooms) where
 
   -- legal lines that the rooms hold are accepted
   pub legal_accepted : (ls : List PutLine) (kinds : List ℕ) (st : List Float) → every (line_named j) ls ≡ true → Few j kinds ls
-      → places_legal p F st ls ≡ true → Sixfold st → store_verdict p w (st ++ Strips p F ls) ≡ Accepted
+      → places_legal p F st ls ≡ true → Sixfold st → store_verdict p w (st ++ Strips p F ls) ≡ (Ok tt)
       → layout_from j p w kinds st ls ≡ accepted_at (length kinds + length ls)
   unfolding every places_legal flat_map layout_from
   legal_accepted [] kinds st n f q s v = let z : length kinds ≡ length kinds + 0 = omega arith in ap accepted_at z
@@ -109,7 +108,7 @@ module _ (j : Job) (p : Planner) (w : Rooms) where
       let named = both_first (line_named j l) (every (line_named j) ls) n in
       let here = both_first (in_range p S (place_of F l) && clear p st S (place_of F l)) (places_legal p F (st ++ u) ls) q in
       let six : Sixfold (st ++ u) = sixfold_append st u s (line_sixfold p F l) in
-      let all : store_verdict p w ((st ++ u) ++ Strips p F ls) ≡ Accepted = subst (λ (m : List Float). store_verdict p w m ≡ Accepted)
+      let all : store_verdict p w ((st ++ u) ++ Strips p F ls) ≡ (Ok tt) = subst (λ (m : List Float). store_verdict p w m ≡ (Ok tt))
       (sym (append_assoc st u (Strips p F ls))) v in
       let h : Passes j p w kinds st l = record {
         read = named-read l named;
@@ -131,7 +130,7 @@ module _ (j : Job) (p : Planner) (w : Rooms) where
     pub named : every (line_named j) ls ≡ true
     pub few : Few j kinds ls
     pub places : places_legal p F st ls ≡ true
-    pub stores : store_verdict p w (st ++ Strips p F ls) ≡ Accepted
+    pub stores : store_verdict p w (st ++ Strips p F ls) ≡ (Ok tt)
 
   legal_on : (kinds : List ℕ) (st : List Float) (l : PutLine) (ls : List PutLine) → Passes j p w kinds st l
       → Legal (kinds ++ (l.kind ∷ [])) (st ++ line_strips p F l) ls → Legal kinds st (l ∷ ls)
@@ -141,36 +140,36 @@ module _ (j : Job) (p : Planner) (w : Rooms) where
         named = rw (named_of l h.read h.has, r.named);
         few = λ k b. (let g = r.few k b in let t = few_on kinds l ls k in omega arith);
         places = rw (h.range, h.clears, r.places);
-        stores = subst (λ (m : List Float). store_verdict p w m ≡ Accepted) (append_assoc st (line_strips p F l) (Strips p F ls)) r.stores;
+        stores = subst (λ (m : List Float). store_verdict p w m ≡ (Ok tt)) (append_assoc st (line_strips p F l) (Strips p F ls)) r.stores;
       }
 
   -- accepted lines are legal, and the rooms hold them
-  pub accepted_legal : (ls : List PutLine) (kinds : List ℕ) (st : List Float) → Few j kinds [] → store_verdict p w st ≡ Accepted
-      → (layout_from j p w kinds st ls).verdict ≡ Accepted → Legal kinds st ls
+  pub accepted_legal : (ls : List PutLine) (kinds : List ℕ) (st : List Float) → Few j kinds [] → store_verdict p w st ≡ (Ok tt)
+      → (layout_from j p w kinds st ls).verdict ≡ (Ok tt) → Legal kinds st ls
   unfolding every places_legal flat_map
   accepted_legal [] kinds st f v e =
-      record { named = refl; few = f; places = refl; stores = subst (λ (m : List Float). store_verdict p w m ≡ Accepted) (sym (append-nil st)) v }
+      record { named = refl; few = f; places = refl; stores = subst (λ (m : List Float). store_verdict p w m ≡ (Ok tt)) (sym (append-nil st)) v }
   accepted_legal (l ∷ ls) kinds st f v e =
       go (line_verdict j p w kinds st l) refl (λ h i. accepted_legal ls (kinds ++ (l.kind ∷ [])) (st ++ line_strips p F l) (few-next kinds l f h.few)
       h.stores i)
     where
-      go : (u : Verdict) → line_verdict j p w kinds st l ≡ u
-          → (Passes j p w kinds st l → (layout_from j p w (kinds ++ (l.kind ∷ [])) (st ++ line_strips p F l) ls).verdict ≡ Accepted
+      go : (u : Result (Unit {0}) Refusal) → line_verdict j p w kinds st l ≡ u
+          → (Passes j p w kinds st l → (layout_from j p w (kinds ++ (l.kind ∷ [])) (st ++ line_strips p F l) ls).verdict ≡ (Ok tt)
           → Legal (kinds ++ (l.kind ∷ [])) (st ++ line_strips p F l) ls)
           → Legal kinds st (l ∷ ls)
-      go Accepted d more =
+      go (Ok tt) d more =
           let h = accepted-passes j p w kinds st l d in
           legal_on kinds st l ls h (more h (sym (ap (λ (r : Judgement). r.verdict) (line_on j p w kinds st l ls d)) ∙ e))
-      go (Refused r) d more = absurd (refused≢accepted (sym (ap (λ (q : Judgement). q.verdict) (line-bad j p w kinds st l ls r d)) ∙ e))
+      go (Err r) d more = absurd (refused≢accepted (sym (ap (λ (q : Judgement). q.verdict) (line-bad j p w kinds st l ls r d)) ∙ e))
 
 -- ---- the whole list
 
-pub not-refused : (v : Verdict) → not (is_refused v) ≡ true → v ≡ Accepted
+pub not-refused : (v : Result (Unit {0}) Refusal) → not (is_refused v) ≡ true → v ≡ (Ok tt)
 unfolding is_refused
-not-refused Accepted e = refl
-not-refused (Refused r) e = absurd (true≢false (sym e))
+not-refused (Ok tt) e = refl
+not-refused (Err r) e = absurd (true≢false (sym e))
 
-pub if_accepted : (v : Verdict) → v ≡ Accepted → not (is_refused v) ≡ true
+pub if_accepted : (v : Result (Unit {0}) Refusal) → v ≡ (Ok tt) → not (is_refused v) ≡ true
 unfolding is_refused
 if_accepted v e = rw e
 
@@ -195,11 +194,11 @@ module _ (j : Job) (w : Rooms) where
       (λ k a b. le-leb (count_in k kinds) (quantity_of j k) (let g = f k (omega arith) in let z = count_none k in omega arith))
 
   -- what cannot be prepared
-  pub job_unprepared : (r : Refusal) → prepare_verdict P w ≡ Refused r → (ls : List PutLine) → layout_job j ls w ≡ not_judged r
+  pub job_unprepared : (r : Refusal) → prepare_verdict P w ≡ Err r → (ls : List PutLine) → layout_job j ls w ≡ not_judged r
   unfolding layout_job
   job_unprepared r e ls = rw (e, layout_job)
 
-  pub job-prepared : prepare_verdict P w ≡ Accepted → (ls : List PutLine) → layout_job j ls w ≡ layout_from j P w [] [] ls
+  pub job-prepared : prepare_verdict P w ≡ (Ok tt) → (ls : List PutLine) → layout_job j ls w ≡ layout_from j P w [] [] ls
   unfolding layout_job
   job-prepared e ls = rw (e, layout_job)
 
@@ -207,8 +206,8 @@ module _ (j : Job) (w : Rooms) where
   unfolding legal_layout
   job_legal ls h = rw (h.named, of_few ls h.few, h.places)
 
-  if_legal : (ls : List PutLine) → prepare_verdict P w ≡ Accepted → legal_layout j ls ≡ true
-      → store_verdict P w (Strips P (frame_of j.header) ls) ≡ Accepted → layout_job j ls w ≡ accepted_at (length ls)
+  if_legal : (ls : List PutLine) → prepare_verdict P w ≡ (Ok tt) → legal_layout j ls ≡ true
+      → store_verdict P w (Strips P (frame_of j.header) ls) ≡ (Ok tt) → layout_job j ls w ≡ accepted_at (length ls)
   unfolding legal_layout
   if_legal ls e h v =
       let f = few_enough j (map (λ l. l.kind) ls) in
@@ -219,27 +218,27 @@ module _ (j : Job) (w : Rooms) where
       (both_second (every (line_named j) ls && f) (places_legal P (frame_of j.header) [] ls) h) sixfold_nil v
       ∙ ap accepted_at z
 
-  nothing_stored : store_verdict P w [] ≡ Accepted
+  nothing_stored : store_verdict P w [] ≡ (Ok tt)
   nothing_stored = stored_if P w [] (unfold capacity in omega arith) (let e = entries-together P.bounds [] [] sixfold_nil sixfold_nil in omega arith)
 
   no_kinds : Few j [] []
   no_kinds k b = let z = count_none k in omega arith
 
-  accepted-job : (ls : List PutLine) → (layout_job j ls w).verdict ≡ Accepted → (prepare_verdict P w ≡ Accepted) × Legal j P w [] [] ls
+  accepted-job : (ls : List PutLine) → (layout_job j ls w).verdict ≡ (Ok tt) → (prepare_verdict P w ≡ (Ok tt)) × Legal j P w [] [] ls
   unfolding not_judged
   accepted-job ls e = go (prepare_verdict P w) refl
     where
-      go : (u : Verdict) → prepare_verdict P w ≡ u → (prepare_verdict P w ≡ Accepted) × Legal j P w [] [] ls
-      go Accepted d = (d, accepted_legal j P w ls [] [] no_kinds nothing_stored (sym (ap (λ (r : Judgement). r.verdict) (job-prepared d ls)) ∙ e))
-      go (Refused r) d = absurd (refused≢accepted (sym (ap (λ (q : Judgement). q.verdict) (job_unprepared r d ls)) ∙ e))
+      go : (u : Result (Unit {0}) Refusal) → prepare_verdict P w ≡ u → (prepare_verdict P w ≡ (Ok tt)) × Legal j P w [] [] ls
+      go (Ok tt) d = (d, accepted_legal j P w ls [] [] no_kinds nothing_stored (sym (ap (λ (r : Judgement). r.verdict) (job-prepared d ls)) ∙ e))
+      go (Err r) d = absurd (refused≢accepted (sym (ap (λ (q : Judgement). q.verdict) (job_unprepared r d ls)) ∙ e))
 
-  suffices : (ls : List PutLine) → prepare_verdict P w ≡ Accepted → store_verdict P w (Strips P (frame_of j.header) ls) ≡ Accepted
+  suffices : (ls : List PutLine) → prepare_verdict P w ≡ (Ok tt) → store_verdict P w (Strips P (frame_of j.header) ls) ≡ (Ok tt)
       → room_suffices j ls w ≡ true
   unfolding room_suffices
   suffices ls e v = rw (if_accepted (prepare_verdict P w) e, if_accepted (store_verdict P w (Strips P (frame_of j.header) ls)) v)
 
   sufficed : (ls : List PutLine) → room_suffices j ls w ≡ true
-      → (prepare_verdict P w ≡ Accepted) × (store_verdict P w (Strips P (frame_of j.header) ls) ≡ Accepted)
+      → (prepare_verdict P w ≡ (Ok tt)) × (store_verdict P w (Strips P (frame_of j.header) ls) ≡ (Ok tt))
   unfolding room_suffices
   sufficed ls h =
       let a = not (is_refused (prepare_verdict P w)) in

@@ -1,4 +1,5 @@
 -- The line that is spoken of: the lines before it are accepted, and it is the first that is not. Assumes nothing.
+use Rattle.std.specs.Prelude.{Result, Ok, Err}
 use Prim.Native.Nat.{ℕ, suc, ◌+◌, ◌≤◌, ◌<◌}
 use native.Mathlib.Omega.{arith}
 use mathlib.Core.Path.{◌≡◌, refl, sym, ap, ap₂, subst, ◌∙◌}
@@ -8,8 +9,6 @@ use lib.Ieee.{Float}
 use Rattle.frames.specs.declared.Frame.{Frame}
 use Rattle.job.specs.Jobs.{Job, frame_of}
 use Rattle.filling.specs.declared.Refusal.{Refusal}
-use Rattle.filling.specs.declared.Verdict.{Verdict}
-use Rattle.filling.specs.declared.Verdict.TheVariants.{Accepted, Refused}
 use Rattle.filling.specs.Shapes.{Planner, planner_of}
 use Rattle.filling.specs.Rooms.{Rooms}
 use Rattle.filling.specs.Start.{prepare_verdict}
@@ -32,9 +31,9 @@ module _ (j : Job) (p : Planner) (w : Rooms) where
     pub within : n ≤ length ls
     pub line_is : (layout_from j p w kinds st ls).line ≡ length kinds + n
     pub before : layout_from j p w kinds st (take n ls) ≡ accepted_at (length kinds + n)
-    pub whole : (layout_from j p w kinds st ls).verdict ≡ Accepted → n ≡ length ls
-    pub bad : (r : Refusal) → (layout_from j p w kinds st ls).verdict ≡ Refused r
-        → (n < length ls) × ((d : PutLine) → line_verdict j p w (kinds ++ kinds_of (take n ls)) (st ++ Strips p F (take n ls)) (get_or ls n d) ≡ Refused r)
+    pub whole : (layout_from j p w kinds st ls).verdict ≡ (Ok tt) → n ≡ length ls
+    pub bad : (r : Refusal) → (layout_from j p w kinds st ls).verdict ≡ Err r
+        → (n < length ls) × ((d : PutLine) → line_verdict j p w (kinds ++ kinds_of (take n ls)) (st ++ Strips p F (take n ls)) (get_or ls n d) ≡ Err r)
 
   spoken_none : (kinds : List ℕ) (st : List Float) → Spoken kinds st [] 0
   unfolding layout_from
@@ -48,7 +47,7 @@ module _ (j : Job) (p : Planner) (w : Rooms) where
         bad = λ r e. absurd (accepted≢refused e);
       }
 
-  spoken_here : (kinds : List ℕ) (st : List Float) (l : PutLine) (ls : List PutLine) (r : Refusal) → line_verdict j p w kinds st l ≡ Refused r
+  spoken_here : (kinds : List ℕ) (st : List Float) (l : PutLine) (ls : List PutLine) (r : Refusal) → line_verdict j p w kinds st l ≡ Err r
       → Spoken kinds st (l ∷ ls) 0
   unfolding flat_map
   spoken_here kinds st l ls r d =
@@ -66,7 +65,7 @@ module _ (j : Job) (p : Planner) (w : Rooms) where
         );
       }
 
-  spoken_later : (kinds : List ℕ) (st : List Float) (l : PutLine) (ls : List PutLine) (n : ℕ) → line_verdict j p w kinds st l ≡ Accepted
+  spoken_later : (kinds : List ℕ) (st : List Float) (l : PutLine) (ls : List PutLine) (n : ℕ) → line_verdict j p w kinds st l ≡ (Ok tt)
       → Spoken (kinds ++ (l.kind ∷ [])) (st ++ line_strips p F l) ls n → Spoken kinds st (l ∷ ls) (suc n)
   unfolding flat_map
   spoken_later kinds st l ls n d s =
@@ -90,10 +89,10 @@ module _ (j : Job) (p : Planner) (w : Rooms) where
   spoken [] kinds st = (0, spoken_none kinds st)
   spoken (l ∷ ls) kinds st = go (line_verdict j p w kinds st l) refl (spoken ls (kinds ++ (l.kind ∷ [])) (st ++ line_strips p F l))
     where
-      go : (u : Verdict) → line_verdict j p w kinds st l ≡ u → (n : ℕ) × Spoken (kinds ++ (l.kind ∷ [])) (st ++ line_strips p F l) ls n
+      go : (u : Result (Unit {0}) Refusal) → line_verdict j p w kinds st l ≡ u → (n : ℕ) × Spoken (kinds ++ (l.kind ∷ [])) (st ++ line_strips p F l) ls n
           → (n : ℕ) × Spoken kinds st (l ∷ ls) n
-      go Accepted d s = (suc s.0, spoken_later kinds st l ls s.0 d s.1)
-      go (Refused r) d s = (0, spoken_here kinds st l ls r d)
+      go (Ok tt) d s = (suc s.0, spoken_later kinds st l ls s.0 d s.1)
+      go (Err r) d s = (0, spoken_here kinds st l ls r d)
 
 -- ---- the whole list
 
@@ -101,12 +100,12 @@ module _ (j : Job) (p : Planner) (w : Rooms) where
 pub record LineSays (j : Job) (ls : List PutLine) (w : Rooms) (n : ℕ) : Type 0 where
   pub within : n ≤ length ls
   pub before : layout_job j (take n ls) w ≡ accepted_at n
-  pub whole : (layout_job j ls w).verdict ≡ Accepted → n ≡ length ls
-  pub bad : (r : Refusal) → (layout_job j ls w).verdict ≡ Refused r
+  pub whole : (layout_job j ls w).verdict ≡ (Ok tt) → n ≡ length ls
+  pub bad : (r : Refusal) → (layout_job j ls w).verdict ≡ Err r
       → (n < length ls) × ((d : PutLine) → line_verdict j (planner_of j) w (kinds_of (take n ls)) (Strips (planner_of j) (frame_of j.header) (take n ls))
-      (get_or ls n d) ≡ Refused r)
+      (get_or ls n d) ≡ Err r)
 
-pub line_says : (j : Job) (ls : List PutLine) (w : Rooms) → prepare_verdict (planner_of j) w ≡ Accepted → LineSays j ls w (layout_job j ls w).line
+pub line_says : (j : Job) (ls : List PutLine) (w : Rooms) → prepare_verdict (planner_of j) w ≡ (Ok tt) → LineSays j ls w (layout_job j ls w).line
 line_says j ls w e =
     let s = spoken j (planner_of j) w ls [] [] in
     let h = s.1 in

@@ -1,12 +1,14 @@
 -- Every layout that the planner makes is accepted in filling order: after an accepted start and whatever calls, and after a filling. Assumes nothing.
-use Prim.Native.Nat.{ℕ, zero, suc, ◌+◌, ◌*◌, ◌/◌, ◌≤◌, min}
+use Rattle.std.specs.Prelude.{Result, Ok, Err}
+use Rattle.filling.specs.declared.Refusal.{Refusal}
+use Prim.Native.Nat.{ℕ, ◌+◌, ◌*◌, ◌/◌, ◌≤◌, min}
 use native.Mathlib.Nat.{le_refl}
 use native.Mathlib.Omega.{arith}
 use mathlib.Core.Path.{◌≡◌, refl, sym, ap, ap₂, subst, ◌∙◌}
 use mathlib.Core.Logic.{◌⊎◌, inl, inr}
-use mathlib.Core.Bool.{Bool, true, false, not, true≢false}
+use mathlib.Core.Bool.{Bool, true, false, not}
 use mathlib.Core.List.{List, [], ◌∷◌, ◌++◌, map}
-use lib.ListN.{length, get_or, take, length-map, length-take}
+use lib.ListN.{length, get_or, length-map, length-take}
 use lib.Dec.{eqb, leb}
 use lib.Ieee.{Float}
 use borrow.Author.Tests.{leb-true}
@@ -19,14 +21,13 @@ use Rattle.index.specs.Buckets.{keep, strip_numbers, standing_capacity}
 use Rattle.index.proofs.Steps.{keep_yes, keep_no}
 use Rattle.job.specs.Jobs.{Job, accepted, read_job, frame_of}
 use Rattle.filling.specs.declared.State.{State}
-use Rattle.filling.specs.declared.Verdict.{Verdict}
-use Rattle.filling.specs.declared.Verdict.TheVariants.{Accepted, Refused}
 use Rattle.filling.specs.Shapes.{Planner, planner_of, Standing, others, standing_strips}
 use Rattle.filling.specs.Choice.{Choice, best, standing_at}
 use Rattle.filling.specs.Plain.{Plain, plain_start, plain_take, plain_back}
 use Rattle.filling.specs.Rooms.{Rooms, Lent, laid, zeros, zero_rooms, only_positions}
 use Rattle.filling.specs.State.{tracks_of, standing_of}
-use Rattle.filling.specs.Consistent.{same_numbers, numbers_lie, entries_for, firsts_for, placed_strips_of, strip_counts_fit}
+use Rattle.filling.proofs.Same.{lies-long}
+use Rattle.filling.specs.Consistent.{numbers_lie, entries_for, firsts_for, placed_strips_of, strip_counts_fit}
 use Rattle.filling.specs.Start.{first_state, first_rooms, prepare_verdict, start_verdict, start_of}
 use Rattle.filling.specs.NextCopy.{new_strips, store_verdict, winner_verdict, state_after, stored, rooms_after, Step}
 use Rattle.filling.specs.Withdraw.{state_without, rooms_without, Reply}
@@ -75,14 +76,6 @@ fewer p test m adds (c ∷ cs) = go (fewer p test m adds cs) (either (test c))
         let d = whole cs in
         omega arith
     go h (inr e) = let a = ap (λ (l : List Standing). m (standing_strips p l)) (keep_no test c cs e) in let d = whole cs in omega arith
-
--- a room that begins with numbers is as long as they are
-same-long : (es room : List ℕ) (n : ℕ) → same_numbers es (take n room) ≡ true → length es ≤ length room
-unfolding same_numbers
-same-long [] room n h = omega arith
-same-long (a ∷ es) room zero h = absurd (true≢false (sym h))
-same-long (a ∷ es) [] (suc n) h = absurd (true≢false (sym h))
-same-long (a ∷ es) (b ∷ room) (suc n) h = let r = same-long es room n (both_second (eqb a b) (same_numbers es (take n room)) h) in omega arith
 
 -- strips and entries as many as these rooms are used for
 record Alike (w v : Rooms) : Type 0 where
@@ -140,7 +133,7 @@ module _ (bytes : List ℕ) (j : Job) (e : read_job bytes ≡ accepted j) (l : L
         (chosen_legal bytes j e St (standing_all bytes j e h.held.order s w q h.held.held) h.held.held.own.fine.strips k d
         (best_all (FoundThere P St k) c cs f.0 f.1) s.taken))
 
-    alike_now : (k : ℕ) (cs : List Choice) → winner_verdict P w k St cs ≡ Accepted → Alike (rooms_after P k w St cs) l.rooms
+    alike_now : (k : ℕ) (cs : List Choice) → winner_verdict P w k St cs ≡ (Ok tt) → Alike (rooms_after P k w St cs) l.rooms
     unfolding rooms_after stored winner_verdict
     alike_now k [] v = h.alike
     alike_now k (c ∷ cs) v =
@@ -178,7 +171,7 @@ module _ (bytes : List ℕ) (j : Job) (e : read_job bytes ≡ accepted j) (l : L
 
     entries_short : length (entries_for P.bounds St) ≤ length w.placed_entries
     unfolding numbers_lie
-    entries_short = same-long (entries_for P.bounds St) w.placed_entries (length (entries_for P.bounds St)) h.held.held.own.placed_entries
+    entries_short = lies-long (entries_for P.bounds St) w.placed_entries h.held.held.own.placed_entries
 
     module _ (n : ℕ) (r : Reply) (t : Went j s w n r) where
       abbrev Test : Standing → Bool
@@ -227,11 +220,11 @@ module _ (bytes : List ℕ) (j : Job) (e : read_job bytes ≡ accepted j) (l : L
         let n : 0 + length ls ≡ length (standing_of s) = (let m = length-map (standing_of s) (line_of f) in omega arith) in
         legal_accepted j P l.rooms ls [] [] (own_named j f (standing_of s) o.stands)
         (few_stand j f s (rw o.order_kept h.held.rearranges) o.few) (own_places P f [] (standing_of s) h.legal) sixfold_nil
-        (subst (λ (st : List Float). store_verdict P l.rooms st ≡ Accepted) (sym (own_strips P f [] (standing_of s) h.legal)) i)
+        (subst (λ (st : List Float). store_verdict P l.rooms st ≡ (Ok tt)) (sym (own_strips P f [] (standing_of s) h.legal)) i)
         ∙ ap accepted_at n
 
     -- as bits
-    list_accepted : prepare_verdict P l.rooms ≡ Accepted
+    list_accepted : prepare_verdict P l.rooms ≡ (Ok tt)
         → (layout_of bytes (layout_numbers j (standing_of s)) l.rooms).judgement ≡ accepted_at (length (standing_of s))
     unfolding layout_of layout_given
     list_accepted v =
@@ -240,7 +233,7 @@ module _ (bytes : List ℕ) (j : Job) (e : read_job bytes ≡ accepted j) (l : L
 
   -- ---- the start, the calls, the filling
 
-  first_layable : (order : List ℕ) → start_verdict j order l ≡ Accepted → Layable (first_state P order) (first_rooms P l.rooms) (plain_start P order)
+  first_layable : (order : List ℕ) → start_verdict j order l ≡ (Ok tt) → Layable (first_state P order) (first_rooms P l.rooms) (plain_start P order)
   unfolding first_rooms
   first_layable order v =
       let r = (begun j order l v).rearranges in
@@ -255,7 +248,7 @@ module _ (bytes : List ℕ) (j : Job) (e : read_job bytes ≡ accepted j) (l : L
       }
 
   -- "Every layout our planner makes is accepted in filling order": after an accepted start, whatever the calls
-  pub calls_accepted : (order : List ℕ) → (start_of bytes order l).verdict ≡ Accepted → (calls : List Call)
+  pub calls_accepted : (order : List ℕ) → (start_of bytes order l).verdict ≡ (Ok tt) → (calls : List Call)
       → let cs = standing_of (after_calls bytes calls (start_of bytes order l).state (start_of bytes order l).lent.rooms).state in
       (layout_of bytes (layout_numbers j cs) l.rooms).judgement ≡ accepted_at (length cs)
   calls_accepted order v calls =
@@ -267,7 +260,7 @@ module _ (bytes : List ℕ) (j : Job) (e : read_job bytes ≡ accepted j) (l : L
       list_accepted _ _ _ k (begun j order l a.verdict_is).prepared
 
   -- the copies of a filling that ends
-  pub filled-accepted : (order : List ℕ) → start_verdict j order l ≡ Accepted → (s : State) → fill_order j l order ≡ filled s
+  pub filled-accepted : (order : List ℕ) → start_verdict j order l ≡ (Ok tt) → (s : State) → fill_order j l order ≡ filled s
       → (layout_of bytes (layout_numbers j (standing_of s)) l.rooms).judgement ≡ accepted_at (length (standing_of s))
   unfolding fill_order
   filled-accepted order v s f =
@@ -285,16 +278,16 @@ module _ (bytes : List ℕ) (j : Job) (e : read_job bytes ≡ accepted j) (l : L
   unfolding planned_with only_positions
   planned_shown s n a = record { positions_are = refl; list_accepted = a }
 
-  filling_shown : (order : List ℕ) → start_verdict j order l ≡ Accepted → (f : Filling) → fill_order j l order ≡ f → (planned_by j l f).verdict ≡ Accepted
+  filling_shown : (order : List ℕ) → start_verdict j order l ≡ (Ok tt) → (f : Filling) → fill_order j l order ≡ f → (planned_by j l f).verdict ≡ (Ok tt)
       → (s : State) × Shown (planned_by j l f).lent.positions s
   unfolding planned_by not_planned
   filling_shown order v (filled s) d a = (s, planned_shown s 0 (filled-accepted order v s d))
   filling_shown order v (stopped r) d a = absurd (refused≢accepted a)
 
-  pub fill-accepted : (order : List ℕ) → (fill_of bytes order l).verdict ≡ Accepted → (s : State) × Shown (fill_of bytes order l).lent.positions s
+  pub fill-accepted : (order : List ℕ) → (fill_of bytes order l).verdict ≡ (Ok tt) → (s : State) × Shown (fill_of bytes order l).lent.positions s
   unfolding fill_of fill_given not_planned
   fill-accepted order = rw e (λ v. go v (start_verdict j order l) refl)
     where
-      go : (fill_job j order l).verdict ≡ Accepted → (u : Verdict) → start_verdict j order l ≡ u → (s : State) × Shown (fill_job j order l).lent.positions s
-      go v Accepted d = rw (fill-runs j order l d) (filling_shown order d (fill_order j l order) refl (rw (fill-runs j order l d) at v))
-      go v (Refused r) d = absurd (refused≢accepted (sym (ap (λ r. r.verdict) (fill-stopped j order l r d)) ∙ v))
+      go : (fill_job j order l).verdict ≡ (Ok tt) → (u : Result (Unit {0}) Refusal) → start_verdict j order l ≡ u → (s : State) × Shown (fill_job j order l).lent.positions s
+      go v (Ok tt) d = rw (fill-runs j order l d) (filling_shown order d (fill_order j l order) refl (rw (fill-runs j order l d) at v))
+      go v (Err r) d = absurd (refused≢accepted (sym (ap (λ r. r.verdict) (fill-stopped j order l r d)) ∙ v))

@@ -1,4 +1,5 @@
 -- Copies that stand legally, as lines: what is judged of them, and their numbers read again. Assumes nothing.
+use Rattle.std.specs.Prelude.{Some, None}
 use Prim.Native.Nat.{ℕ, zero, suc, ◌+◌, ◌*◌, ◌/◌, ◌≤◌, ◌<◌}
 use native.Mathlib.Nat.{le_refl}
 use native.Mathlib.Omega.{arith}
@@ -13,7 +14,6 @@ use lib.Ieee.Bits.{of_bits-to_bits}
 use lib.Ieee.Scale as Scale
 use borrow.Author.Tests.{lt-ltb, ltb-true, eqb-true}
 use Rattle.numbers.specs.Numbers.{double_of}
-use Rattle.numbers.specs.declared.Double.TheVariants as Double
 use Rattle.numbers.proofs.Truth.{is_true, both_first, both_second}
 use Rattle.numbers.proofs.Doubles.{Number, finite, same}
 use Rattle.numbers.proofs.Patterns.{plus-number}
@@ -42,7 +42,7 @@ use Rattle.layouts.proofs.Exact.{Few}
 
 -- a standing copy, as a line
 abbrev pub line_of : Frame → Standing → PutLine
-line_of f c = record { kind = c.copy.kind; orientation = c.orientation; x = Double.Finite (sheet_place f c).x; y = Double.Finite (sheet_place f c).y }
+line_of f c = record { kind = c.copy.kind; orientation = c.orientation; x = Some (sheet_place f c).x; y = Some (sheet_place f c).y }
 
 -- ---- what is judged of it
 
@@ -147,7 +147,7 @@ few_stand j f s r t k l =
 -- ---- the list as numbers
 
 -- a number's bits are read as the number
-number_read : (x : Float) → Number x → double_of (to_bits binary64 x) ≡ Double.Finite x
+number_read : (x : Float) → Number x → double_of (to_bits binary64 x) ≡ Some x
 unfolding double_of
 number_read x X =
     let p = plus-number x (finite X) in
@@ -184,7 +184,7 @@ pub lines_are : (j : Job) (p : Planner) (st : List Float) (cs : List Standing) �
 unfolding lines_of layout_numbers
 lines_are j p st cs h =
     let f = frame_of j.header in
-    let none : PutLine = record { kind = 0; orientation = 0; x = Double.NotFinite; y = Double.NotFinite } in
+    let none : PutLine = record { kind = 0; orientation = 0; x = None; y = None } in
     let n : length (Numbers f cs) / 4 ≡ length cs = (let e = numbers-long f cs in omega arith) in
     ap (λ (m : ℕ). map (line_at (Numbers f cs)) (up_from m 0)) n
     ∙ up_from_list (line_at (Numbers f cs)) (map (line_of f) cs) (length cs) none (length-map cs (line_of f)) (λ i b. line_read f p st cs h i b none)

@@ -1,4 +1,5 @@
 -- When a line is accepted, and what the lines after it come to; what of stored strips fits where all fit. Assumes nothing.
+use Rattle.std.specs.Prelude.{Result, Ok, Err}
 use Prim.Native.Nat.{ℕ, ◌+◌, ◌≤◌, ◌<◌}
 use native.Mathlib.Omega.{arith}
 use mathlib.Core.Path.{◌≡◌}
@@ -16,8 +17,6 @@ use Rattle.frames.specs.declared.Frame.{Frame}
 use Rattle.job.specs.Jobs.{Job, frame_of}
 use Rattle.filling.specs.declared.Refusal.{Refusal}
 use Rattle.filling.specs.declared.Refusal.TheVariants as Why
-use Rattle.filling.specs.declared.Verdict.{Verdict}
-use Rattle.filling.specs.declared.Verdict.TheVariants.{Accepted, Refused}
 use Rattle.filling.specs.Refusals.{refuse_if}
 use Rattle.filling.specs.Shapes.{Planner, shape_of, moved_strips}
 use Rattle.filling.specs.Rooms.{Rooms}
@@ -54,23 +53,23 @@ entries-together b st new s t = entries_append (sheet_index b) st new s t
 
 module _ (p : Planner) (w : Rooms) where
   pub stored_if : (st : List Float) → capacity st ≤ standing_capacity w.placed w.placed_firsts
-      → length (entries_for p.bounds st) ≤ length w.placed_entries → store_verdict p w st ≡ Accepted
+      → length (entries_for p.bounds st) ≤ length w.placed_entries → store_verdict p w st ≡ (Ok tt)
   unfolding store_verdict refuse_if
   stored_if st a b =
       rw (le-ltb (standing_capacity w.placed w.placed_firsts) (capacity st) a, le-ltb (length w.placed_entries) (length (entries_for p.bounds st)) b)
 
-  pub if_stored : (st : List Float) → store_verdict p w st ≡ Accepted
+  pub if_stored : (st : List Float) → store_verdict p w st ≡ (Ok tt)
       → (capacity st ≤ standing_capacity w.placed w.placed_firsts) × (length (entries_for p.bounds st) ≤ length w.placed_entries)
   unfolding store_verdict
   if_stored st v =
       let room = standing_capacity w.placed w.placed_firsts in
       let entries = length (entries_for p.bounds st) in
-      let a = later_accepted (ltb room (capacity st)) Why.StripRoom (refuse_if (ltb (length w.placed_entries) entries) Why.EntryRoom Accepted) v in
-      let b = later_accepted (ltb (length w.placed_entries) entries) Why.EntryRoom Accepted a.1 in
+      let a = later_accepted (ltb room (capacity st)) Why.StripRoom (refuse_if (ltb (length w.placed_entries) entries) Why.EntryRoom (Ok tt)) v in
+      let b = later_accepted (ltb (length w.placed_entries) entries) Why.EntryRoom (Ok tt) a.1 in
       (ltb-false room (capacity st) a.0, ltb-false (length w.placed_entries) entries b.0)
 
   -- a part of what fits fits
-  pub stored_less : (st new : List Float) → Sixfold st → Sixfold new → store_verdict p w (st ++ new) ≡ Accepted → store_verdict p w st ≡ Accepted
+  pub stored_less : (st new : List Float) → Sixfold st → Sixfold new → store_verdict p w (st ++ new) ≡ (Ok tt) → store_verdict p w st ≡ (Ok tt)
   stored_less st new s t v =
       let h = if_stored (st ++ new) v in
       let c = capacity_append st new s t in
@@ -90,14 +89,14 @@ module _ (j : Job) (p : Planner) (w : Rooms) (kinds : List ℕ) (st : List Float
     pub few : count_in l.kind kinds < quantity_of j l.kind
     pub range : in_range p (shape_of p l.kind l.orientation) (place_of F l) ≡ true
     pub clears : clear p st (shape_of p l.kind l.orientation) (place_of F l) ≡ true
-    pub stores : store_verdict p w (st ++ line_strips p F l) ≡ Accepted
+    pub stores : store_verdict p w (st ++ line_strips p F l) ≡ (Ok tt)
 
-  pub passes-accepted : Passes → line_verdict j p w kinds st l ≡ Accepted
+  pub passes-accepted : Passes → line_verdict j p w kinds st l ≡ (Ok tt)
   unfolding line_verdict place_verdict refuse_if
   passes-accepted h =
       rw (h.read, h.has, lt-leb (quantity_of j l.kind) (count_in l.kind kinds) h.few, h.range, h.clears, h.stores)
 
-  abbrev Stored : Verdict
+  abbrev Stored : Result (Unit {0}) Refusal
   Stored = store_verdict p w (st ++ line_strips p F l)
 
   abbrev Off : Bool
@@ -109,10 +108,10 @@ module _ (j : Job) (p : Planner) (w : Rooms) (kinds : List ℕ) (st : List Float
   abbrev Used : Bool
   Used = leb (quantity_of j l.kind) (count_in l.kind kinds)
 
-  abbrev From25 : Verdict
+  abbrev From25 : Result (Unit {0}) Refusal
   From25 = refuse_if Used Why.TooManyOfKind (refuse_if Off Why.OutsideRange (refuse_if Hit Why.InTheWay Stored))
 
-  pub accepted-passes : line_verdict j p w kinds st l ≡ Accepted → Passes
+  pub accepted-passes : line_verdict j p w kinds st l ≡ (Ok tt) → Passes
   unfolding line_verdict place_verdict
   accepted-passes v =
       let lacking = lacks j l.kind l.orientation in
@@ -131,12 +130,12 @@ module _ (j : Job) (p : Planner) (w : Rooms) (kinds : List ℕ) (st : List Float
       }
 
   -- the lines after it
-  pub line_on : (ls : List PutLine) → line_verdict j p w kinds st l ≡ Accepted
+  pub line_on : (ls : List PutLine) → line_verdict j p w kinds st l ≡ (Ok tt)
       → layout_from j p w kinds st (l ∷ ls) ≡ layout_from j p w (kinds ++ (l.kind ∷ [])) (st ++ line_strips p F l) ls
   unfolding layout_from
   line_on ls v = rw (v, layout_from)
 
-  pub line-bad : (ls : List PutLine) (r : Refusal) → line_verdict j p w kinds st l ≡ Refused r
-      → layout_from j p w kinds st (l ∷ ls) ≡ record { verdict = Refused r; line = length kinds }
+  pub line-bad : (ls : List PutLine) (r : Refusal) → line_verdict j p w kinds st l ≡ Err r
+      → layout_from j p w kinds st (l ∷ ls) ≡ record { verdict = Err r; line = length kinds }
   unfolding layout_from
   line-bad ls r v = rw (v, layout_from)

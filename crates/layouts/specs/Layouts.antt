@@ -1,10 +1,9 @@
 -- Document 02, W6, layouts from the bureau: a job and a list of placed panels, accepted, or refused at its first bad line. Definitions only.
 -- Assumes nothing.
+use Rattle.std.specs.Prelude.{Option, Some, None, Result, Ok, Err}
 use Rattle.std.specs.Prelude.{ℕ, zero, suc, ◌+◌, ◌*◌, ◌/◌, Bool, true, false, not, ◌&&◌, ◌||◌, List, [], ◌∷◌, ◌++◌, map, length, get_or, leb, Float}
 use Rattle.std.specs.Float.Ieee.{le, eq}
 use Rattle.numbers.specs.Numbers.{pos_zero, double_of}
-use Rattle.numbers.specs.declared.Double.{Double}
-use Rattle.numbers.specs.declared.Double.TheVariants.{Finite, NotFinite}
 use Rattle.index.specs.Buckets.{up_from}
 use Rattle.index.specs.Intervals.{forbidden_of}
 use Rattle.look.specs.height.Smallest.{outside}
@@ -15,8 +14,6 @@ use Rattle.frames.specs.Frames.{to}
 use Rattle.job.specs.Jobs.{Job, Answer, accepted, refused, read_job, frame_of}
 use Rattle.filling.specs.declared.Refusal.{Refusal}
 use Rattle.filling.specs.declared.Refusal.TheVariants as Why
-use Rattle.filling.specs.declared.Verdict.{Verdict}
-use Rattle.filling.specs.declared.Verdict.TheVariants.{Accepted, Refused}
 use Rattle.filling.specs.Refusals.{refuse_if}
 use Rattle.filling.specs.Columns.{column_at}
 use Rattle.filling.specs.Shapes.{Shape, Planner, planner_of, shape_of, moved_strips}
@@ -46,14 +43,14 @@ line_at given i =
 unfoldable pub lines_of : List ℕ → List PutLine
 lines_of given = map (line_at given) (up_from (length given / 4) 0)
 
-unfoldable pub is_finite : Double → Bool
-is_finite (Finite x) = true
-is_finite NotFinite = false
+unfoldable pub is_finite : Option Float → Bool
+is_finite (Some x) = true
+is_finite None = false
 
 -- a finite number's value
-unfoldable pub value_of : Double → Float
-value_of (Finite x) = x
-value_of NotFinite = pos_zero
+unfoldable pub value_of : Option Float → Float
+value_of (Some x) = x
+value_of None = pos_zero
 
 -- "positions go through `to` before they are judged"
 unfoldable pub place_of : Frame → PutLine → Point
@@ -91,7 +88,7 @@ quantity_of j k = get_or (map (λ a. a.quantity) j.kinds) k 0
 -- ---- a line; kinds and standing strips are those of the lines before it
 
 -- "9 for a missing kind or orientation, 25 for too many copies, 26 outside the range, 27 in the way, then 20 or 21 for that copy's strips or entries"
-unfoldable pub place_verdict : Job → Planner → Rooms → List ℕ → List Float → PutLine → Verdict
+unfoldable pub place_verdict : Job → Planner → Rooms → List ℕ → List Float → PutLine → Result (Unit {0}) Refusal
 place_verdict j p w kinds standing l =
     let f = frame_of j.header in
     let s = shape_of p l.kind l.orientation in
@@ -102,7 +99,7 @@ place_verdict j p w kinds standing l =
     (store_verdict p w (standing ++ line_strips p f l)))))
 
 -- "4 for a non-finite number" before the others
-unfoldable pub line_verdict : Job → Planner → Rooms → List ℕ → List Float → PutLine → Verdict
+unfoldable pub line_verdict : Job → Planner → Rooms → List ℕ → List Float → PutLine → Result (Unit {0}) Refusal
 line_verdict j p w kinds standing l =
     refuse_if (not (is_finite l.x && is_finite l.y)) (Why.Job Input.NonFinite) (place_verdict j p w kinds standing l)
 
@@ -110,22 +107,22 @@ line_verdict j p w kinds standing l =
 
 -- "at the first bad line"; its number is that of the lines before it
 unfoldable pub layout_from : Job → Planner → Rooms → List ℕ → List Float → List PutLine → Judgement
-layout_from j p w kinds standing [] = record { verdict = Accepted; line = length kinds }
+layout_from j p w kinds standing [] = record { verdict = Ok tt; line = length kinds }
 layout_from j p w kinds standing (l ∷ ls) =
     elim (line_verdict j p w kinds standing l) [
-      | Accepted ↦ layout_from j p w (kinds ++ (l.kind ∷ [])) (standing ++ line_strips p (frame_of j.header) l) ls
-      | Refused r ↦ record { verdict = Refused r; line = length kinds }
+      | Ok tt ↦ layout_from j p w (kinds ++ (l.kind ∷ [])) (standing ++ line_strips p (frame_of j.header) l) ls
+      | Err r ↦ record { verdict = Err r; line = length kinds }
     ]
 
 -- refused before the first line
 unfoldable pub not_judged : Refusal → Judgement
-not_judged r = record { verdict = Refused r; line = 0 }
+not_judged r = record { verdict = Err r; line = 0 }
 
 -- "It refuses a job as the plan does, then at the first bad line"
 unfoldable pub layout_job : Job → List PutLine → Rooms → Judgement
 layout_job j ls w =
     let p = planner_of j in
-    elim (prepare_verdict p w) [ Accepted ↦ layout_from j p w [] [] ls | Refused r ↦ not_judged r ]
+    elim (prepare_verdict p w) [ Ok tt ↦ layout_from j p w [] [] ls | Err r ↦ not_judged r ]
 
 -- a job that is refused: its number
 unfoldable pub layout_given : Answer → List PutLine → Rooms → Judgement

@@ -1,4 +1,5 @@
 -- After a start, and as long as the tables are what it left, the leaf hands back the strips of the job's own orientation. Assumes nothing.
+use Rattle.std.specs.Prelude.{Ok}
 use Prim.Native.Nat.{ℕ, zero, suc, ◌+◌, ◌*◌, ◌<◌}
 use mathlib.Core.Path.{◌≡◌, refl, sym, ap, subst, ◌∙◌}
 use mathlib.Core.Bool.{Bool, false, ◌&&◌, cond}
@@ -10,7 +11,6 @@ use borrow.Author.Tests.{ltb-true, not-false}
 use Rattle.job.specs.Jobs.{Job, accepted, read_job}
 use Rattle.filling.specs.declared.Tables.{Tables}
 use Rattle.filling.specs.declared.State.{State}
-use Rattle.filling.specs.declared.Verdict.TheVariants.{Accepted}
 use Rattle.filling.specs.Refusals.{is_refused}
 use Rattle.filling.specs.Shapes.{Shape, Planner, no_shape, shape_of, planner_of}
 use Rattle.filling.specs.Rooms.{Rooms, Lent}
@@ -74,7 +74,7 @@ module _ (j : Job) (k o : ℕ) (h : lacks j k o ≡ false) where
     handed bytes e flag = rw (sym (verdict_had bytes k o j e h)) (part_is flag ∙ ap (λ (s : Shape). cond flag s.inset s.apart) shape_is)
 
   -- after a start that was not refused
-  pub handed_after-start : (bytes order : List ℕ) (l : Lent) → read_job bytes ≡ accepted j → (start_of bytes order l).verdict ≡ Accepted → (flag : Bool)
+  pub handed_after-start : (bytes order : List ℕ) (l : Lent) → read_job bytes ≡ accepted j → (start_of bytes order l).verdict ≡ (Ok tt) → (flag : Bool)
       → let r = start_of bytes order l in
       strips_by_kind bytes r.state.tables.parts (apart_room r.state.tables r.lent.rooms.shapes)
       (inset_room r.state.tables r.lent.rooms.shapes) k o flag

@@ -8,8 +8,7 @@ ghost use Rattle.job.specs.Jobs.{Job};
 ghost use Rattle.filling.specs.Leaf.{lacks, shape_verdict, strips_by_kind};
 ghost use Rattle.accounts.specs.tables.inner.Tabled.{Tabled};
 
-use filling::{Refusal, Verdict};
-use job::JobRead;
+use filling::Refusal;
 
 // Whether the job that was read into the tables lacks the orientation of the kind. Only crates of ours
 // call it.
@@ -17,15 +16,7 @@ pub fn lacks(rows: &[u64], kinds: u64, kind: usize, orientation: usize) -> bool
     requires { (kinds ≤ 64) × (256 ≤ length rows.now) }
     ensures { (j : Job) (areas : List Float) → Tabled j rows.now areas → length j.kinds ≡ kinds → result ≡ lacks j kind orientation }
 {
-    let number = kinds as usize;
-    if number <= kind {
-        return true;
-    }
-    let orientations = rows[4 * kind + 3] as usize;
-    if orientation < orientations {
-        return false;
-    }
-    true
+    kinds as usize <= kind || rows[4 * kind + 3] as usize <= orientation
 }
 
 // Of the four numbers of a slot the one at `field`; 0 where the table ends before.
@@ -33,35 +24,25 @@ fn number_at(parts: &[usize], kind: usize, orientation: usize, field: usize) -> 
     requires { field < 4 }
     ensures { result ≡ get_or parts.now (4 * (16 * kind + orientation) + field) 0 }
 {
-    if parts.len() / 64 < kind {
+    if parts.len() / 64 < kind || parts.len() / 4 < orientation {
         return 0;
     }
-    if parts.len() / 4 < orientation {
-        return 0;
-    }
-    let at = 4 * (16 * kind + orientation) + field;
-    if at < parts.len() {
-        return parts[at];
-    }
-    0
+    *parts
+        .get(4 * (16 * kind + orientation) + field)
+        .unwrap_or(&0)
 }
 
 // Whether the job has the orientation of the kind: the job's number, 9, or accepted.
-pub fn shape_verdict(bytes: &[u8], kind: usize, orientation: usize) -> Verdict
+pub fn shape_verdict(bytes: &[u8], kind: usize, orientation: usize) -> Result<(), Refusal>
     ensures { result ≡ shape_verdict bytes.now kind orientation }
 {
     let j = job::read(bytes);
+    let (h, _, _) = j.answer?;
     let rows = j.rows;
-    let answer = j.answer;
-    match answer {
-        JobRead::Good(h, _, _) => {
-            if lacks(&rows, h.kinds, kind, orientation) {
-                return Verdict::Refused(Refusal::MissingShape);
-            }
-            Verdict::Accepted
-        }
-        JobRead::NoJob(k) => Verdict::Refused(Refusal::Job(k)),
+    if lacks(&rows, h.kinds, kind, orientation) {
+        return Err(Refusal::MissingShape);
     }
+    Ok(())
 }
 
 // The inset strips or the apart strips of one orientation; an empty part where `shape_verdict`
@@ -78,15 +59,11 @@ pub fn strips_by_kind<'a>(
     ensures { result.now ≡ strips_by_kind bytes.now parts.now apart.now inset.now
         kind orientation is_inset }
 {
-    let Verdict::Accepted = shape_verdict(bytes, kind, orientation) else {
+    if shape_verdict(bytes, kind, orientation).is_err() {
         return &apart[0..0];
-    };
-    if is_inset {
-        let from = number_at(parts, kind, orientation, 2);
-        let count = number_at(parts, kind, orientation, 3);
-        return trapezoid::strips_of(apart, inset, true, from, count);
     }
-    let from = number_at(parts, kind, orientation, 0);
-    let count = number_at(parts, kind, orientation, 1);
-    trapezoid::strips_of(apart, inset, false, from, count)
+    let field = if is_inset { 2 } else { 0 };
+    let from = number_at(parts, kind, orientation, field);
+    let count = number_at(parts, kind, orientation, field + 1);
+    trapezoid::strips_of(apart, inset, is_inset, from, count)
 }

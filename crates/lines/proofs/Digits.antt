@@ -7,7 +7,7 @@ use native.Mathlib.Omega.{arith}
 use lib.ListN.{length, length-append}
 use lib.Ieee.{Float, binary64, to_bits}
 use borrow.Author.Tests.{lt-ltb, le-ltb}
-use Rattle.numbers.proofs.Truth.{below_or_not}
+use Rattle.numbers.proofs.Truth.{below_or_not, not-below-zero}
 use Rattle.nesting.specs.Text.{decimal_up_to, decimal, hex_digit, hex_up_to, hex}
 
 pub up_small : (d n : ℕ) → n < 10 → decimal_up_to (suc d) n ≡ (48 + n) ∷ []
@@ -75,10 +75,6 @@ decimal-one n h = ap length (sym (decimal-small n h))
 
 -- ---- hex
 
-pub above-none : (d : ℕ) → (d ≡ 0 → ⊥) → 1 ≤ d
-above-none zero h = absurd (h refl)
-above-none (suc d) h = omega arith
-
 pub hex-small : (d : ℕ) → d < 10 → 48 + d ≡ hex_digit d
 unfolding hex_digit
 hex-small d h = rw (lt-ltb d 10 h, hex_digit)
@@ -91,9 +87,9 @@ pub hex-none : (d n : ℕ) → d ≡ 0 → [] ≡ hex_up_to d n
 unfolding hex_up_to
 hex-none d n e = rw e
 
-pub hex_more : (d n : ℕ) → (d ≡ 0 → ⊥) → hex_up_to (d - 1) (n / 16) ++ (hex_digit (n % 16) ∷ []) ≡ hex_up_to d n
+pub hex_more : (d n : ℕ) → 0 < d → hex_up_to (d - 1) (n / 16) ++ (hex_digit (n % 16) ∷ []) ≡ hex_up_to d n
 unfolding hex_up_to
-hex_more zero n h = absurd (h refl)
+hex_more zero n h = absurd (not-below-zero 0 h)
 hex_more (suc d) n h = let e : suc d - 1 ≡ d = omega arith in rw e
 
 pub up_hex-length : (d n : ℕ) → length (hex_up_to d n) ≡ d

@@ -1,4 +1,5 @@
 -- What the room holds after both listings gives the look of the definition. Assumes nothing.
+use Rattle.std.specs.Prelude.{Option, Ok, Err}
 use Prim.Native.Nat.{ℕ, ◌+◌, ◌/◌, ◌≤◌, ◌<◌}
 use native.Mathlib.Omega.{arith}
 use mathlib.Core.Path.{◌≡◌, sym, ap, ◌∙◌}
@@ -20,20 +21,19 @@ use Rattle.index.proofs.Steps.{push_all_append}
 use Rattle.index.proofs.Flat.{perm_length, perm_mem, perm_append}
 use Rattle.index.proofs.Listed.{listed_perm, laid_usable}
 use Rattle.index.proofs.Collecting.{push-fits, push_over}
-use Rattle.look.specs.declared.height.Look.{Look}
 use Rattle.look.specs.height.Smallest.{height_of}
 use Rattle.look.specs.height.inner.Raising.{FiniteEnds}
-use Rattle.look.specs.declared.Answer.TheVariants.{NoRoom, Seen}
+use Rattle.index.specs.declared.Overrun.TheVariants.{IntervalRoom}
 use Rattle.look.specs.Looking.{counted_in}
 use Rattle.look.specs.inner.Ready.{BoundedStrips, Lookable, answer_of}
 use Rattle.look.proofs.IntervalEnds.{widen, moved-x0, moved-x1}
 use Rattle.look.proofs.Counted.{same_look, counted_finite}
 
-answer_over : (cap : ℕ) (yl yh : Float) (is : List Interval) → cap < length is → answer_of cap yl yh is ≡ NoRoom
+answer_over : (cap : ℕ) (yl yh : Float) (is : List Interval) → cap < length is → answer_of cap yl yh is ≡ Err IntervalRoom
 unfolding answer_of
 answer_over cap yl yh is h = rw (lt-ltb cap (length is) h, answer_of)
 
-answer-fits : (cap : ℕ) (yl yh : Float) (is : List Interval) → length is ≤ cap → answer_of cap yl yh is ≡ Seen (height_of yl yh is)
+answer-fits : (cap : ℕ) (yl yh : Float) (is : List Interval) → length is ≤ cap → answer_of cap yl yh is ≡ Ok (height_of yl yh is)
 unfolding answer_of
 answer-fits cap yl yh is h = rw (le-ltb cap (length is) h, answer_of)
 
@@ -70,14 +70,14 @@ module _ (r r' : List Float) (n : ℕ) (l is : List Interval) (E : collected r' 
     pub holds_finite : n ≤ length r / 2 → FiniteEnds (intervals r' n)
     holds_finite h = rw (holds h) (λ i m. G i (perm_mem P i m))
 
-    pub refused : length r / 2 < n → NoRoom ≡ answer_of (length r / 2) yl yh is
+    pub refused : length r / 2 < n → Err IntervalRoom ≡ answer_of (length r / 2) yl yh is
     refused h = sym (answer_over (length r / 2) yl yh is (let a = over h in omega (arith, perm_length P)))
 
-    pub seen : n ≤ length r / 2 → (v : Look) → v ≡ height_of yl yh (intervals r' n) → Seen v ≡ answer_of (length r / 2) yl yh is
+    pub seen : n ≤ length r / 2 → (v : Option (Float × Float)) → v ≡ height_of yl yh (intervals r' n) → Ok v ≡ answer_of (length r / 2) yl yh is
     seen h v e =
         let c = counts-right h in
         let same = same_look yl yh L H l is (λ i m. G i (perm_mem P i m)) G (λ i m. perm_mem P i m) (λ i m. perm_mem (Permᴰ.symm P) i m) in
-        ap Seen (e ∙ (ap (height_of yl yh) (holds h) ∙ same)) ∙ sym (answer-fits (length r / 2) yl yh is (omega (arith, perm_length P)))
+        ap Ok (e ∙ (ap (height_of yl yh) (holds h) ∙ same)) ∙ sym (answer-fits (length r / 2) yl yh is (omega (arith, perm_length P)))
 
 -- ---- of a look
 module _ (ix : Index) (x yl yh : Float) (inset apart sheet placed : List Float) (se ss pe ps : List ℕ) (A : Lookable ix x yl yh inset apart sheet placed se ss pe ps) where

@@ -1,4 +1,5 @@
 -- Strips with level sides on multiples of 1 / 1024: their heights, their move and the ends of their forbidden intervals are exact. Assumes nothing.
+use Rattle.std.specs.Prelude.{Some, None}
 use Prim.Native.Nat.{ℕ, ◌+◌, ◌*◌, ◌^◌, ◌≤◌, ◌<◌}
 use native.Mathlib.Omega.{arith}
 use mathlib.Core.Path.{◌≡◌, refl, sym, ap, ◌∙◌, subst}
@@ -16,7 +17,6 @@ use Rattle.trapezoid.specs.declared.Trapezoid.{Trapezoid}
 use Rattle.trapezoid.specs.declared.Heights.{Heights}
 use Rattle.trapezoid.specs.Strip.{heights_at, between, moved_by}
 use Rattle.index.specs.declared.Interval.{Interval}
-use Rattle.index.specs.declared.Meeting.TheVariants.{Apart, Forbidden}
 use Rattle.index.specs.Intervals.{interval_of, meeting_of}
 use Rattle.index.specs.inner.Listing.{Bounded}
 use Rattle.look.specs.inner.Ready.{BoundedStrip}
@@ -150,7 +150,7 @@ larger-same a = go (lt a a)
     go true = refl
     go false = refl
 
-pub level_interval : (p q : Trapezoid) (x : Float) → LevelStrip p → LevelStrip q → Bounded 3000000 x → (i : Interval) → meeting_of q x p ≡ Forbidden i → ExactInterval p q i
+pub level_interval : (p q : Trapezoid) (x : Float) → LevelStrip p → LevelStrip q → Bounded 3000000 x → (i : Interval) → meeting_of q x p ≡ Some i → ExactInterval p q i
 level_interval p q x P Q X i e = go (either (lt a b))
   where
     a : Float
@@ -168,10 +168,10 @@ level_interval p q x P Q X i e = go (either (lt a b))
     j : Interval
     j = interval_of (heights_at p a) (heights_at p b) (heights_at q (a ⊖ x)) (heights_at q (b ⊖ x))
 
-    over : lt a b ≡ true → meeting_of q x p ≡ Forbidden j
+    over : lt a b ≡ true → meeting_of q x p ≡ Some j
     over t = unfold meeting_of in rw (t, meeting_of)
 
-    apart : lt a b ≡ false → meeting_of q x p ≡ Apart
+    apart : lt a b ≡ false → meeting_of q x p ≡ None
     apart t = unfold meeting_of in rw (t, meeting_of)
 
     ph : (y : Float) → Bounded 4000000 y → heights_at p y ≡ record { low = p.low0; high = p.high0 }
@@ -193,5 +193,5 @@ level_interval p q x P Q X i e = go (either (lt a b))
     go (inl t) = let z : j ≡ i = cc (over t) in subst (ExactInterval p q) z exact
     go (inr t) = absurd (no (sym (apart t) ∙ e))
       where
-        no : {i : Interval} → Apart ≡ Forbidden i → ⊥
+        no : {i : Interval} → None ≡ Some i → ⊥
         no e = let z : ◌≡◌ {A = ℕ} 0 1 = cc in omega arith

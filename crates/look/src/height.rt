@@ -7,13 +7,6 @@ ghost use Rattle.look.specs.height.inner.Raising.{lift, raised, lower, from_last
 
 use index::Interval;
 
-// A look's answer (document 01; 02, W7): a free height and the clear height above it, or full.
-#[derive(Clone, Copy)]
-pub enum Look {
-    Free(f64, f64),
-    Full,
-}
-
 // The pass after which the intervals are sorted: a few passes settle most looks.
 const SORTED_AT: usize = 4;
 
@@ -21,10 +14,8 @@ const SORTED_AT: usize = 4;
 fn lifted(y: f64, i: Interval) -> f64
     ensures { result ≡ lift y i }
 {
-    if i.from < y {
-        if y < i.to {
-            return i.to;
-        }
+    if i.from < y && y < i.to {
+        return i.to;
     }
     y
 }
@@ -40,45 +31,23 @@ fn interval(room: &[f64], k: usize) -> Interval
     }
 }
 
-// One pass from the first interval to the last: y goes up to the top of each that it lies in.
-fn raise_up(room: &[f64], n: usize, from: f64) -> f64
-    requires { 2 * n ≤ length room.now }
-    ensures { result ≡ raised from (intervals room.now n) }
-{
-    let mut y = from;
-    let mut k = 0;
-    while k < n {
-        let i = interval(room, k);
-        y = lifted(y, i);
-        k += 1;
-    }
-    y
-}
-
-// The same from the last interval to the first.
-fn raise_down(room: &[f64], n: usize, from: f64) -> f64
-    requires { 2 * n ≤ length room.now }
-    ensures { result ≡ raised from (from_last room.now n) }
-{
-    let mut y = from;
-    let mut k = n;
-    while k > 0 {
-        k -= 1;
-        let i = interval(room, k);
-        y = lifted(y, i);
-    }
-    y
-}
-
-// The pass number `turn`: even ones run up, odd ones down.
+// The pass number `turn`: y goes up to the top of each interval that it lies in. Even passes run from
+// the first interval to the last, odd ones back.
 fn raise(room: &[f64], n: usize, from: f64, turn: usize) -> f64
     requires { 2 * n ≤ length room.now }
     ensures { result ≡ raised from (in_turn room.now n turn) }
 {
+    let mut y = from;
     if turn % 2 == 0 {
-        return raise_up(room, n, from);
+        for k in 0..n {
+            y = lifted(y, interval(room, k));
+        }
+    } else {
+        for k in (0..n).rev() {
+            y = lifted(y, interval(room, k));
+        }
     }
-    raise_down(room, n, from)
+    y
 }
 
 // Exchanges the intervals number i and j.
@@ -86,19 +55,13 @@ fn swap(room: &mut [f64], i: usize, j: usize)
     requires { (2 * i + 2 ≤ length room.old) × (2 * j + 2 ≤ length room.old) }
     ensures { room.new ≡ swapped room.old i j }
 {
+    // by hand: std's `swap` asks first which of the two places is the lower
     let a = room[2 * i];
     let b = room[2 * i + 1];
     room[2 * i] = room[2 * j];
     room[2 * i + 1] = room[2 * j + 1];
     room[2 * j] = a;
     room[2 * j + 1] = b;
-}
-
-// 1 or 0.
-fn one_if(test: bool) -> usize
-    ensures { result ≤ 1 }
-{
-    test as usize
 }
 
 // Of the children of a heap's node, the one whose interval begins higher.
@@ -108,7 +71,7 @@ fn higher_child(room: &[f64], child: usize, end: usize) -> usize
 {
     if child + 1 < end {
         let second = room[2 * child] < room[2 * (child + 1)];
-        return child + one_if(second);
+        return child + usize::from(second);
     }
     child
 }
@@ -119,6 +82,7 @@ fn sift_down(room: &mut [f64], start: usize, end: usize)
     ensures { Rearranged end room.old room.new }
 {
     let mut root = start;
+    // the next root is a child of this one: no `for`
     while root < end / 2 {
         let c = higher_child(room, 2 * root + 1, end);
         if room[2 * root] < room[2 * c] {
@@ -135,9 +99,7 @@ fn heapify(room: &mut [f64], n: usize)
     requires { 2 * n ≤ length room.old }
     ensures { Rearranged n room.old room.new }
 {
-    let mut start = n / 2;
-    while start > 0 {
-        start -= 1;
+    for start in (0..n / 2).rev() {
         sift_down(room, start, n);
     }
 }
@@ -148,9 +110,7 @@ fn sort(room: &mut [f64], n: usize)
     requires { 2 * n ≤ length room.old }
     ensures { Rearranged n room.old room.new }
 {
-    let mut end = n;
-    while end > 1 {
-        end -= 1;
+    for end in (1..n).rev() {
         swap(room, 0, end);
         sift_down(room, 0, end);
     }
@@ -188,27 +148,26 @@ fn next_bottom(room: &[f64], n: usize, h: f64, y_high: f64) -> f64
     ensures { result ≡ next_bottom y_high (intervals room.now n) h }
 {
     let mut next = y_high;
-    let mut k = 0;
-    while k < n {
+    for k in 0..n {
         let i = interval(room, k);
         next = lower_next(next, i, h);
-        k += 1;
     }
     next
 }
 
 // The smallest height from y_low to y_high that lies in none of the first n intervals of the room,
 // which are left in some other order, and how far it is from there up to the next interval.
-pub fn height(room: &mut [f64], n: usize, y_low: f64, y_high: f64) -> Look
+pub fn height(room: &mut [f64], n: usize, y_low: f64, y_high: f64) -> Option<(f64, f64)>
     requires { (2 * n ≤ length room.old) × Finite y_low × Finite y_high × FiniteEnds (intervals room.old n) }
     ensures { result ≡ height_of y_low y_high (intervals room.old n) }
 {
     let mut y = y_low;
-    let mut z = raise_up(room, n, y);
     let mut turn: usize = 0;
+    let mut z = raise(room, n, y, turn);
+    // passes go on until one raises nothing: no `for`
     while y < z {
         if y_high < z {
-            return Look::Full;
+            return None;
         }
         turn = next_turn(room, n, turn);
         y = z;
@@ -217,7 +176,7 @@ pub fn height(room: &mut [f64], n: usize, y_low: f64, y_high: f64) -> Look
     if y <= y_high {
         let h = numbers::plus_zero(y);
         let next = numbers::plus_zero(next_bottom(room, n, h, y_high));
-        return Look::Free(h, next - h);
+        return Some((h, next - h));
     }
-    Look::Full
+    None
 }

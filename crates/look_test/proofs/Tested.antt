@@ -1,11 +1,12 @@
 -- What tested numbers and entered strips give a look. Assumes nothing.
 use Prim.Native.Nat.{ℕ, ◌+◌, ◌*◌, ◌≤◌, ◌<◌}
 use native.Mathlib.Omega.{arith}
-use mathlib.Core.Path.{◌≡◌, refl, subst}
+use mathlib.Core.Path.{◌≡◌, refl, ap, subst}
 use mathlib.Core.Logic.{◌⊎◌, inl, inr}
 use mathlib.Core.Bool.{true, false}
 use mathlib.Core.List.{List}
-use lib.ListN.{length, get_or, get_or-eq_default}
+use lib.ListN.{length, get_or, get_or-eq_default, replicate, length-replicate}
+use Rattle.std.proofs.lemmas.List.{get_or-replicate}
 use lib.Dec.{T, lit≤}
 use lib.Ieee.{Float, binary64, nan, fits, le, of_bits, neg}
 use lib.Ieee.Exact.{HasValue}
@@ -69,6 +70,10 @@ entered ix l n entries starts before firsts e h k L W = record {
   laid = subst (λ (k : ℕ). Laid ix l k entries starts) e L;
   kept = record { long = omega (arith, e, h, k); right = λ i a. W.new i (omega arith) (omega (arith, e, a)) };
 }
+
+-- a table of zeros
+pub replicated : (n : ℕ) (l : List ℕ) → l ≡ replicate n 0 → (b : ℕ) → b < length l → get_or l b 0 ≡ 0
+replicated n l e b h = rw e (get_or-replicate n b 0 0 (omega (arith, h, ap length e, length-replicate {A = ℕ} n 0)))
 
 -- nothing stands past the end of a list
 pub all_zero : (l : List ℕ) → ((b : ℕ) → b < length l → get_or l b 0 ≡ 0) → (b : ℕ) → get_or l b 0 ≡ 0

@@ -11,10 +11,11 @@ mod input;
 mod show;
 
 ghost use Rattle.std.specs.Prelude.{◌≡◌, true, ℕ, ◌+◌, ◌*◌, ◌≤◌, ◌<◌, length, get_or};
+ghost use Rattle.std.specs.Float.{nan};
 ghost use Rattle.trapezoid.specs.Strip.{capacity};
 ghost use Rattle.index.specs.Buckets.{buckets};
 ghost use Rattle.index.specs.inner.Listing.{Bounded, FirstBuckets};
-ghost use Rattle.look.specs.inner.Ready.{BoundedStrips, Lookable};
+ghost use Rattle.look.specs.inner.Ready.{Lookable};
 ghost use Rattle.look_test.specs.inner.Fair.{FairColumn, FairStrips, Entered};
 
 use index::{Bucket, Entry, Index};
@@ -23,21 +24,15 @@ use index::{Bucket, Entry, Index};
 fn bounded(x: f64) -> bool
     ensures { result ≡ true → Bounded 1000000 x }
 {
-    if -1000000.0 <= x {
-        return x <= 1000000.0;
-    }
-    false
+    -1000000.0 <= x && x <= 1000000.0
 }
 
-// Whether all numbers of strips are.
-fn all_bounded(strips: &[f64]) -> bool
-    ensures { result ≡ true → BoundedStrips strips.now }
+// Whether all numbers are.
+fn all_bounded(xs: &[f64]) -> bool
+    ensures { result ≡ true → (i : ℕ) → i < length xs.now → Bounded 1000000 (get_or xs.now i nan) }
 {
-    let mut i = 0;
-    while i < strips.len() {
-        if bounded(strips[i]) {
-            i += 1;
-        } else {
+    for &x in xs {
+        if !bounded(x) {
             return false;
         }
     }
@@ -47,41 +42,13 @@ fn all_bounded(strips: &[f64]) -> bool
 fn fair_column(x0: f64, x1: f64, x: f64, low: f64, high: f64) -> bool
     ensures { result ≡ true → FairColumn x0 x1 x low high }
 {
-    if bounded(x0) {
-        if bounded(x1) {
-            if bounded(x) {
-                if bounded(low) {
-                    return bounded(high);
-                }
-            }
-        }
-    }
-    false
+    all_bounded(&[x0, x1, x, low, high])
 }
 
 fn fair_strips(sheet: &[f64], placed: &[f64], inset: &[f64], apart: &[f64]) -> bool
     ensures { result ≡ true → FairStrips sheet.now placed.now inset.now apart.now }
 {
-    if all_bounded(sheet) {
-        if all_bounded(placed) {
-            if all_bounded(inset) {
-                return all_bounded(apart);
-            }
-        }
-    }
-    false
-}
-
-// Empties all buckets.
-fn clear(starts: &mut [usize])
-    ensures { (b : ℕ) → get_or starts.new b 0 ≡ 0 }
-{
-    let n = starts.len();
-    let mut b = 0;
-    while b < n {
-        starts[b] = 0;
-        b += 1;
-    }
+    all_bounded(sheet) && all_bounded(placed) && all_bounded(inset) && all_bounded(apart)
 }
 
 // Enters all strips into empty buckets; whether their entries fit.
@@ -96,7 +63,7 @@ fn enter_all(
     requires { (length standing.now ≤ 6120) × (length starts.old ≡ buckets + 1) × (length gains.old ≡ buckets) × (1020 ≤ length firsts.old) }
     ensures { result ≡ true → Entered ix standing.now entries.new starts.new firsts.new }
 {
-    clear(starts);
+    starts.fill(0);
     let n = trapezoid::capacity(standing);
     enter::enter_copy(ix, standing, 0, n, entries, starts, gains, firsts)
 }
@@ -119,10 +86,7 @@ fn enter_both(
     ensures { result ≡ true → Entered ix sheet.now se.new ss.new sf.new
         × Entered ix placed.now pe.new ps.new pf.new }
 {
-    if enter_all(ix, sheet, se, ss, gains, sf) {
-        return enter_all(ix, placed, pe, ps, gains, pf);
-    }
-    false
+    enter_all(ix, sheet, se, ss, gains, sf) && enter_all(ix, placed, pe, ps, gains, pf)
 }
 
 // A look with the whole room, then with one interval fewer.
@@ -225,11 +189,9 @@ fn replay(head: &[u8], sheet: &[f64], put: &[f64], inset: &[f64], apart: &[f64],
     let x = input::double(head, 21);
     let lo = input::double(head, 29);
     let hi = input::double(head, 37);
-    if fair_column(x0, x1, x, lo, hi) {
-        if fair_strips(sheet, put, inset, apart) {
-            look_fresh(x0, x1, x, lo, hi, sheet, put, inset, apart, out);
-            return;
-        }
+    if fair_column(x0, x1, x, lo, hi) && fair_strips(sheet, put, inset, apart) {
+        look_fresh(x0, x1, x, lo, hi, sheet, put, inset, apart, out);
+        return;
     }
     show::show_bad();
 }
@@ -239,7 +201,7 @@ fn count(head: &[u8], at: usize) -> usize
     requires { at < length head.now }
     ensures { result ≤ 255 }
 {
-    input::wide(head[at]) as usize
+    usize::from(head[at])
 }
 
 // How many numbers a head's strips have.
@@ -283,41 +245,34 @@ fn replay_parts(head: &[u8], strips: &[f64], room: &mut [f64])
     requires { (45 ≡ length head.now) × (6120 ≡ length strips.now) × (510 ≡ length room.old) }
 {
     let e = ends_of(head);
-    let a = e.sheet;
-    let b = e.placed;
-    let c = e.inset;
-    let d = e.apart;
-    let n = e.room;
     replay(
         head,
-        &strips[..a],
-        &strips[a..b],
-        &strips[b..c],
-        &strips[c..d],
-        &mut room[..n],
+        &strips[..e.sheet],
+        &strips[e.sheet..e.placed],
+        &strips[e.placed..e.inset],
+        &strips[e.inset..e.apart],
+        &mut room[..e.room],
     );
 }
 
-// One look of the input, and one turn fewer; none where the input ends.
-fn turn(left: u64) -> u64
-    requires { 0 < left }
-    ensures { result < left }
-{
+// One look of the input; whether there was one.
+fn turn() -> bool {
     let mut head = [0u8; 45];
     let mut strips = [1.0f64; 6120];
     let mut room = [1.0f64; 510];
     let got = io::read_full(0, &mut head);
     if got < 45 {
-        return 0;
+        return false;
     }
-    input::read_doubles(numbers_of(&head), &mut strips);
+    input::read_doubles(&mut strips[..numbers_of(&head)]);
     replay_parts(&head, &strips, &mut room);
-    left - 1
+    true
 }
 
 fn main() {
-    let mut left: u64 = 1000000;
-    while left > 0 {
-        left = turn(left);
+    for _ in 0..1000000 {
+        if !turn() {
+            break;
+        }
     }
 }

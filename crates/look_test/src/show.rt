@@ -1,6 +1,5 @@
 // The lines of look_test: a look's answer.
-use look::Answer;
-use look::height::Look;
+use index::Overrun;
 
 fn show_free(h: f64, gap: f64) {
     io::write_all(1, b"free ");
@@ -10,25 +9,15 @@ fn show_free(h: f64, gap: f64) {
     io::write_all(1, b"\n");
 }
 
-fn show_full() {
-    io::write_all(1, b"full\n");
-}
-
-fn show_look(l: Look) {
-    match l {
-        Look::Free(h, gap) => show_free(h, gap),
-        Look::Full => show_full(),
-    }
-}
-
-fn show_refusal() {
-    io::write_all(1, b"no 22\n");
-}
-
-pub fn show(a: Answer) {
+pub fn show(a: Result<Option<(f64, f64)>, Overrun>) {
     match a {
-        Answer::NoRoom => show_refusal(),
-        Answer::Seen(l) => show_look(l),
+        Ok(Some((h, gap))) => show_free(h, gap),
+        Ok(None) => {
+            io::write_all(1, b"full\n");
+        }
+        Err(_) => {
+            io::write_all(1, b"no 22\n");
+        }
     }
 }
 

@@ -13,6 +13,7 @@ fn move_fours(s: &mut [Entry], from: usize, to: usize, by: usize) -> usize
     ensures { (from ≤ result) × (result ≤ to) × (result ≤ from + 4) × Moved result to by s.old s.new }
 {
     let mut j = to;
+    // a step is four entries: no `for`
     while j - from > 4 {
         j -= 4;
         let a = s[j];
@@ -33,9 +34,7 @@ fn move_ones(s: &mut [Entry], from: usize, to: usize, by: usize)
     requires { (from ≤ to) × (to + by ≤ length s.old) }
     ensures { Moved from to by s.old s.new }
 {
-    let mut j = to;
-    while j > from {
-        j -= 1;
+    for j in (from..to).rev() {
         s[j + by] = s[j];
     }
 }
@@ -75,6 +74,7 @@ fn move_eights(s: &mut [Entry], from: usize, to: usize, by: usize) -> usize
     ensures { (from + 4 ≤ result) × (result ≤ to) × Moved result to by s.old s.new }
 {
     let mut j = to;
+    // a step is eight entries: no `for`
     while j - from > 11 {
         j -= 8;
         let a = s[j];
@@ -141,10 +141,7 @@ pub fn shift(starts: &mut [usize], from: usize, by: usize)
     requires { (from ≤ length starts.old) × ((c : ℕ) → from ≤ c → c < length starts.old → get_or starts.old c 0 + by < 18446744073709551616) }
     ensures { Shifted from by starts.old (length starts.old) starts.new }
 {
-    let n = starts.len();
-    let mut b = from;
-    while b < n {
-        starts[b] = starts[b] + by;
-        b += 1;
+    for b in from..starts.len() {
+        starts[b] += by;
     }
 }

@@ -10,9 +10,8 @@ ghost use Rattle.report.specs.inner.Replies.{reply, reply_of};
 ghost use Rattle.report.specs.readied.inner.Zeroed.{Zeroed};
 ghost use Rattle.report.specs.Lent.{answered};
 
-use filling::Refusal;
+use filling::{Plan, Refusal};
 use index::{Bucket, Entry};
-use job::JobRead;
 use report::NestResult;
 
 // The whole plan of the job that the bytes are, in rooms that are zero.
@@ -27,7 +26,7 @@ fn nest_bytes(
     positions: &mut [f64],
     sheet_firsts: &mut [Bucket],
     placed_firsts: &mut [Bucket],
-) -> NestResult
+) -> Result<Plan, Refusal>
     requires { (l : Lent) × Zeroed l shapes.old sheet.old placed.old sheet_entries.old placed_entries.old
         intervals.old positions.old sheet_firsts.old placed_firsts.old }
     ensures { (l : Lent) → Zeroed l shapes.old sheet.old placed.old sheet_entries.old
@@ -35,37 +34,29 @@ fn nest_bytes(
         → reply result positions.new ≡ reply_of (nest_of bytes.now l) }
 {
     let j = job::read(bytes);
-    let rows = j.rows;
-    let areas = j.areas;
-    let places = j.places;
-    let answer = j.answer;
-    match answer {
-        JobRead::Good(h, at, copies) => {
-            let n = copies as usize;
-            plan_job::nest_job(
-                bytes,
-                at,
-                h,
-                n,
-                &rows,
-                &areas,
-                &places,
-                shapes,
-                sheet,
-                placed,
-                sheet_entries,
-                placed_entries,
-                intervals,
-                positions,
-                sheet_firsts,
-                placed_firsts,
-            )
-        }
-        JobRead::NoJob(k) => report::refused(Refusal::Job(k)),
-    }
+    let (h, at, copies) = j.answer?;
+    plan_job::nest_job(
+        bytes,
+        at,
+        h,
+        copies as usize,
+        &j.rows,
+        &j.areas,
+        &j.places,
+        shapes,
+        sheet,
+        placed,
+        sheet_entries,
+        placed_entries,
+        intervals,
+        positions,
+        sheet_firsts,
+        placed_firsts,
+    )
 }
 
 // The whole plan of the job: its verdict and plan; the positions lie in their room.
+// `fill` clears and answers alike: one function for both would take a closure over nine rooms.
 pub fn nest(
     bytes: &[u8],
     shapes: &mut [f64],
@@ -84,7 +75,7 @@ pub fn nest(
         (lent_of shapes.old sheet.old placed.old sheet_entries.old placed_entries.old
         sheet_firsts.old placed_firsts.old intervals.old positions.old) }
 {
-    rooms::zero(positions);
+    positions.fill(0.0);
     report::clear(
         shapes,
         sheet,
@@ -117,5 +108,5 @@ pub fn nest(
         sheet_firsts,
         placed_firsts,
     );
-    r
+    NestResult::from(r)
 }

@@ -10,8 +10,7 @@ use Rattle.look.proofs.Computing.{looking_computes}
 use Rattle.job.proofs.Computing.{jobs_compute}
 use Rattle.filling.proofs.Computing.{refusals_compute, columns_compute, shapes_compute, search_computes, choice_computes, rooms_compute, state_computes}
 use Rattle.filling.proofs.Computing.{order_computes, consistent_computes, start_computes, next-copy_computes, accounts_compute, fill_computes}
-use Rattle.filling.proofs.Computing.{withdraw_computes}
-use Rattle.filling.proofs.Computing.{calls_compute}
+use Rattle.filling.proofs.Computing.{withdraw_computes, calls_compute}
 use Rattle.random.specs.SplitMix64.{next_state, mixed}
 use Rattle.nesting.specs.CopyOrder.{same_priority, numbered, larger_first, higher_first, ahead, copy_order}
 use Rattle.nesting.specs.Rounds.{better_than, no_kind, swappable, swapped, judged, one_round, rounds, first_kept, swap_search}

@@ -1,5 +1,5 @@
 -- Document 01, "The printed plan": the lines as bytes. Definitions only. Assumes nothing.
-use Rattle.std.specs.Prelude.{ℕ, zero, suc, ◌+◌, ◌*◌, ◌/◌, ◌%◌, Bool, true, false, length, get_or, ltb, eqb, Float}
+use Rattle.std.specs.Prelude.{Result, Ok, Err, ℕ, zero, suc, ◌+◌, ◌*◌, ◌/◌, ◌%◌, Bool, true, false, length, get_or, ltb, eqb, Float}
 use mathlib.Core.List.{List, [], ◌∷◌, ◌++◌, flat_map}
 use Rattle.std.specs.Float.{nan, binary64}
 use Rattle.std.specs.Float.Ieee.{to_bits, to_unsigned}
@@ -8,8 +8,6 @@ use Rattle.job.specs.Jobs.{Job, Answer, accepted, refused, read_job}
 use Rattle.filling.specs.declared.Plan.{Plan}
 use Rattle.filling.specs.declared.Refusal.{Refusal}
 use Rattle.filling.specs.declared.Refusal.TheVariants as Why
-use Rattle.filling.specs.declared.Verdict.{Verdict}
-use Rattle.filling.specs.declared.Verdict.TheVariants.{Accepted, Refused}
 use Rattle.filling.specs.Refusals.{number_of}
 use Rattle.filling.specs.Rooms.{Lent}
 use Rattle.filling.specs.Accounts.{Position}
@@ -142,9 +140,9 @@ unfoldable pub refusal_text : Refusal → List ℕ
 refusal_text r = line no_word (decimal (number_of r) ∷ [])
 
 -- what is printed for a reply
-unfoldable pub reply_text : Job → Planned → Verdict → List ℕ
-reply_text j r Accepted = plan_text j r.plan r.lent.positions
-reply_text j r (Refused k) = refusal_text k
+unfoldable pub reply_text : Job → Planned → Result (Unit {0}) Refusal → List ℕ
+reply_text j r (Ok tt) = plan_text j r.plan r.lent.positions
+reply_text j r (Err k) = refusal_text k
 
 -- "A refusal prints `no` and the number": of a job that is refused its own, of another what the reply says
 unfoldable pub printed_for : Answer → Planned → List ℕ

@@ -1,4 +1,5 @@
 -- What `next_copies` answers is the definition's. Assumes nothing.
+use Rattle.std.specs.Prelude.{Ok, Err}
 use Prim.{⊥}
 use Prim.Native.Nat.{ℕ, zero, suc, ◌-◌, ◌<◌, ◌≤◌}
 use native.Mathlib.Omega.{arith}
@@ -10,7 +11,6 @@ use Rattle.bits.specs.declared.Refusal as Input
 use Rattle.job.specs.Jobs.{Job, accepted, refused, read_job}
 use Rattle.filling.specs.declared.State.{State}
 use Rattle.filling.specs.declared.Refusal.TheVariants as Why
-use Rattle.filling.specs.declared.Verdict.TheVariants.{Accepted, Refused}
 use Rattle.filling.specs.Rooms.{Rooms, zeros}
 use Rattle.filling.specs.Consistent.{consistent}
 use Rattle.filling.proofs.Sizes.{sized}
@@ -24,19 +24,19 @@ some zero h = absurd (h refl)
 some (suc n) h = omega arith
 
 module _ (bytes : List ℕ) (n : ℕ) (s : State) (w : Rooms) (intervals : List Float) where
-  pub copies-none : n ≡ 0 → none_taken Accepted s w (zeros pos_zero intervals) ≡ next_copies_of bytes n s w intervals
+  pub copies-none : n ≡ 0 → none_taken (Ok tt) s w (zeros pos_zero intervals) ≡ next_copies_of bytes n s w intervals
   unfolding batch_from
   copies-none e =
       let h : n ≤ 4096 = omega (arith, e) in
       sym (copies_upto bytes n s w intervals h ∙ ap (λ (n : ℕ). batch_from bytes n s w (zeros pos_zero intervals)) e)
 
   pub copies-refused : (k : Input.Refusal) → read_job bytes ≡ refused k → 0 < n → n ≤ 4096
-      → none_taken (Refused (Why.Job k)) s w (zeros pos_zero intervals) ≡ next_copies_of bytes n s w intervals
+      → none_taken (Err (Why.Job k)) s w (zeros pos_zero intervals) ≡ next_copies_of bytes n s w intervals
   copies-refused k e l h =
       let i : ℕ = n - 1 in
       let q : n ≡ suc i = omega (arith, l) in
       sym (copies_upto bytes n s w intervals h ∙ (ap (λ (n : ℕ). batch_from bytes n s w (zeros pos_zero intervals)) q
-      ∙ (batch_refused bytes k e i s w (zeros pos_zero intervals) ∙ ap (none_taken (Refused (Why.Job k)) s w) (zeros_again intervals))))
+      ∙ (batch_refused bytes k e i s w (zeros pos_zero intervals) ∙ ap (none_taken (Err (Why.Job k)) s w) (zeros_again intervals))))
 
   pub copies-accepted : (j : Job) → read_job bytes ≡ accepted j → Shaped s → n ≤ 4096
       → tested_from j n s w (zeros pos_zero intervals) (consistent j s w) ≡ next_copies_of bytes n s w intervals

@@ -13,14 +13,14 @@ ghost use Rattle.batch.specs.inner.Tested.{tested_from};
 ghost use Rattle.next_copies.specs.Answer.{answered};
 
 use crate::Taken;
-use filling::{Refusal, State, Verdict};
+use filling::{Refusal, State};
 use index::{Bucket, Entry};
 
 // The state as it was, and zeros in the interval room.
-pub fn none_taken(verdict: Verdict, state: State, intervals: &mut [f64]) -> Taken
+pub fn none_taken(verdict: Result<(), Refusal>, state: State, intervals: &mut [f64]) -> Taken
     ensures { (w : Rooms) → answered result w intervals.new ≡ none_taken verdict state w (zeros pos_zero intervals.old) }
 {
-    rooms::zero(intervals);
+    intervals.fill(0.0);
     Taken {
         took: 0,
         verdict: verdict,
@@ -71,7 +71,7 @@ pub fn copies_job(
         firsts,
     ) {
         return crate::take_all::take_all(
-            index::fewer(n, copies - state.taken),
+            n.min(copies - state.taken),
             n,
             rows,
             areas,
@@ -88,5 +88,5 @@ pub fn copies_job(
             firsts,
         );
     }
-    none_taken(Verdict::Refused(Refusal::Inconsistent), state, intervals)
+    none_taken(Err(Refusal::Inconsistent), state, intervals)
 }

@@ -10,16 +10,15 @@ ghost use Rattle.batch.specs.NextCopies.{next_copies_of};
 ghost use Rattle.next_copies.specs.Answer.{answered};
 
 use bits::Refusal as Input;
-use filling::{Refusal, State, Verdict};
+use filling::{Refusal, State};
 use index::{Bucket, Entry};
-use job::JobRead;
 
 // How many copies were taken, those without a place included; the refusal that ended it, if one did; the
 // state after the last copy that was taken.
 #[derive(Clone, Copy)]
 pub struct Taken {
     pub took: usize,
-    pub verdict: Verdict,
+    pub verdict: Result<(), Refusal>,
     pub state: State,
 }
 
@@ -48,21 +47,17 @@ pub fn next_copies(
         placed_entries.old sheet_firsts.now placed_firsts.old) intervals.old }
 {
     if n == 0 {
-        return copies_job::none_taken(Verdict::Accepted, state, intervals);
+        return copies_job::none_taken(Ok(()), state, intervals);
     }
     if n > MOST {
-        return copies_job::none_taken(
-            Verdict::Refused(Refusal::Job(Input::CountOutOfRange)),
-            state,
-            intervals,
-        );
+        return copies_job::none_taken(Err(Refusal::Job(Input::CountOutOfRange)), state, intervals);
     }
     let j = job::read(bytes);
     let rows = j.rows;
     let areas = j.areas;
     let answer = j.answer;
     match answer {
-        JobRead::Good(h, _, c) => copies_job::copies_job(
+        Ok((h, _, c)) => copies_job::copies_job(
             &rows,
             &areas,
             h.kinds as usize,
@@ -78,10 +73,6 @@ pub fn next_copies(
             sheet_firsts,
             placed_firsts,
         ),
-        JobRead::NoJob(k) => copies_job::none_taken(
-            Verdict::Refused(Refusal::Job(k)),
-            state,
-            intervals,
-        ),
+        Err(k) => copies_job::none_taken(Err(Refusal::Job(k)), state, intervals),
     }
 }

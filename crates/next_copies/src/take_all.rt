@@ -1,10 +1,9 @@
 // The copies that are asked for, from a state and rooms that refusal 31 lets pass (document 02, W5): the
 // state is spread over arrays, the copies are taken, and the state is put together again. Only crates
 // of ours call these functions.
-ghost use Rattle.std.specs.Prelude.{◌≡◌, true, List, ℕ, ◌+◌, ◌-◌, ◌≤◌, ◌<◌, length, Float};
+ghost use Rattle.std.specs.Prelude.{Ok, ◌≡◌, true, List, ℕ, ◌+◌, ◌-◌, ◌≤◌, ◌<◌, length, Float};
 ghost use Rattle.numbers.specs.Numbers.{pos_zero};
 ghost use Rattle.job.specs.Jobs.{Job};
-ghost use Rattle.filling.specs.declared.Verdict.TheVariants as Verdicts;
 ghost use Rattle.filling.specs.Rooms.{zeros};
 ghost use Rattle.rooms.specs.tracks.inner.Tracks.{slot_numbers};
 ghost use Rattle.place.specs.inner.Placing.{totals_of};
@@ -16,7 +15,7 @@ ghost use Rattle.next_copies.specs.Answer.{answered};
 ghost use Rattle.next_copies.specs.take_all.inner.Spread.{last_verdict, Starting};
 
 use crate::Taken;
-use filling::{Layout, Refusal, State, Verdict};
+use filling::{Layout, Refusal, State};
 use index::{Bucket, Entry};
 use take_copies::Run;
 
@@ -55,7 +54,7 @@ fn run_state(
         sheet_firsts.now firsts.new) (zeros pos_zero intervals) result.last.fits) ≡ tested_from j n state (rooms shapes.now
         sheet.now placed.old sheet_entries.now entries.old sheet_firsts.now
         firsts.old) (zeros pos_zero intervals) true)
-        × (result.took ≤ most) × (result.last.verdict ≡ Verdicts.Accepted → result.last.fits ≡ true → result.took ≡ most) }
+        × (result.took ≤ most) × (result.last.verdict ≡ (Ok tt) → result.last.fits ≡ true → result.took ≡ most) }
 {
     let tables = state.tables;
     let inset_bounds = tables.inset_bounds;
@@ -93,21 +92,21 @@ fn run_state(
 }
 
 // What ended it, where n copies were asked for.
-fn last_verdict(run: Run, n: usize) -> Verdict
+fn last_verdict(run: Run, n: usize) -> Result<(), Refusal>
     ensures { result ≡ last_verdict run.last.verdict run.last.fits run.took n }
 {
     let last = run.last;
     let v = last.verdict;
     match v {
-        Verdict::Refused(k) => Verdict::Refused(k),
-        Verdict::Accepted => {
+        Err(k) => Err(k),
+        Ok(()) => {
             if run.took == n {
-                return Verdict::Accepted;
+                return Ok(());
             }
             if last.fits {
-                return Verdict::Refused(Refusal::OrderUsedUp);
+                return Err(Refusal::OrderUsedUp);
             }
-            Verdict::Refused(Refusal::Inconsistent)
+            Err(Refusal::Inconsistent)
         }
     }
 }
@@ -129,8 +128,8 @@ fn state_after(
     let order = state.order;
     let mut next_column = state.next_column;
     let mut look_counts = state.look_counts;
-    rooms::tracks::read_numbers(tracks, 2, 0, &mut next_column);
-    rooms::tracks::read_numbers(tracks, 2, 1, &mut look_counts);
+    rooms::tracks::read(tracks, 2, 0, &mut next_column);
+    rooms::tracks::read(tracks, 2, 1, &mut look_counts);
     let last = run.last;
     let t = last.totals;
     let taken = state.taken + run.took;
@@ -207,7 +206,7 @@ pub fn take_all(
         sheet_firsts,
         firsts,
     );
-    rooms::zero(intervals);
+    intervals.fill(0.0);
     let after = state_after(state, run, &tracks, orientation, x, y, gap);
     Taken {
         took: run.took,

@@ -8,7 +8,6 @@ ghost use Rattle.next_copy.specs.Reply.{replied};
 
 use filling::{Refusal, State};
 use index::{Bucket, Entry};
-use job::JobRead;
 use step::Stepped;
 
 // One copy of the order, over a state that a start or a step returned and the rooms as it left them.
@@ -34,9 +33,8 @@ pub fn next_copy(
     let j = job::read(bytes);
     let rows = j.rows;
     let areas = j.areas;
-    let answer = j.answer;
-    match answer {
-        JobRead::Good(h, _, c) => step::step_job::step_job(
+    match j.answer {
+        Ok((h, _, c)) => step::step_job::step_job(
             &rows,
             &areas,
             h.kinds as usize,
@@ -51,6 +49,6 @@ pub fn next_copy(
             sheet_firsts,
             placed_firsts,
         ),
-        JobRead::NoJob(k) => step::step_job::refuse(Refusal::Job(k), state, intervals),
+        Err(k) => step::step_job::refuse(Refusal::Job(k), state, intervals),
     }
 }

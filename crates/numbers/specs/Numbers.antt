@@ -1,9 +1,7 @@
 -- Document 01, "Numbers": the doubles of the paper, as IEEE 754 has them in lib.Ieee. Definitions only. Assumes nothing.
-use Rattle.std.specs.Prelude.{ℕ, false, cond, pos, from_bits}
+use Rattle.std.specs.Prelude.{Option, Some, None, ℕ, false, cond, pos, from_bits}
 use lib.Ieee.{Float, fin, binary64, add, sub, mul, div, lt, eq, of_int}
 use Rattle.std.specs.Float.Ieee.Scale.{finite}
-use Rattle.numbers.specs.declared.Double.{Double}
-use Rattle.numbers.specs.declared.Double.TheVariants.{Finite, NotFinite}
 
 -- "Floats are worked everywhere with each operation rounded once, in the written order."
 infixl 65 ◌⊕◌
@@ -42,5 +40,5 @@ unfoldable pub plus_zero : Float → Float
 plus_zero x = cond (eq x pos_zero) pos_zero x
 
 -- "Doubles by their bits": what the 64 bits n of a job stand for; not finite is refused with 4
-unfoldable pub double_of : ℕ → Double
-double_of n = cond (finite (from_bits binary64 n)) (Finite (plus_zero (from_bits binary64 n))) NotFinite
+unfoldable pub double_of : ℕ → Option Float
+double_of n = cond (finite (from_bits binary64 n)) (Some (plus_zero (from_bits binary64 n))) None

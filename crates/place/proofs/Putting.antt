@@ -1,4 +1,5 @@
 -- Placing a copy. Assumes nothing.
+use Rattle.std.specs.Prelude.{Some, None, Ok, Err}
 use Prim.Native.Nat.{ℕ, zero, suc, ◌+◌, ◌*◌, ◌<◌, ◌≤◌}
 use native.Mathlib.Omega.{arith}
 use mathlib.Core.Path.{◌≡◌, sym, ap, ◌∙◌, subst, subst⁻¹}
@@ -12,17 +13,11 @@ use Rattle.strips.specs.declared.Rect.{Rect}
 use Rattle.index.specs.declared.Index.{Index}
 use Rattle.index.specs.inner.Listing.{Laid, FirstBuckets}
 use Rattle.search.specs.declared.columns.Columns.{Columns}
-use Rattle.search.specs.declared.Found.{Found}
-use Rattle.search.specs.declared.Found.TheVariants as Founds
-use Rattle.search.specs.inner.Searching.{search_of}
+use Rattle.search.specs.inner.Searching.{Found, search_of}
 use Rattle.choose.specs.declared.Part.{Part}
 use Rattle.choose.specs.declared.Choice.{Choice}
-use Rattle.choose.specs.declared.Winner.{Winner}
-use Rattle.choose.specs.declared.Winner.TheVariants as Winners
-use Rattle.choose.specs.inner.Choosing.{bounds_at, part_at, apart_part, wins_of, first_of, winner_of, against_of, better_of, Surroundings, columns_at, looks_at, Chosen, chosen, won, orientation_of, bettered, choose_from}
-use Rattle.store.specs.declared.Stored.{Stored}
-use Rattle.store.specs.declared.Stored.TheVariants.{NoStrips, NoEntries, Done}
-use Rattle.store.specs.inner.Storing.{left, store_of, Entered, FirstsLaid, FirstsEntered}
+use Rattle.choose.specs.inner.Choosing.{Winner, bounds_at, part_at, apart_part, wins_of, first_of, winner_of, against_of, better_of, Surroundings, columns_at, looks_at, Chosen, chosen, won, orientation_of, bettered, choose_from}
+use Rattle.store.specs.inner.Storing.{Stored, left, store_of, Entered, FirstsLaid, FirstsEntered}
 use Rattle.store.proofs.Firsts.{firsts_same}
 use Rattle.place.specs.declared.Totals.{Totals}
 use Rattle.place.specs.declared.Step.{Step}
@@ -41,9 +36,8 @@ module _ (ix : Index) (p : Choice) (q : Part) (t : Totals) (apart placed : List 
       ∙ ap (put_left p t (capacity (apart_part q apart))) (E ∙ ap (λ (z : List Float). store_of ix z p.x p.y t.placed_strips placed e s f) ep)
 
   by_answer : (st : Stored) (m : ℕ) → Entered ix t.placed_strips m p' e' s' st → Laid ix p' (after_of st p t m).totals.placed_strips e' s'
-  by_answer NoStrips m h = h
-  by_answer NoEntries m h = h
-  by_answer Done m h = h
+  by_answer (Err r) m h = h
+  by_answer (Ok tt) m h = h
 
   pub put-laid : Entered ix t.placed_strips (capacity part) p' e' s' stored → Laid ix p' r.totals.placed_strips e' s'
   put-laid h =
@@ -53,9 +47,8 @@ module _ (ix : Index) (p : Choice) (q : Part) (t : Totals) (apart placed : List 
 -- the strips' first buckets likewise
 module _ (ix : Index) (p : Choice) (t : Totals) (p' : List Float) (f f' : List ℕ) where
   firsts_by_answer : (st : Stored) (m : ℕ) → FirstsEntered ix t.placed_strips m p' f f' st → FirstsLaid ix p' (after_of st p t m).totals.placed_strips f f'
-  firsts_by_answer NoStrips m h = h
-  firsts_by_answer NoEntries m h = h
-  firsts_by_answer Done m h = h
+  firsts_by_answer (Err r) m h = h
+  firsts_by_answer (Ok tt) m h = h
 
   pub put_firsts : (k m : ℕ) (st : Stored) (r : Step) → k ≡ m → r ≡ after_of st p t k → FirstsEntered ix t.placed_strips m p' f f' st
       → FirstsLaid ix p' r.totals.placed_strips f f'
@@ -64,11 +57,11 @@ module _ (ix : Index) (p : Choice) (t : Totals) (p' : List Float) (f f' : List �
       (firsts_by_answer st k (subst⁻¹ (λ (z : ℕ). FirstsEntered ix t.placed_strips z p' f f' st) ek h))
 
 -- ---- the winner, or none, or 22
-pub among_at : (n : ℕ) (v : Winner) (p : Choice) → Among n v → v ≡ Winners.At p → p.orientation < n
+pub among_at : (n : ℕ) (v : Winner) (p : Choice) → Among n v → v ≡ Ok (Some p) → p.orientation < n
 among_at n v p h e = subst (Among n) e h
 
 pub settle_at : (ix : Index) (v : Winner) (p : Choice) (q : Part) (area : Float) (slot : ℕ) (t : Totals) (parts : List ℕ) (apart placed : List Float) (e s f : List ℕ) (r : PutLeft)
-    → v ≡ Winners.At p → q ≡ part_at parts (slot + p.orientation) → r ≡ put_of ix p q t apart placed e s f → r ≡ settle_of ix v area slot t parts apart placed e s f
+    → v ≡ Ok (Some p) → q ≡ part_at parts (slot + p.orientation) → r ≡ put_of ix p q t apart placed e s f → r ≡ settle_of ix v area slot t parts apart placed e s f
 settle_at ix v p q area slot t parts apart placed e s f r ev eq er =
     er ∙ (ap (λ (z : Part). put_of ix p z t apart placed e s f) eq ∙ sym (ap (λ (z : Winner). settle_of ix z area slot t parts apart placed e s f) ev))
 
@@ -87,22 +80,22 @@ either false P x y = y
 
 first_among : (n : ℕ) (a b : Choice) → a.orientation < n → b.orientation < n → Among n (first_of a b)
 unfolding first_of
-first_among n a b x y = either (wins_of b a) (λ t. Among n (elim t [ true ↦ Winners.At b | false ↦ Winners.At a ])) y x
+first_among n a b x y = either (wins_of b a) (λ t. Among n (elim t [ true ↦ Ok (Some b) | false ↦ Ok (Some a) ])) y x
 
 against_among : (n : ℕ) (a : Choice) (v : Winner) → a.orientation < n → Among n v → Among n (against_of a v)
-against_among n a (Winners.At b) x y = first_among n a b x y
-against_among n a Winners.Nowhere x y = x
-against_among n a Winners.Overflow x y = tt
+against_among n a (Ok (Some b)) x y = first_among n a b x y
+against_among n a (Ok None) x y = x
+against_among n a (Err r) x y = tt
 
 better_among : (n : ℕ) (u v : Winner) → Among n u → Among n v → Among n (better_of u v)
-better_among n (Winners.At a) v x y = against_among n a v x y
-better_among n Winners.Nowhere v x y = y
-better_among n Winners.Overflow v x y = tt
+better_among n (Ok (Some a)) v x y = against_among n a v x y
+better_among n (Ok None) v x y = y
+better_among n (Err r) v x y = tt
 
 winner_among : (n o : ℕ) (k : Columns) (b : Rect) (f : Found) → o < n → Among n (winner_of k b o f)
-winner_among n o k b (Founds.At c y g) h = h
-winner_among n o k b Founds.Nowhere h = tt
-winner_among n o k b Founds.Overflow h = tt
+winner_among n o k b (Ok (Some (c, y, g))) h = h
+winner_among n o k b (Ok None) h = tt
+winner_among n o k b (Err r) h = tt
 
 orientation_among : (n : ℕ) (w : Surroundings) (i o : ℕ) (counts next : List ℕ) → o < n → Among n (orientation_of w i o counts next).winner
 unfolding orientation_of won
@@ -114,26 +107,25 @@ choose_among n w i zero o b h x = x
 choose_among n w i (suc m) o b h x =
     choose_among n w i m (o + 1) (bettered b.winner (orientation_of w (i + o) o b.counts b.next)) (omega arith) (better_among n b.winner (orientation_of w (i + o) o b.counts b.next).winner x (orientation_among n w (i + o) o b.counts b.next (omega arith)))
 
-pub chosen_among : (w : Surroundings) (slot n : ℕ) (v : Winner) (counts next counts' next' : List ℕ) → chosen v counts' next' ≡ choose_from w slot n 0 (chosen Winners.Nowhere counts next) → Among n v
-chosen_among w slot n v counts next counts' next' e = subst⁻¹ (λ (z : Chosen). Among n z.winner) e (choose_among n w slot n 0 (chosen Winners.Nowhere counts next) (omega arith) tt)
+pub chosen_among : (w : Surroundings) (slot n : ℕ) (v : Winner) (counts next counts' next' : List ℕ) → chosen v counts' next' ≡ choose_from w slot n 0 (chosen (Ok None) counts next) → Among n v
+chosen_among w slot n v counts next counts' next' e = subst⁻¹ (λ (z : Chosen). Among n z.winner) e (choose_among n w slot n 0 (chosen (Ok None) counts next) (omega arith) tt)
 
 after-under : (n : ℕ) (st : Stored) (p : Choice) (t : Totals) (k : ℕ) → p.orientation < n → Under n (after_of st p t k).outcome
-after-under n NoStrips p t k h = tt
-after-under n NoEntries p t k h = tt
-after-under n Done p t k h = h
+after-under n (Err r) p t k h = tt
+after-under n (Ok tt) p t k h = h
 
 settle_under : (ix : Index) (n : ℕ) (v : Winner) (area : Float) (slot : ℕ) (t : Totals) (parts : List ℕ) (apart placed : List Float) (e s f : List ℕ) → Among n v → Under n (settle_of ix v area slot t parts apart placed e s f).reply.outcome
 unfolding put_of put_left without_of
-settle_under ix n (Winners.At p) area slot t parts apart placed e s f h = after-under n (store_of ix (apart_part (part_at parts (slot + p.orientation)) apart) p.x p.y t.placed_strips placed e s f).answer p t (capacity (apart_part (part_at parts (slot + p.orientation)) apart)) h
-settle_under ix n Winners.Nowhere area slot t parts apart placed e s f h = tt
-settle_under ix n Winners.Overflow area slot t parts apart placed e s f h = tt
+settle_under ix n (Ok (Some p)) area slot t parts apart placed e s f h = after-under n (store_of ix (apart_part (part_at parts (slot + p.orientation)) apart) p.x p.y t.placed_strips placed e s f).answer p t (capacity (apart_part (part_at parts (slot + p.orientation)) apart)) h
+settle_under ix n (Ok None) area slot t parts apart placed e s f h = tt
+settle_under ix n (Err r) area slot t parts apart placed e s f h = tt
 
 pub settled_under : (ix : Index) (n : ℕ) (v : Winner) (area : Float) (slot : ℕ) (t : Totals) (parts : List ℕ) (apart placed : List Float) (e s f : List ℕ) (r : Step) (p' : List Float) (e' s' : List ℕ)
     → Among n v → put r p' e' s' ≡ settle_of ix v area slot t parts apart placed e s f → Under n r.outcome
 settled_under ix n v area slot t parts apart placed e s f r p' e' s' h E = subst⁻¹ (λ (z : PutLeft). Under n z.reply.outcome) E (settle_under ix n v area slot t parts apart placed e s f h)
 
 pub place_is : (ix : Index) (w : Surroundings) (area : Float) (slot n : ℕ) (t : Totals) (placed : List Float) (e s f counts next : List ℕ) (v : Winner) (r : Step) (p' : List Float) (e' s' counts' next' : List ℕ)
-    → chosen v counts' next' ≡ choose_from w slot n 0 (chosen Winners.Nowhere counts next) → put r p' e' s' ≡ settle_of ix v area slot t w.parts w.apart placed e s f
+    → chosen v counts' next' ≡ choose_from w slot n 0 (chosen (Ok None) counts next) → put r p' e' s' ≡ settle_of ix v area slot t w.parts w.apart placed e s f
     → done r p' e' s' counts' next' ≡ place_of ix w area slot n t placed e s f counts next
 unfolding place_of place_with
 place_is ix w area slot n t placed e s f counts next v r p' e' s' counts' next' ec ep =

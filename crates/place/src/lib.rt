@@ -16,10 +16,8 @@ ghost use Rattle.place.specs.inner.Placing.{copy_of, verdict_of, after_of, put, 
 ghost use Rattle.place.specs.inner.Standing.{Standing, Fixed};
 
 use choose::{Choice, Grid, Part, Winner};
-use filling::{Refusal, Verdict};
-use index::{Bucket, Entry, Index};
-use store::Stored;
-use strips::Rect;
+use filling::Refusal;
+use index::{Bucket, Entry, Overrun};
 
 // What the tables say of a copy: its kind's first slot, number of orientations and area.
 #[derive(Clone, Copy)]
@@ -35,10 +33,9 @@ pub fn copy_at(order: &[usize], rows: &[u64], areas: &[f64], i: usize) -> Copy
     ensures { result ≡ copy_of order.now rows.now areas.now i }
 {
     let k = order[i];
-    let n = rows[4 * k + 3] as usize;
     Copy {
         slot: 16 * k,
-        orientations: n,
+        orientations: rows[4 * k + 3] as usize,
         area: areas[k],
     }
 }
@@ -51,13 +48,8 @@ pub struct Totals {
     pub unplaced_area: f64,
 }
 
-// Where the copy stands, that it has no place, or why it is refused.
-#[derive(Clone, Copy)]
-pub enum Outcome {
-    At(Choice),
-    Nowhere,
-    Refused(Refusal),
-}
+// Where the copy stands, or that it has no place; or why it is refused.
+pub type Outcome = Result<Option<Choice>, Refusal>;
 
 #[derive(Clone, Copy)]
 pub struct Step {
@@ -66,42 +58,31 @@ pub struct Step {
 }
 
 // Whether the copy is taken.
-pub fn verdict_of(o: Outcome) -> Verdict
+pub fn verdict_of(o: Outcome) -> Result<(), Refusal>
     ensures { result ≡ verdict_of o }
 {
-    match o {
-        Outcome::At(_) => Verdict::Accepted,
-        Outcome::Nowhere => Verdict::Accepted,
-        Outcome::Refused(r) => Verdict::Refused(r),
-    }
+    o?;
+    Ok(())
 }
 
 // What storing the winner, a copy of k strips, leaves.
-fn after(stored: Stored, p: Choice, t: Totals, k: usize) -> Step
+fn after(stored: Result<(), Overrun>, p: Choice, t: Totals, k: usize) -> Step
     requires { t.placed_strips + k < 2 ^ 64 }
     ensures { result ≡ after_of stored p t k }
 {
     match stored {
-        Stored::NoStrips => Step {
-            outcome: Outcome::Refused(Refusal::StripRoom),
+        Ok(()) => Step {
+            outcome: Ok(Some(p)),
+            totals: Totals {
+                placed_strips: t.placed_strips + k,
+                right: numbers::larger(t.right, p.right),
+                ..t
+            },
+        },
+        Err(r) => Step {
+            outcome: Err(Refusal::from(r)),
             totals: t,
         },
-        Stored::NoEntries => Step {
-            outcome: Outcome::Refused(Refusal::EntryRoom),
-            totals: t,
-        },
-        Stored::Done => {
-            let right = numbers::larger(t.right, p.right);
-            let strips = t.placed_strips + k;
-            Step {
-                outcome: Outcome::At(p),
-                totals: Totals {
-                    placed_strips: strips,
-                    right: right,
-                    unplaced_area: t.unplaced_area,
-                },
-            }
-        }
     }
 }
 
@@ -151,15 +132,15 @@ fn put_copy(
 }
 
 // A copy without a place adds its kind's area.
+#[tactic(auto, unfolding(crate::specs::inner::Placing::without_of))]
 fn without(t: Totals, area: f64) -> Step
     ensures { result ≡ without_of t area }
 {
     Step {
-        outcome: Outcome::Nowhere,
+        outcome: Ok(None),
         totals: Totals {
-            placed_strips: t.placed_strips,
-            right: t.right,
             unplaced_area: t.unplaced_area + area,
+            ..t
         },
     }
 }
@@ -189,13 +170,13 @@ fn settle(
         × FirstsLaid g.index placed.new result.totals.placed_strips firsts.old firsts.new }
 {
     match winner {
-        Winner::At(p) => {
+        Ok(Some(p)) => {
             let q = choose::part_at(parts, copy.slot + p.orientation);
             put_copy(g, p, q, t, shapes, placed, entries, starts, gains, firsts)
         }
-        Winner::Nowhere => without(t, copy.area),
-        Winner::Overflow => Step {
-            outcome: Outcome::Refused(Refusal::IntervalRoom),
+        Ok(None) => without(t, copy.area),
+        Err(r) => Step {
+            outcome: Err(Refusal::from(r)),
             totals: t,
         },
     }
@@ -240,8 +221,7 @@ pub fn place_copy(
         × Under copy.orientations result.outcome
         × FirstsLaid g.index placed.new result.totals.placed_strips firsts.old firsts.new }
 {
-    let strips = t.placed_strips;
-    let end = 6 * strips;
+    let end = 6 * t.placed_strips;
     let winner = choose::choose(
         g,
         copy.slot,

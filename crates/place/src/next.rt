@@ -13,45 +13,34 @@ use crate::{Copy, Outcome, Step, Totals};
 use choose::Grid;
 use index::{Bucket, Entry};
 
-// 0 for a copy without a place, else 1 + its orientation.
-pub fn number_of(o: Outcome, n: usize) -> usize
+// What is written down of a copy: 1 + its orientation with x, y and the clear height above, or zeros for
+// one without a place.
+#[derive(Clone, Copy)]
+pub struct Spot {
+    pub number: usize,
+    pub x: f64,
+    pub y: f64,
+    pub gap: f64,
+}
+
+// The spot of a copy of n orientations.
+pub fn spot_of(o: Outcome, n: usize) -> Spot
     requires { Under n o × (n ≤ 1024) }
-    ensures { result ≡ orientation_number o }
+    ensures { (result.number ≡ orientation_number o) × (result.x ≡ outcome_x o) × (result.y ≡ y_of o) × (result.gap ≡ gap_of o) }
 {
     match o {
-        Outcome::At(p) => p.orientation + 1,
-        Outcome::Nowhere => 0,
-        Outcome::Refused(_) => 0,
-    }
-}
-
-pub fn x_of(o: Outcome) -> f64
-    ensures { result ≡ outcome_x o }
-{
-    match o {
-        Outcome::At(p) => p.x,
-        Outcome::Nowhere => 0.0,
-        Outcome::Refused(_) => 0.0,
-    }
-}
-
-pub fn y_of(o: Outcome) -> f64
-    ensures { result ≡ y_of o }
-{
-    match o {
-        Outcome::At(p) => p.y,
-        Outcome::Nowhere => 0.0,
-        Outcome::Refused(_) => 0.0,
-    }
-}
-
-pub fn gap_of(o: Outcome) -> f64
-    ensures { result ≡ gap_of o }
-{
-    match o {
-        Outcome::At(p) => p.gap,
-        Outcome::Nowhere => 0.0,
-        Outcome::Refused(_) => 0.0,
+        Ok(Some(p)) => Spot {
+            number: p.orientation + 1,
+            x: p.x,
+            y: p.y,
+            gap: p.gap,
+        },
+        _ => Spot {
+            number: 0,
+            x: 0.0,
+            y: 0.0,
+            gap: 0.0,
+        },
     }
 }
 
@@ -118,14 +107,10 @@ pub fn place_next(
         sheet_firsts,
         firsts,
     );
-    let o = step.outcome;
-    let place = 2048 + at;
-    tracks[place] = number_of(o, copy.orientations);
-    let spot = 3 * at;
-    spots[spot] = x_of(o);
-    let middle = spot + 1;
-    spots[middle] = y_of(o);
-    let end = spot + 2;
-    spots[end] = gap_of(o);
+    let spot = spot_of(step.outcome, copy.orientations);
+    tracks[2048 + at] = spot.number;
+    spots[3 * at] = spot.x;
+    spots[3 * at + 1] = spot.y;
+    spots[3 * at + 2] = spot.gap;
     step
 }

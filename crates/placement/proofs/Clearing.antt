@@ -1,4 +1,5 @@
 -- Clear of many lists of intervals, one list after another. Assumes nothing.
+use Rattle.std.specs.Prelude.{Option, Some, None}
 use Prim.Native.Nat.{ℕ, suc, ◌+◌, ◌-◌, ◌<◌, ◌≤◌}
 use native.Mathlib.Omega.{arith}
 use native.Mathlib.Numerals.{add-one}
@@ -9,8 +10,6 @@ use lib.Ieee.{Float}
 use Rattle.trapezoid.specs.declared.Trapezoid.{Trapezoid}
 use Rattle.trapezoid.specs.Strip.{strip_at, capacity}
 use Rattle.index.specs.declared.Interval.{Interval}
-use Rattle.index.specs.declared.Meeting.{Meeting}
-use Rattle.index.specs.declared.Meeting.TheVariants.{Apart, Forbidden}
 use Rattle.index.specs.declared.Moving.{Moving}
 use Rattle.index.specs.Buckets.{up_from}
 use Rattle.index.specs.Intervals.{interval_in, meeting_of, forbidden_of}
@@ -20,10 +19,10 @@ use Rattle.layouts.proofs.Legal.{outside_append}
 use Rattle.placement.specs.inner.Pairs.{lies_in, pair_at, intervals_of}
 
 -- one pair
-pair_outside : (y : Float) (w : Meeting) → outside (interval_in w) y ≡ not (lies_in y w)
+pair_outside : (y : Float) (w : Option Interval) → outside (interval_in w) y ≡ not (lies_in y w)
 unfolding outside interval_in lies_in
-pair_outside y Apart = refl
-pair_outside y (Forbidden i) = and-true (not (inside y i))
+pair_outside y None = refl
+pair_outside y (Some i) = and-true (not (inside y i))
 
 pub pair_clear : (standing : List Float) (m : Moving) (y : Float) (i : ℕ) (p : Trapezoid) (r : Bool) → r ≡ lies_in y (meeting_at m p) → p ≡ strip_at standing i
     → outside (pair_at standing m i) y ≡ not r

@@ -10,27 +10,26 @@ ghost use Rattle.index.specs.inner.Listing.{meeting_at};
 ghost use Rattle.look.specs.height.Smallest.{inside, outside};
 ghost use Rattle.placement.specs.inner.Pairs.{lies_in, intervals_of};
 
-use index::{Interval, Meeting, Moving};
+use index::{Interval, Moving};
 use trapezoid::Trapezoid;
 
 // Whether y lies in an open interval: neither end does.
+#[tactic(auto, unfolding(look::specs::height::Smallest::inside))]
 fn inside(i: Interval, y: f64) -> bool
     ensures { result ≡ inside y i }
 {
-    if i.from < y {
-        return y < i.to;
-    }
-    false
+    i.from < y && y < i.to
 }
 
 // Whether y lies in the forbidden interval of one pair.
+#[tactic(auto, unfolding(crate::specs::inner::Pairs::lies_in))]
 fn in_the_way(m: Moving, p: Trapezoid, y: f64) -> bool
     ensures { result ≡ lies_in y (meeting_at m p) }
 {
-    let Meeting::Forbidden(i) = index::forbidden(m, p) else {
-        return false;
-    };
-    inside(i, y)
+    match index::forbidden(m, p) {
+        Some(i) => inside(i, y),
+        None => false,
+    }
 }
 
 // Whether y lies in no forbidden interval of a moving strip against the standing strips.
@@ -38,13 +37,11 @@ fn clear_of(m: Moving, standing: &[f64], y: f64) -> bool
     ensures { result ≡ outside (intervals_of standing.now m) y }
 {
     let count = trapezoid::capacity(standing);
-    let mut i = 0;
-    while i < count {
+    for i in 0..count {
         let p = trapezoid::load(standing, i);
         if in_the_way(m, p, y) {
             return false;
         }
-        i += 1;
     }
     true
 }
@@ -54,14 +51,12 @@ pub fn clear(moving: &[f64], standing: &[f64], x: f64, y: f64) -> bool
     ensures { result ≡ outside (forbidden_of standing.now moving.now x) y }
 {
     let count = trapezoid::capacity(moving);
-    let mut j = 0;
-    while j < count {
+    for j in 0..count {
         let q = trapezoid::load(moving, j);
         let m = Moving::new(q, x, y, y);
         if !clear_of(m, standing, y) {
             return false;
         }
-        j += 1;
     }
     true
 }

@@ -8,13 +8,11 @@ ghost use Rattle.placement.specs.range.inner.Ranged.{within, in_range_of};
 use search::columns::Columns;
 
 // Whether v is one of the numbers from low to high, both included.
+#[tactic(auto, unfolding(crate::specs::range::inner::Ranged::within))]
 fn within(low: f64, high: f64, v: f64) -> bool
     ensures { result ≡ within low high v }
 {
-    if low <= v {
-        return v <= high;
-    }
-    false
+    low <= v && v <= high
 }
 
 // Whether one of the columns 0 to `last` stands at x: from the last on down.
@@ -22,14 +20,12 @@ fn among(k: Columns, last: usize, x: f64) -> bool
     requires { k.count ≤ 4000000000 }
     ensures { result ≡ among_columns (column_x k) last x }
 {
-    let mut c = last;
-    while 0 < c {
+    for c in (0..=last).rev() {
         if k.x(c) == x {
             return true;
         }
-        c -= 1;
     }
-    k.x(0) == x
+    false
 }
 
 // Whether x, y lies in the ranges. The columns are walked for an x outside of its range alone: a column
@@ -38,15 +34,8 @@ pub fn in_range(k: Columns, x: f64, y: f64) -> bool
     requires { k.count ≤ 4000000000 }
     ensures { result ≡ in_range_of k x y }
 {
-    if k.reversed() {
+    if k.reversed() || !within(k.y_low, k.y_high, y) {
         return false;
     }
-    if !within(k.y_low, k.y_high, y) {
-        return false;
-    }
-    if within(k.x_low, k.x_high, x) {
-        return true;
-    }
-    let last = k.last();
-    among(k, last, x)
+    within(k.x_low, k.x_high, x) || among(k, k.last(), x)
 }

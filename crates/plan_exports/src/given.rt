@@ -44,6 +44,5 @@ pub extern "C" fn panel_fill(
         intervals,
         positions,
     );
-    let v = r.verdict;
-    accounts::verdicts::verdict_number(v)
+    accounts::verdicts::verdict_number(r.verdict)
 }

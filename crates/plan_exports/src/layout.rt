@@ -1,18 +1,9 @@
 // A layout from elsewhere, judged (document 02, W6).
-ghost use Rattle.std.specs.Prelude.{◌≡◌, set};
+ghost use Rattle.std.specs.Prelude.{◌≡◌};
 ghost use Rattle.filling.specs.Rooms.{rooms_of};
 ghost use Rattle.plan_exports.specs.Lined.{lined_layout};
 
 use index::{Bucket, Entry};
-
-// The first place of the room, where it has one.
-fn put_first(room: &mut [usize], n: usize)
-    ensures { room.new ≡ set room.old 0 n }
-{
-    if room.len() > 0 {
-        room[0] = n;
-    }
-}
 
 // The number of the refusal, or 0. The first place of `line` has the line that it speaks of: how many were accepted before it.
 #[unsafe(no_mangle)]
@@ -49,7 +40,8 @@ pub extern "C" fn panel_layout(
         sheet_firsts,
         placed_firsts,
     );
-    put_first(line, r.line);
-    let v = r.verdict;
-    accounts::verdicts::verdict_number(v)
+    if let Some(first) = line.first_mut() {
+        *first = r.line;
+    }
+    accounts::verdicts::verdict_number(r.verdict)
 }

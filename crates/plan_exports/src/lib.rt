@@ -1,5 +1,6 @@
 // What C and Rust may link (by plan_exports_c, include/panel.h), under plain names: the text of a
-// whole plan; a filling in a given order; a layout from elsewhere, judged.
+// whole plan; a filling in a given order; a layout from elsewhere, judged. Names, arguments and numbers are those
+// of include/panel.h.
 #![tactic(auto)]
 
 ghost use Rattle.std.specs.Prelude.{◌≡◌};

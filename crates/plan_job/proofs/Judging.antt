@@ -1,4 +1,6 @@
 -- 30 of an accepted job, then what is prepared. Assumes nothing.
+use Rattle.std.specs.Prelude.{Result, Err}
+use Rattle.filling.specs.declared.Refusal.{Refusal}
 use Prim.Native.Nat.{ℕ, ◌*◌, ◌/◌, ◌≤◌, ◌<◌}
 use native.Mathlib.Omega.{arith}
 use mathlib.Core.Path.{◌≡◌, refl, sym, ap, ◌∙◌}
@@ -8,14 +10,13 @@ use lib.Ieee.{Float}
 use Rattle.numbers.specs.Numbers.{pos_zero}
 use Rattle.job.specs.Jobs.{Job}
 use Rattle.filling.specs.declared.Refusal.TheVariants as Why
-use Rattle.filling.specs.declared.Verdict.{Verdict}
 use Rattle.filling.specs.Shapes.{planner_of}
 use Rattle.filling.specs.Rooms.{Lent, zeros}
 use Rattle.filling.specs.Start.{prepare_verdict}
 use Rattle.nesting.specs.Rounds.{swap_search}
 use Rattle.nesting.specs.Nest.{nest_verdict, nested, nest_job}
-use Rattle.report.specs.declared.NestResult.{NestResult}
-use Rattle.report.specs.inner.Replies.{reply, reply_of, refused_by, planned_when}
+use Rattle.filling.specs.declared.Plan.{Plan}
+use Rattle.report.specs.inner.Replies.{reply, reply_of, planned_when}
 use Rattle.report.proofs.readied.Judging.{when_is, wide, narrow, refused_so}
 
 -- a whole plan by its verdict
@@ -28,19 +29,19 @@ pub copies_many : (j : Job) (copies room : ℕ) → j.copies ≡ copies → copi
 copies_many j copies room e h = omega arith
 
 module _ (j : Job) (l : Lent) (copies : ℕ) (n : j.copies ≡ copies) (room : List Float) (z : room ≡ zeros pos_zero l.positions) where
-  by_verdict : (v : Verdict) (r : NestResult) (after : List Float) → nest_verdict j l ≡ v
+  by_verdict : (v : Result (Unit {0}) Refusal) (r : Result Plan Refusal) (after : List Float) → nest_verdict j l ≡ v
       → reply r after ≡ reply_of (planned_when v l (nested j l (swap_search j l))) → reply r after ≡ reply_of (nest_job j l)
-  by_verdict v r after e f = f ∙ (ap (λ (u : Verdict). reply_of (planned_when u l (nested j l (swap_search j l)))) (sym e) ∙ ap reply_of (sym (nest_when j l)))
+  by_verdict v r after e f = f ∙ (ap (λ (u : Result (Unit {0}) Refusal). reply_of (planned_when u l (nested j l (swap_search j l)))) (sym e) ∙ ap reply_of (sym (nest_when j l)))
 
   -- 30
-  pub no_positions : (r : NestResult) → length room / 6 < copies → r ≡ refused_by Why.PositionRoom → reply r room ≡ reply_of (nest_job j l)
+  pub no_positions : length room / 6 < copies → reply (Err Why.PositionRoom) room ≡ reply_of (nest_job j l)
   unfolding nest_verdict
-  no_positions r h d =
-      by_verdict (nest_verdict j l) r room refl
-      (refused_so j l copies n room z Why.PositionRoom r (nest_verdict j l) (nested j l (swap_search j l)) (narrow j l copies n room z _ h) d)
+  no_positions h =
+      by_verdict (nest_verdict j l) (Err Why.PositionRoom) room refl
+      (refused_so j l copies n room z Why.PositionRoom (nest_verdict j l) (nested j l (swap_search j l)) (narrow j l copies n room z _ h))
 
   -- room for all positions
-  pub then-prepared : (r : NestResult) (after : List Float) → copies ≤ length room / 6
+  pub then-prepared : (r : Result Plan Refusal) (after : List Float) → copies ≤ length room / 6
       → reply r after ≡ reply_of (planned_when (prepare_verdict (planner_of j) l.rooms) l (nested j l (swap_search j l)))
       → reply r after ≡ reply_of (nest_job j l)
   unfolding nest_verdict

@@ -4,26 +4,28 @@
 
 pub mod fill_job;
 
-ghost use Rattle.std.specs.Prelude.{◌≡◌, ◌*◌, ◌≤◌, length};
+ghost use Rattle.std.specs.Prelude.{true, ◌≡◌, ◌*◌, ◌≤◌, ◌<◌, length};
 ghost use Rattle.job.specs.Jobs.{Job};
 ghost use Rattle.filling.specs.Shapes.{planner_of};
 ghost use Rattle.filling.specs.Rooms.{Lent};
 ghost use Rattle.filling.specs.Start.{prepare_verdict};
-ghost use Rattle.nesting.specs.Rounds.{swap_search};
+ghost use Rattle.filling.specs.Order.{rearranged};
 ghost use Rattle.nesting.specs.Nest.{nested, nest_job};
+ghost use Rattle.swaps.specs.inner.Turns.{searched};
 ghost use Rattle.report.specs.inner.Replies.{reply, reply_of, planned_when};
 ghost use Rattle.report.specs.readied.inner.Zeroed.{Zeroed, ReadInto};
 
-use filling::{Refusal, Verdict};
+use filling::{Plan, Refusal};
 use index::{Bucket, Entry};
 use job::Header;
-use report::NestResult;
 
-// The job's tables and rooms are prepared, then the plan of its copies in their order is made.
-fn nest_tables(
+// The job's tables and rooms are prepared, then the copies in the given order are searched: n rounds.
+fn plan_tables(
     bytes: &[u8],
     at: u32,
     h: Header,
+    n: usize,
+    order: &mut [usize],
     rows: &[u64],
     areas: &[f64],
     places: &[u32],
@@ -36,18 +38,19 @@ fn nest_tables(
     positions: &mut [f64],
     sheet_firsts: &mut [Bucket],
     placed_firsts: &mut [Bucket],
-) -> NestResult
+) -> Result<Plan, Refusal>
     requires { ((j : Job) × (l : Lent) × ReadInto j bytes.now at h rows.now areas.now places.now
         × Zeroed l shapes.old sheet.old placed.old sheet_entries.old placed_entries.old intervals.old positions.old
         sheet_firsts.old placed_firsts.old
-        × (6 * j.copies ≤ length positions.old))
-        × (2048 ≤ length places.now) }
+        × (rearranged j order.old ≡ true))
+        × (2048 ≤ length places.now) × (6 * length order.old ≤ length positions.old) × (n < 4096) }
     ensures { (j : Job) (l : Lent) → ReadInto j bytes.now at h rows.now areas.now places.now
         → Zeroed l shapes.old sheet.old placed.old sheet_entries.old
         placed_entries.old intervals.old positions.old sheet_firsts.old placed_firsts.old
-        → reply result positions.new ≡ reply_of (planned_when (prepare_verdict (planner_of j) l.rooms) l (nested j l (swap_search j l))) }
+        → rearranged j order.old ≡ true
+        → reply result positions.new ≡ reply_of (planned_when (prepare_verdict (planner_of j) l.rooms) l
+        (nested j l (searched j l order.old n))) }
 {
-    let kinds = h.kinds as usize;
     let p = prepare::prepare(
         bytes,
         at,
@@ -59,33 +62,25 @@ fn nest_tables(
         sheet_entries,
         sheet_firsts,
     );
-    let sheet_starts = p.sheet_starts;
-    let verdict = p.verdict;
-    match verdict {
-        Verdict::Accepted => {
-            let mut order = [0usize; 4096];
-            let n = copy_order::copy_order(rows, areas, kinds, &mut order);
-            swaps::search_plan::search_plan(
-                p.tables,
-                h,
-                h.rounds as usize,
-                &mut order[..n],
-                rows,
-                areas,
-                shapes,
-                sheet,
-                sheet_entries,
-                &sheet_starts,
-                placed,
-                placed_entries,
-                intervals,
-                positions,
-                sheet_firsts,
-                placed_firsts,
-            )
-        }
-        Verdict::Refused(k) => report::refused(k),
-    }
+    p.verdict?;
+    swaps::search_plan::search_plan(
+        p.tables,
+        h,
+        n,
+        order,
+        rows,
+        areas,
+        shapes,
+        sheet,
+        sheet_entries,
+        &p.sheet_starts,
+        placed,
+        placed_entries,
+        intervals,
+        positions,
+        sheet_firsts,
+        placed_firsts,
+    )
 }
 
 // The job that was read into the tables, with so many copies. All rooms are zero. Only crates of
@@ -107,7 +102,7 @@ pub fn nest_job(
     positions: &mut [f64],
     sheet_firsts: &mut [Bucket],
     placed_firsts: &mut [Bucket],
-) -> NestResult
+) -> Result<Plan, Refusal>
     requires { ((j : Job) × (l : Lent) × ReadInto j bytes.now at h rows.now areas.now places.now
         × Zeroed l shapes.old sheet.old placed.old sheet_entries.old placed_entries.old intervals.old positions.old
         sheet_firsts.old placed_firsts.old
@@ -120,12 +115,16 @@ pub fn nest_job(
         → reply result positions.new ≡ reply_of (nest_job j l) }
 {
     if positions.len() / 6 < copies {
-        return report::refused(Refusal::PositionRoom);
+        return Err(Refusal::PositionRoom);
     }
-    nest_tables(
+    let mut order = [0; 4096];
+    let n = copy_order::copy_order(rows, areas, h.kinds as usize, &mut order);
+    plan_tables(
         bytes,
         at,
         h,
+        h.rounds as usize,
+        &mut order[..n],
         rows,
         areas,
         places,

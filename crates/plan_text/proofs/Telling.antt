@@ -1,47 +1,21 @@
 -- The text in its buffer, and zeros after it. Assumes nothing.
-use Prim.Native.Nat.{ℕ, suc, ◌+◌, ◌-◌, ◌<◌, ◌≤◌}
-use native.Mathlib.Numerals.{add-one}
+use Prim.Native.Nat.{ℕ, ◌+◌, ◌<◌, ◌≤◌}
 use native.Mathlib.Omega.{arith}
 use mathlib.Core.Path.{◌≡◌, sym, ap, ap₂, subst, ◌∙◌}
-use mathlib.Core.List.{List, [], ◌∷◌, ◌++◌, append_assoc, append-nil}
-use lib.ListN.{length, take, drop, set, replicate, length-drop, length-replicate, replicate-append-replicate}
-use lib.Seq.{length-take-le, take_all, take-suc-set, drop_at}
+use mathlib.Core.List.{List, ◌++◌}
+use lib.ListN.{length, take, drop, replicate, length-drop, length-replicate, replicate-append-replicate}
+use lib.Seq.{length-take-le, drop_at}
 use borrow.Author.Tests.{lt-ltb, le-ltb}
 use Rattle.job.specs.Jobs.{read_job}
 use Rattle.filling.specs.Rooms.{Lent, laid, zeros}
 use Rattle.filling.specs.Fill.{Planned}
-use Rattle.rooms.proofs.Zeroing.{replicate_snoc}
 use Rattle.nesting.specs.Nest.{nest_of}
 use Rattle.nesting.specs.Text.{printed_for, printed}
 use Rattle.text.proofs.printed.Placed.{Placed, nest_placed}
+use Rattle.lines.specs.declared.Text.{Text}
+use Rattle.lines.specs.inner.Writing.{Put, Finished}
+use Rattle.lines.proofs.Appending.{put_from}
 use Rattle.plan_text.specs.Told.{TextReply, buffer_length, text_reply_of}
-
--- ---- zeros from byte n on
-
--- the bytes before i: the first n as they were, then zeros
-abbrev pub Cleared : List ℕ → ℕ → List ℕ → ℕ → Type 0
-Cleared before n s i = take i s ≡ take n before ++ replicate (i - n) 0
-
-pub cleared-start : (s : List ℕ) (n : ℕ) → Cleared s n s n
-cleared-start s n =
-    let z : n - n ≡ 0 = omega arith in
-    sym (append-nil (take n s)) ∙ ap (λ (k : ℕ). take n s ++ replicate k 0) (sym z)
-
-pub cleared_on : (before s : List ℕ) (n i : ℕ) → n ≤ i → i < length s → Cleared before n s i → Cleared before n (set s i 0) (i + 1)
-cleared_on before s n i h l e =
-    let z : i + 1 - n ≡ suc (i - n) = omega arith in
-    ap (λ (k : ℕ). take k (set s i 0)) (add-one i)
-    ∙ (take-suc-set s i 0 l
-    ∙ (ap (λ (xs : List ℕ). xs ++ (0 ∷ [])) e
-    ∙ (append_assoc (take n before) (replicate (i - n) 0) (0 ∷ [])
-    ∙ (ap (λ (xs : List ℕ). take n before ++ xs) (replicate_snoc (i - n) 0)
-    ∙ ap (λ (k : ℕ). take n before ++ replicate k 0) (sym z)))))
-
-pub cleared-end : (before s : List ℕ) (n i : ℕ) → length s ≡ length before → length s ≤ i → i ≤ length s → Cleared before n s i → s ≡ take n before ++ zeros 0 (drop n before)
-unfolding zeros
-cleared-end before s n i e h g f =
-    let z : i - n ≡ length (drop n before) = let d = length-drop n before in omega arith in
-    sym (take_all i s h) ∙ (f ∙ ap (λ (k : ℕ). take n before ++ replicate k 0) z)
 
 -- ---- what a call leaves
 
@@ -72,6 +46,16 @@ told_text bytes out after last l q n w e h d t f =
     let m : n ≡ length (printed bytes l) = sym (length-take-le n after (omega arith)) ∙ ap length text in
     let z : last ≡ printed bytes l ++ drop (length (printed bytes l)) (zeros 0 out) = f ∙ ap₂ (λ (x y : List ℕ). x ++ y) text (zeros-behind n after out d (omega arith) ∙ ap (λ (k : ℕ). drop k (zeros 0 out)) m) in
     rw (le-ltb (length out) buffer_length w, text_reply_of) (same n (length (printed bytes l)) last (printed bytes l ++ drop (length (printed bytes l)) (zeros 0 out)) q.lent (nest_of bytes l).lent m z (ap (λ (p : Planned). p.lent) e))
+
+-- the same, of a text that is written and finished
+pub told_finished : (bytes out last z : List ℕ) (l : Lent) (q : Planned) (n : ℕ) (t u : Text) → buffer_length ≤ length out → q ≡ nest_of bytes l
+    → t.out.now ≡ out → t.end ≡ 0 → u.end ≤ t.end + buffer_length → Put t (printed_for (read_job bytes) q) u → Finished u.out.now u.end z n → last ≡ z
+    → record { end = n; out = last; lent = q.lent } ≡ text_reply_of bytes out l
+unfolding zeros
+told_finished bytes out last z l q n t u w e d s b p f g =
+    let v = put_from out d s p in
+    told_text bytes out u.out.now last l q n w e (omega (arith, b, s, f.0)) v.long (ap (λ (k : ℕ). take k u.out.now) f.0 ∙ v.written)
+    (g ∙ (f.1 ∙ sym (ap (λ (k : ℕ). take k u.out.now ++ zeros 0 (drop k u.out.now)) f.0)))
 
 -- what a plan's lines need of its reply
 pub placed_of : (bytes : List ℕ) (l : Lent) (q : Planned) → q ≡ nest_of bytes l → Placed q

@@ -2,23 +2,12 @@
 // printed plan").
 #![tactic(auto)]
 
-ghost use Rattle.std.specs.Prelude.{◌≡◌, ◌≤◌, ◌++◌, length, take, drop};
-ghost use Rattle.filling.specs.Rooms.{zeros, lent_of};
+ghost use Rattle.std.specs.Prelude.{◌≡◌};
+ghost use Rattle.filling.specs.Rooms.{lent_of};
 ghost use Rattle.plan_text.specs.Told.{text_reply_of};
 
 use index::{Bucket, Entry};
-
-// Zeros from byte n on.
-pub fn zero_from(out: &mut [u8], n: usize)
-    requires { n ≤ length out.old }
-    ensures { out.new ≡ take n out.old ++ zeros 0 (drop n out.old) }
-{
-    let mut i = n;
-    while i < out.len() {
-        out[i] = 0;
-        i += 1;
-    }
-}
+use lines::Text;
 
 // The plan of the job that the bytes are, or its refusal, as text in a buffer of at least 589,824
 // bytes: where the text ends. A shorter buffer: 0, and nothing is written anywhere.
@@ -59,9 +48,7 @@ pub fn plan_text(
         intervals,
         positions,
     );
-    let verdict = r.verdict;
-    let plan = r.plan;
-    let n = text::printed::print_reply(bytes, verdict, plan, positions, out);
-    zero_from(out, n);
-    n
+    let mut told = Text::new(out);
+    text::printed::print_reply(bytes, r.verdict, r.plan, positions, &mut told);
+    told.finish()
 }

@@ -1,4 +1,5 @@
 -- The shapes by slot of a job in its tables are those of its planner. Assumes nothing.
+use Rattle.std.specs.Prelude.{Ok}
 use mathlib.Core.Path.{◌≡◌, refl, sym, ap, ◌∙◌}
 use mathlib.Core.Logic.{◌⊎◌, inl, inr}
 use mathlib.Core.Bool.{true, false}
@@ -15,7 +16,6 @@ use Rattle.kinds.specs.Kinds.{Kind, kind_of, head_at}
 use Rattle.kinds.specs.inner.Tables.{tabulate, orientation_at, orientations_of, kind_with, kind_at}
 use Rattle.kinds.proofs.Tables.{length-tabulate, tabulate_at}
 use Rattle.job.specs.declared.Header.{Header}
-use Rattle.job.specs.declared.JobRead.TheVariants.{Good}
 use Rattle.frames.specs.declared.Frame.{Frame}
 use Rattle.frames.specs.Frames.{framed}
 use Rattle.kinds.specs.sets.Sets.{Set}
@@ -31,7 +31,7 @@ use Rattle.prepare.specs.inner.Ready.{FromTables}
 use Rattle.kinds.specs.sets.inner.Answers.{set_at}
 
 -- what `job::read` answers
-pub from-tables : (bytes rows places : List ℕ) (areas : List Float) (h : Header) (s c : ℕ) (j : Job) → job_read (Good h s c) bytes rows areas places ≡ accepted
+pub from-tables : (bytes rows places : List ℕ) (areas : List Float) (h : Header) (s c : ℕ) (j : Job) → job_read (Ok (h, s, c)) bytes rows areas places ≡ accepted
     j → FromTables bytes rows places s h.kinds j
 from-tables bytes rows places areas h s c j e = record { areas = areas; sheet_is = (cc); kinds_are = (cc) }
 

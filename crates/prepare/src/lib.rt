@@ -5,33 +5,30 @@
 
 pub mod sheet;
 
-ghost use Rattle.std.specs.Prelude.{◌≡◌, ◌≤◌, length};
+ghost use Rattle.std.specs.Prelude.{Err, ◌≡◌, ◌≤◌, length};
 ghost use Rattle.job.specs.Jobs.{Job};
-ghost use Rattle.filling.specs.declared.Verdict.TheVariants.{Refused};
 ghost use Rattle.filling.specs.Shapes.{planner_of};
 ghost use Rattle.prepare.specs.inner.Ready.{FromTables, given, PreparedIs};
 
-use crate::sheet::SheetLaid;
-use filling::{Refusal, Tables, Verdict};
+use filling::{Refusal, Tables};
 use index::{Bucket, Entry};
 use job::Header;
-use shapes::ShapesLaid;
 use strips::Rect;
 
 // What is prepared: accepted or the refusal; the tables; where the sheet's buckets start.
 #[derive(Clone, Copy)]
 pub struct Prepared {
-    pub verdict: Verdict,
+    pub verdict: Result<(), Refusal>,
     pub tables: Tables,
     pub sheet_starts: [usize; 513],
 }
 
 // Nothing is prepared.
 fn refused(k: Refusal) -> Prepared
-    ensures { result.verdict ≡ Refused k }
+    ensures { result.verdict ≡ Err k }
 {
     Prepared {
-        verdict: Verdict::Refused(k),
+        verdict: Err(k),
         tables: Tables {
             resolution: 0.0,
             sheet_bounds: Rect {
@@ -71,7 +68,7 @@ pub fn prepare(
     let mut inset_bounds = [0.0; 4096];
     let mut parts = [0usize; 4096];
     let f = job::frame_of(h);
-    match sheet::lay_sheet(
+    let (sheet_bounds, sheet_strips) = match sheet::lay_sheet(
         bytes,
         at,
         sheet,
@@ -80,33 +77,31 @@ pub fn prepare(
         sheet_firsts,
         f,
     ) {
-        SheetLaid::Strips(sheet_bounds, sheet_strips) => {
-            match shapes::lay_shapes(
-                bytes,
-                rows,
-                places,
-                h.kinds as usize,
-                shapes,
-                &mut inset_bounds,
-                &mut parts,
-                f,
-            ) {
-                ShapesLaid::Strips(apart_strips, _) => Prepared {
-                    verdict: Verdict::Accepted,
-                    tables: Tables {
-                        resolution: h.resolution,
-                        sheet_bounds,
-                        sheet_strips,
-                        apart_strips,
-                        inset_bounds,
-                        parts,
-                    },
-                    sheet_starts,
-                },
-                ShapesLaid::NoRoom => refused(Refusal::StripRoom),
-            }
-        }
-        SheetLaid::NoStrips => refused(Refusal::StripRoom),
-        SheetLaid::NoEntries => refused(Refusal::EntryRoom),
+        Ok(laid) => laid,
+        Err(e) => return refused(Refusal::from(e)),
+    };
+    let Some((apart_strips, _)) = shapes::lay_shapes(
+        bytes,
+        rows,
+        places,
+        h.kinds as usize,
+        shapes,
+        &mut inset_bounds,
+        &mut parts,
+        f,
+    ) else {
+        return refused(Refusal::StripRoom);
+    };
+    Prepared {
+        verdict: Ok(()),
+        tables: Tables {
+            resolution: h.resolution,
+            sheet_bounds,
+            sheet_strips,
+            apart_strips,
+            inset_bounds,
+            parts,
+        },
+        sheet_starts,
     }
 }

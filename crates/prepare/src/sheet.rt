@@ -8,19 +8,14 @@ ghost use Rattle.frames.specs.Frames.{framed};
 ghost use Rattle.kinds.specs.sets.inner.Answers.{set_at};
 
 use frames::Frame;
-use index::{Bucket, Entry, Index};
-use strips::{Rect, Stored};
-
-// The sheet's bounds and how many strips it has; or refusal 20 or 21.
-#[derive(Clone, Copy)]
-pub enum SheetLaid {
-    Strips(Rect, usize),
-    NoStrips,
-    NoEntries,
-}
+use index::{Bucket, Entry, Index, Overrun};
+use shapes::set_strips;
+use shapes::set_strips::Scratch;
+use strips::Rect;
 
 // The strips of the set at a bit position in the frame, their entries and their first buckets go into
-// the rooms, and the buckets' starts into their table, which is zero.
+// the rooms, and the buckets' starts into their table, which is zero. The sheet's bounds and how many
+// strips it has; or the room that they overrun.
 pub fn lay_sheet(
     bytes: &[u8],
     at: u32,
@@ -29,46 +24,25 @@ pub fn lay_sheet(
     starts: &mut [usize],
     firsts: &mut [Bucket],
     f: Frame,
-) -> SheetLaid
+) -> Result<(Rect, usize), Overrun>
     requires { (length starts.old ≡ buckets + 1) × ((b : ℕ) → get_or starts.old b 0 ≡ 0) }
     ensures { SheetIs result (set_bounds (framed f (set_at bytes.now at))) (set_strips true (framed f (set_at bytes.now at)))
         sheet.old sheet.new entries.old entries.new starts.new
         firsts.old firsts.new }
 {
-    let mut points = [0.0; 1024];
-    let mut ends = [0usize; 64];
-    let mut short = [0u16; 64];
-    let mut es = [0.0; 3072];
-    let mut crossings = [0.0; 1536];
-    let mut line = [0.0; 514];
+    let mut scratch = Scratch::new();
     let mut gains = [0usize; 512];
-    let n = match shapes::set_strips::set_strips(
-        bytes,
-        at,
-        true,
-        &mut points,
-        &mut ends,
-        &mut short,
-        &mut es,
-        &mut crossings,
-        &mut line,
-        sheet,
-        0,
-        f,
-    ) {
-        Stored::Count(n) => n,
-        Stored::NoRoom => {
-            return SheetLaid::NoStrips;
-        }
-    };
+    let n = set_strips::set_strips(bytes, at, true, &mut scratch, sheet, 0, f).ok_or(
+        Overrun::StripRoom,
+    )?;
     if index::standing_capacity(sheet, firsts) < n {
-        return SheetLaid::NoStrips;
+        return Err(Overrun::StripRoom);
     }
-    let bounds = shapes::set_strips::set_bounds(bytes, at, &mut points, &mut ends, f);
+    let bounds = set_strips::set_bounds(bytes, at, &mut scratch, f);
     let ix = Index::new(bounds.left, bounds.right);
     let end = 6 * n;
-    if enter::enter_copy(ix, &sheet[..end], 0, n, entries, starts, &mut gains, firsts) {
-        return SheetLaid::Strips(bounds, n);
+    if !enter::enter_copy(ix, &sheet[..end], 0, n, entries, starts, &mut gains, firsts) {
+        return Err(Overrun::EntryRoom);
     }
-    SheetLaid::NoEntries
+    Ok((bounds, n))
 }

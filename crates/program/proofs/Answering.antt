@@ -11,7 +11,9 @@ use borrow.Author.Tests.{lt-ltb, le-ltb}
 use Rattle.numbers.proofs.Truth.{below_or_not}
 use Rattle.filling.specs.Rooms.{Lent, laid, zeros, lent_of}
 use Rattle.nesting.specs.Text.{decimal, line, no_word, printed}
-use Rattle.lines.specs.inner.Writing.{Wrote}
+use Rattle.lines.specs.declared.Text.{Text}
+use Rattle.lines.specs.inner.Writing.{Wrote, Put, Finished}
+use Rattle.lines.proofs.Appending.{put_from}
 use Rattle.plan_text.specs.Told.{TextReply, buffer_length, text_reply_of}
 use Rattle.plan_text.specs.Program.{longest_job, overlong_number, program_text, Buffered, text_in, program_answer, strip_room, entry_room, first_room, interval_room, position_room, program_rooms}
 use Rattle.plan_text.proofs.Telling.{zeros-behind}
@@ -35,6 +37,14 @@ text_in_lem text out after last n w f =
     f ∙ (ap (λ (x : List ℕ). x ++ zeros 0 (drop n after)) w.written ∙ ap (λ (x : List ℕ). text ++ x) b) in
     let m : n ≡ length text = omega (arith, w.next) in
     same n (length text) last (text ++ drop (length text) (zeros 0 out)) m (z ∙ ap (λ (k : ℕ). text ++ drop k (zeros 0 out)) m)
+
+-- the same, of a text that is written and finished
+pub text_in_finished : (out last text z : List ℕ) (n : ℕ) (t u : Text) → t.out.now ≡ out → t.end ≡ 0 → Put t text u → Finished u.out.now u.end z n → last ≡ z
+    → record { end = n; out = last } ≡ text_in text out
+unfolding zeros
+text_in_finished out last text z n t u e s p f g =
+    let w = put_from out e s p in
+    ap (λ (k : ℕ). record { end = k; out = last }) f.0 ∙ text_in_lem text out u.out.now last u.end w (g ∙ f.1)
 
 -- a buffer that is too short
 pub answer_short : (bytes out : List ℕ) → length out < buffer_length → record { end = 0; out = out } ≡ program_answer bytes out

@@ -4,11 +4,12 @@
 
 pub mod print_plan;
 
-ghost use Rattle.std.specs.Prelude.{◌≤◌, ◌≡◌, [], ◌∷◌, length};
-ghost use Rattle.nesting.specs.Text.{decimal, line, no_word};
-ghost use Rattle.plan_text.specs.Program.{overlong_number, strip_room, entry_room, first_room, interval_room, position_room, text_in, program_answer};
+ghost use Rattle.std.specs.Prelude.{◌+◌, ◌*◌, ◌<◌, ◌≡◌, length, map};
+ghost use Rattle.nesting.specs.Text.{decimal, line};
+ghost use Rattle.plan_text.specs.Program.{strip_room, entry_room, first_room, interval_room, position_room, text_in, program_answer};
 
 use index::{Bucket, Entry};
+use lines::Text;
 
 // 1,365 strips, six numbers to a strip.
 const STRIP_SLOTS: usize = 8190;
@@ -55,14 +56,14 @@ fn position_room() -> [f64; POSITION_SLOTS]
     [0.0; POSITION_SLOTS]
 }
 
-// The text of 11, zeros after it.
-fn overlong_text(out: &mut [u8]) -> usize
-    requires { 589824 ≤ length out.old }
-    ensures { record { end = result; out = out.new } ≡ text_in (line no_word (decimal overlong_number ∷ [])) out.old }
+// A line's text, a word and counts, and zeros after it: where it ends.
+pub fn line_text(out: &mut [u8], word: &[u8], counts: &[usize]) -> usize
+    requires { length word.now + 21 * length counts.now < length out.old }
+    ensures { record { end = result; out = out.new } ≡ text_in (line word.now (map decimal counts.now)) out.old }
 {
-    let n = lines::count_line(out, 0, b"no", 11);
-    plan_text::zero_from(out, n);
-    n
+    let mut text = Text::new(out);
+    text.line(word, counts, &[]);
+    text.finish()
 }
 
 // The program's text for these bytes, in a buffer of at least 589,824 bytes: where it ends, with zeros
@@ -74,7 +75,7 @@ pub fn program_text(bytes: &[u8], out: &mut [u8]) -> usize
         return 0;
     }
     if 65536 < bytes.len() {
-        return overlong_text(out);
+        return line_text(out, b"no", &[11]);
     }
     let mut shapes = strip_room();
     let mut sheet = strip_room();

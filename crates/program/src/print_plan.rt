@@ -25,8 +25,8 @@ fn input_room() -> [u8; INPUT_BYTES]
 
 // Writes the first n bytes, if there are so many.
 pub fn write_from(text: &[u8], n: usize) {
-    if n <= text.len() {
-        io::write_all(1, &text[..n]);
+    if let Some(text) = text.get(..n) {
+        io::write_all(1, text);
     }
 }
 

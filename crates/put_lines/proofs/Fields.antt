@@ -3,27 +3,18 @@ use Prim.Native.Nat.{ℕ, ◌+◌, ◌<◌, ◌≤◌}
 use native.Mathlib.Omega.{arith}
 use native.Mathlib.Numerals.{add-one}
 use mathlib.Core.Path.{◌≡◌, sym, subst}
-use mathlib.Core.Bool.{Bool, true, false, ◌&&◌}
+use mathlib.Core.Bool.{Bool, true, ◌&&◌}
 use mathlib.Core.List.{List}
 use lib.ListN.{length}
 use lib.Dec.{leb, eqb}
-use borrow.Author.Tests.{eqb-true, le-leb, lt-leb}
+use borrow.Author.Tests.{eqb-true}
 use Rattle.numbers.proofs.Truth.{both_second}
 use Rattle.put_lines.specs.declared.Digits.{Digits}
 use Rattle.put_lines.specs.declared.Field.{Field}
-use Rattle.put_lines.specs.PutLines.{byte_at, digits_from, field_after, decimal_after, hex_after, line_from, begins}
+use Rattle.put_lines.specs.PutLines.{byte_at, digits_from, field_after, decimal_after, hex_after, line_from}
 use Rattle.put_lines.proofs.Numerals.{byte_inside, digits_near}
 
 -- ---- a field
-
-pub written-before : (before : Bool) (t : Bool) → before ≡ false → false ≡ before && t
-written-before before t e = rw e
-
-pub written_short : (before : Bool) (p least end : ℕ) (t : Bool) → before ≡ true → end < p + least → false ≡ before && (leb (p + least) end && t)
-written_short before p least end t e h = rw (e, lt-leb (p + least) end h)
-
-pub written_last : (before : Bool) (p least end : ℕ) (t : Bool) → before ≡ true → p + least ≤ end → t ≡ before && (leb (p + least) end && t)
-written_last before p least end t e h = rw (e, le-leb (p + least) end h)
 
 module _ (bytes : List ℕ) where
   pub field_is : (base least most b : ℕ) (f : Field) (d : Digits) (good : Bool) → d ≡ digits_from bytes base most f.next 0
@@ -71,23 +62,3 @@ module _ (bytes : List ℕ) where
   pub line-inside : (p : ℕ) → (line_from bytes p).good ≡ true → (line_from bytes p).next ≤ length bytes
   unfolding line_from
   line-inside p e = hex-inside 10 _ (omega arith) e
-
-  -- ---- whether a line begins
-
-  module _ (p : ℕ) where
-    pub begins-not-1 : eqb (byte_at bytes p) 112 ≡ false → false ≡ begins bytes p
-    unfolding begins
-    begins-not-1 a = rw a
-
-    pub begins-not-2 : eqb (byte_at bytes p) 112 ≡ true → eqb (byte_at bytes (p + 1)) 117 ≡ false → false ≡ begins bytes p
-    unfolding begins
-    begins-not-2 a b = rw (a, b)
-
-    pub begins-not-3 : eqb (byte_at bytes p) 112 ≡ true → eqb (byte_at bytes (p + 1)) 117 ≡ true → eqb (byte_at bytes (p + 2)) 116 ≡ false → false ≡ begins bytes p
-    unfolding begins
-    begins-not-3 a b c = rw (a, b, c)
-
-    pub begins-last : eqb (byte_at bytes p) 112 ≡ true → eqb (byte_at bytes (p + 1)) 117 ≡ true → eqb (byte_at bytes (p + 2)) 116 ≡ true
-        → eqb (byte_at bytes (p + 3)) 32 ≡ begins bytes p
-    unfolding begins
-    begins-last a b c = rw (a, b, c)

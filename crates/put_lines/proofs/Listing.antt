@@ -3,55 +3,34 @@ use Prim.Native.Nat.{ℕ, zero, suc, ◌+◌, ◌-◌, ◌*◌, ◌/◌, ◌<◌
 use native.Mathlib.Nat.{sub-zero, zero-add}
 use native.Mathlib.Numerals.{add-one}
 use native.Mathlib.Omega.{arith}
+use Rattle.std.specs.Prelude.{Result, Ok, Err}
 use mathlib.Core.Path.{◌≡◌, refl, sym, ap, subst, ◌∙◌}
 use mathlib.Core.Logic.{inl, inr}
 use mathlib.Core.Bool.{Bool, true, false, cond}
-use mathlib.Core.List.{List, [], ◌∷◌, ◌++◌, append_assoc}
-use lib.ListN.{length, take, drop, set, length-set, length-append, take-append-drop}
-use lib.Seq.{length-take-le, take-suc-set, drop-set-lt, drop-drop}
-use Rattle.numbers.proofs.Truth.{either, below_or_not}
+use mathlib.Core.List.{List, [], ◌∷◌, ◌++◌}
+use borrow.Rule.Slice.PartMut.{put_mid, same_len_mid}
+use Rattle.std.proofs.lemmas.Slice.{take-put_mid, drop-put_mid}
+use lib.ListN.{length, length-drop, take, drop, length-append, take-append-drop}
+use lib.Seq.{length-take-le, drop-drop}
+use Rattle.numbers.proofs.Truth.{either}
 use Rattle.put_lines.specs.declared.Line.{Line}
-use Rattle.put_lines.specs.declared.ListRead.{ListRead}
-use Rattle.put_lines.specs.declared.ListRead.TheVariants.{Lines, Malformed, TooMany}
+use Rattle.put_lines.specs.declared.ListError.{ListError}
+use Rattle.put_lines.specs.declared.ListError.TheVariants.{Malformed, TooMany}
 use Rattle.put_lines.specs.PutLines.{line_from, line_numbers, begins, PutList, lines_from, put_list}
 use Rattle.put_lines.specs.inner.Storing.{list_in, Stored}
 use Rattle.put_lines.proofs.Fields.{line-inside}
 
 -- ---- a line's numbers in the room
 
-pub stored : (s : List ℕ) (n : ℕ) (l : Line) → 4 * n + 4 ≤ length s
-    → Stored s n l (set (set (set (set s (4 * n) l.kind) (4 * n + 1) l.orientation) (4 * n + 2) l.x) (4 * n + 3) l.y)
+pub stored : (s ks : List ℕ) (n k : ℕ) (l : Line) → 4 * n + 4 ≤ length s → k ≡ 4 → ks ≡ line_numbers l → Stored s n l (put_mid (4 * n) k s ks)
 unfolding line_numbers
-stored s n l h =
-    let a = set s (4 * n) l.kind in
-    let b = set a (4 * n + 1) l.orientation in
-    let c = set b (4 * n + 2) l.x in
-    let d = set c (4 * n + 3) l.y in
-    let la : length a ≡ length s = length-set s (4 * n) l.kind in
-    let lb : length b ≡ length a = length-set a (4 * n + 1) l.orientation in
-    let lc : length c ≡ length b = length-set b (4 * n + 2) l.x in
-    let ld : length d ≡ length c = length-set c (4 * n + 3) l.y in
-    let ea = one s (4 * n) (4 * n + 1) l.kind (omega arith) (omega arith) in
-    let eb = one a (4 * n + 1) (4 * n + 2) l.orientation (omega arith) (omega arith) in
-    let ec = one b (4 * n + 2) (4 * n + 3) l.x (omega arith) (omega arith) in
-    let ed = one c (4 * n + 3) (4 * n + 4) l.y (omega arith) (omega arith) in
+stored s ks n k l h e f =
+    let w : length ks ≡ 4 = ap length f in
     record {
-      long = ld ∙ (lc ∙ (lb ∙ la));
-      front = ed ∙ (ap (λ (t : List ℕ). t ++ (l.y ∷ [])) (ec ∙ (ap (λ (t : List ℕ). t ++ (l.x ∷ []))
-          (eb ∙ ap (λ (t : List ℕ). t ++ (l.orientation ∷ [])) ea)))
-          ∙ four (take (4 * n) s) l.kind l.orientation l.x l.y);
-      back = drop-set-lt (4 * n + 4) c (4 * n + 3) l.y (omega arith)
-          ∙ (drop-set-lt (4 * n + 4) b (4 * n + 2) l.x (omega arith)
-          ∙ (drop-set-lt (4 * n + 4) a (4 * n + 1) l.orientation (omega arith) ∙ drop-set-lt (4 * n + 4) s (4 * n) l.kind (omega arith)));
+      long = same_len_mid (4 * n) k s ks (w ∙ (sym e ∙ sym (length-take-le k (drop (4 * n) s) (omega (arith, length-drop (4 * n) s)))));
+      front = take-put_mid (4 * n) k s ks (4 * n + 4) (omega arith) (omega arith) ∙ ap (λ (t : List ℕ). take (4 * n) s ++ t) f;
+      back = drop-put_mid (4 * n) k s ks (4 * n + 4) (omega arith) (omega arith) (omega arith);
     }
-  where
-    one : (s : List ℕ) (i j v : ℕ) → j ≡ suc i → i < length s → take j (set s i v) ≡ take i s ++ (v ∷ [])
-    one s i j v e h = ap (λ (k : ℕ). take k (set s i v)) e ∙ take-suc-set s i v h
-
-    four : (t : List ℕ) (a b c d : ℕ) → (((t ++ (a ∷ [])) ++ (b ∷ [])) ++ (c ∷ [])) ++ (d ∷ []) ≡ t ++ (a ∷ b ∷ c ∷ d ∷ [])
-    four t a b c d =
-        append_assoc ((t ++ (a ∷ [])) ++ (b ∷ [])) (c ∷ []) (d ∷ [])
-        ∙ (append_assoc (t ++ (a ∷ [])) (b ∷ []) (c ∷ d ∷ []) ∙ append_assoc t (a ∷ []) (b ∷ c ∷ d ∷ []))
 
 four_more : (ns : List ℕ) (l : Line) (n : ℕ) → length ns ≡ 4 * n → length (ns ++ line_numbers l) ≡ 4 * suc n
 unfolding line_numbers
@@ -63,17 +42,17 @@ chosen b x y e = rw e
 -- ---- lines
 
 module _ (bytes : List ℕ) where
-  pub lines_end : (m p : ℕ) (ns : List ℕ) (n : ℕ) → begins bytes p ≡ false → record { found = Lines n p; numbers = ns } ≡ lines_from bytes m p ns n
+  pub lines_end : (m p : ℕ) (ns : List ℕ) (n : ℕ) → begins bytes p ≡ false → record { found = Ok (n, p); numbers = ns } ≡ lines_from bytes m p ns n
   unfolding lines_from
   lines_end zero p ns n e = rw (e, lines_from)
   lines_end (suc m) p ns n e = rw (e, lines_from)
 
-  lines_many : (p : ℕ) (ns : List ℕ) (n : ℕ) → begins bytes p ≡ true → record { found = TooMany; numbers = ns } ≡ lines_from bytes 0 p ns n
+  lines_many : (p : ℕ) (ns : List ℕ) (n : ℕ) → begins bytes p ≡ true → record { found = Err TooMany; numbers = ns } ≡ lines_from bytes 0 p ns n
   unfolding lines_from
   lines_many p ns n e = rw (e, lines_from)
 
   lines_bad : (m p : ℕ) (ns : List ℕ) (n : ℕ) → begins bytes p ≡ true → (line_from bytes (p + 4)).good ≡ false
-      → record { found = Malformed n; numbers = ns } ≡ lines_from bytes (suc m) p ns n
+      → record { found = Err (Malformed n); numbers = ns } ≡ lines_from bytes (suc m) p ns n
   unfolding lines_from
   lines_bad m p ns n e f = rw (e, f, lines_from)
 
@@ -83,15 +62,15 @@ module _ (bytes : List ℕ) where
   lines_on m p ns n e f =
       rw (e, lines_from)
       (chosen (line_from bytes (p + 4)).good (lines_from bytes m (line_from bytes (p + 4)).next (ns ++ line_numbers (line_from bytes (p + 4))) (suc n))
-      (record { found = Malformed n; numbers = ns }) f)
+      (record { found = Err (Malformed n); numbers = ns }) f)
 
   -- ---- what is found
 
   -- so many lines at most, a job inside the text, and four numbers to a line
-  unfoldable pub Fitting : ℕ → ListRead → List ℕ → Type 0
-  Fitting most (Lines n at) numbers = (n ≤ most) × (at ≤ length bytes) × (length numbers ≡ 4 * n)
-  Fitting most (Malformed n) numbers = ℕ
-  Fitting most TooMany numbers = ℕ
+  unfoldable pub Fitting : ℕ → Result (ℕ × ℕ) ListError → List ℕ → Type 0
+  Fitting most (Ok (n, at)) numbers = (n ≤ most) × (at ≤ length bytes) × (length numbers ≡ 4 * n)
+  Fitting most (Err (Malformed n)) numbers = ℕ
+  Fitting most (Err TooMany) numbers = ℕ
 
   fitting_from : (m p : ℕ) (ns : List ℕ) (n : ℕ) → p ≤ length bytes → length ns ≡ 4 * n
       → Fitting (n + m) (lines_from bytes m p ns n).found (lines_from bytes m p ns n).numbers
@@ -141,19 +120,12 @@ module _ (bytes : List ℕ) where
         inside = omega arith;
       }
 
-  few_on : (k n : ℕ) → n ≤ k → (n ≡ k → ⊥) → n + 1 ≤ k
-  few_on k n h x = elim (below_or_not n k) [ inl l ↦ omega arith | inr l ↦ absurd (x (omega arith)) ]
-
-  -- there is room for one more
-  pub listed-room : (before room : List ℕ) (p n : ℕ) → Listed before room p n → (n ≡ length before / 4 → ⊥) → 4 * n + 4 ≤ length room
-  listed-room before room p n t h = let f = few_on (length before / 4) n t.few h in let g = t.long in omega arith
-
-  pub listed_on : (before room after : List ℕ) (p n : ℕ) (l : Line) → begins bytes p ≡ true → (n ≡ length before / 4 → ⊥) → l ≡ line_from bytes (p + 4)
+  pub listed_on : (before room after : List ℕ) (p n : ℕ) (l : Line) → begins bytes p ≡ true → n < length before / 4 → l ≡ line_from bytes (p + 4)
       → l.good ≡ true → Stored room n l after → Listed before room p n → Listed before after l.next (n + 1)
   listed_on before room after p n l b h e g s t =
       let f : (line_from bytes (p + 4)).good ≡ true = subst (λ (k : Line). k.good ≡ true) e g in
       let m = length before / 4 - (n + 1) in
-      let u : length before / 4 - n ≡ suc m = less (length before / 4) n t.few h in
+      let u : length before / 4 - n ≡ suc m = omega arith in
       let w : 4 * (n + 1) ≡ 4 * n + 4 = omega arith in
       record {
         same =
@@ -167,15 +139,12 @@ module _ (bytes : List ℕ) where
             ap (λ (k : ℕ). drop k after) w
             ∙ (s.back ∙ (sym (drop-drop 4 (4 * n) room) ∙ (ap (λ (x : List ℕ). drop 4 x) t.back ∙
             (drop-drop 4 (4 * n) before ∙ ap (λ (k : ℕ). drop k before) (sym w)))));
-        few = few_on (length before / 4) n t.few h;
+        few = omega arith;
         inside = subst (λ (k : Line). k.next ≤ length bytes) (sym e) (line-inside bytes (p + 4) f);
       }
-    where
-      less : (k n : ℕ) → n ≤ k → (n ≡ k → ⊥) → k - n ≡ suc (k - (n + 1))
-      less k n h x = let y = few_on k n h x in omega arith
 
   -- what is found, and the room
-  close : (before room : List ℕ) (p n : ℕ) (r : ListRead) → Listed before room p n
+  close : (before room : List ℕ) (p n : ℕ) (r : Result (ℕ × ℕ) ListError) → Listed before room p n
       → record { found = r; numbers = take (4 * n) room } ≡ lines_from bytes (length before / 4 - n) p (take (4 * n) room) n
       → record { found = r; numbers = room } ≡ list_in bytes before
   unfolding list_in
@@ -188,21 +157,17 @@ module _ (bytes : List ℕ) where
       ∙ ap (λ (q : PutList). record { found = q.found; numbers = q.numbers ++ drop (length q.numbers) before }) (e ∙ t.same)
 
   module _ (before room : List ℕ) (p n : ℕ) (t : Listed before room p n) where
-    pub listed-end : begins bytes p ≡ false → record { found = Lines n p; numbers = room } ≡ list_in bytes before
-    listed-end b = close before room p n (Lines n p) t (lines_end (length before / 4 - n) p (take (4 * n) room) n b)
+    pub listed-end : begins bytes p ≡ false → record { found = Ok (n, p); numbers = room } ≡ list_in bytes before
+    listed-end b = close before room p n (Ok (n, p)) t (lines_end (length before / 4 - n) p (take (4 * n) room) n b)
 
-    pub listed_many : begins bytes p ≡ true → n ≡ length before / 4 → record { found = TooMany; numbers = room } ≡ list_in bytes before
+    pub listed_many : begins bytes p ≡ true → n ≡ length before / 4 → record { found = Err TooMany; numbers = room } ≡ list_in bytes before
     listed_many b e =
         let z : length before / 4 - n ≡ 0 = omega arith in
-        close before room p n TooMany t (lines_many p (take (4 * n) room) n b ∙ ap (λ (k : ℕ). lines_from bytes k p (take (4 * n) room) n) (sym z))
+        close before room p n (Err TooMany) t (lines_many p (take (4 * n) room) n b ∙ ap (λ (k : ℕ). lines_from bytes k p (take (4 * n) room) n) (sym z))
 
-    pub listed-bad : begins bytes p ≡ true → (n ≡ length before / 4 → ⊥) → (line_from bytes (p + 4)).good ≡ false
-        → record { found = Malformed n; numbers = room } ≡ list_in bytes before
-    listed-bad b h g = close before room p n (Malformed n) t (bad (length before / 4 - n) (left (length before / 4) n t.few h))
-      where
-        bad : (k : ℕ) → (k ≡ 0 → ⊥) → record { found = Malformed n; numbers = take (4 * n) room } ≡ lines_from bytes k p (take (4 * n) room) n
-        bad zero x = absurd (x refl)
-        bad (suc m) x = lines_bad m p (take (4 * n) room) n b g
-
-        left : (k n : ℕ) → n ≤ k → (n ≡ k → ⊥) → k - n ≡ 0 → ⊥
-        left k n h x e = x (omega arith)
+    pub listed-bad : begins bytes p ≡ true → n < length before / 4 → (line_from bytes (p + 4)).good ≡ false
+        → record { found = Err (Malformed n); numbers = room } ≡ list_in bytes before
+    listed-bad b h g =
+        let u : length before / 4 - n ≡ suc (length before / 4 - (n + 1)) = omega arith in
+        close before room p n (Err (Malformed n)) t (lines_bad (length before / 4 - (n + 1)) p (take (4 * n) room) n b g
+        ∙ ap (λ (k : ℕ). lines_from bytes k p (take (4 * n) room) n) (sym u))

@@ -5,22 +5,14 @@ use native.Mathlib.Numerals.{add-one}
 use native.Mathlib.Omega.{arith}
 use mathlib.Core.Path.{◌≡◌, refl, sym, ap, subst, ◌∙◌}
 use mathlib.Core.Logic.{inl, inr}
-use mathlib.Core.List.{List, [], ◌∷◌}
-use lib.ListN.{length, get_or, get_or-eq_default}
+use mathlib.Core.List.{List}
+use lib.ListN.{length, get_or-eq_default}
 use borrow.Author.Tests.{lt-ltb, le-ltb}
 use Rattle.numbers.proofs.Truth.{below_or_not, not-below-zero}
 use Rattle.put_lines.specs.declared.Digits.{Digits}
 use Rattle.put_lines.specs.PutLines.{byte_at, digit_of, digits_from}
 
 -- ---- bytes
-
-any-default : (l : List ℕ) (p d e : ℕ) → p < length l → get_or l p d ≡ get_or l p e
-any-default [] p d e h = absurd (not-below-zero p h)
-any-default (x ∷ l) zero d e h = refl
-any-default (x ∷ l) (suc p) d e h = any-default l p d e (omega arith)
-
-pub byte_in : (bytes : List ℕ) (p : ℕ) → p < length bytes → get_or bytes p 0 ≡ byte_at bytes p
-byte_in bytes p h = any-default bytes p 0 256 h
 
 pub byte_out : (bytes : List ℕ) (p : ℕ) → length bytes ≤ p → 256 ≡ byte_at bytes p
 byte_out bytes p h = sym (get_or-eq_default bytes 256 h)

@@ -1,12 +1,12 @@
 -- Document 02, W6: "a list of kind, orientation, x and y as `put` gives them, in placing order", as text. Every line is written as the plan prints it:
 -- `put KIND COPY ORIENTATION X Y GAP` and a line feed, one blank between fields, decimals of 1 to 19 digits and three times 16 lower-case hex digits.
 -- The job's bytes come right after the last line: the lines end where the next bytes are not `put` and a blank. Definitions only. Assumes nothing.
-use Rattle.std.specs.Prelude.{ℕ, zero, suc, ◌+◌, ◌-◌, ◌*◌, Bool, true, cond, ◌&&◌, List, [], ◌∷◌, ◌++◌, get_or, ltb, leb, eqb}
+use Rattle.std.specs.Prelude.{Result, Ok, Err, ℕ, zero, suc, ◌+◌, ◌-◌, ◌*◌, Bool, true, cond, ◌&&◌, List, [], ◌∷◌, ◌++◌, get_or, ltb, leb, eqb}
 use Rattle.put_lines.specs.declared.Digits.{Digits}
 use Rattle.put_lines.specs.declared.Field.{Field}
 use Rattle.put_lines.specs.declared.Line.{Line}
-use Rattle.put_lines.specs.declared.ListRead.{ListRead}
-use Rattle.put_lines.specs.declared.ListRead.TheVariants.{Lines, Malformed, TooMany}
+use Rattle.put_lines.specs.declared.ListError.{ListError}
+use Rattle.put_lines.specs.declared.ListError.TheVariants.{Malformed, TooMany}
 
 -- ---- digits
 
@@ -62,18 +62,18 @@ line_numbers l = l.kind ∷ l.orientation ∷ l.x ∷ l.y ∷ []
 
 -- what is found, and the numbers of the lines before it
 pub record PutList : Type 0 where
-  pub found : ListRead
+  pub found : Result (ℕ × ℕ) ListError
   pub numbers : List ℕ
 
 -- the lines from p on, where n lines with these numbers stand before them and so many more may come
 unfoldable pub lines_from : List ℕ → ℕ → ℕ → List ℕ → ℕ → PutList
-lines_from bytes zero p numbers n = record { found = cond (begins bytes p) TooMany (Lines n p); numbers = numbers }
+lines_from bytes zero p numbers n = record { found = cond (begins bytes p) (Err TooMany) (Ok (n, p)); numbers = numbers }
 lines_from bytes (suc more) p numbers n =
     cond (begins bytes p)
     (cond (line_from bytes (p + 4)).good
     (lines_from bytes more (line_from bytes (p + 4)).next (numbers ++ line_numbers (line_from bytes (p + 4))) (suc n))
-    (record { found = Malformed n; numbers = numbers }))
-    (record { found = Lines n p; numbers = numbers })
+    (record { found = Err (Malformed n); numbers = numbers }))
+    (record { found = Ok (n, p); numbers = numbers })
 
 -- the list that a text begins with, of so many lines at most
 unfoldable pub put_list : ℕ → List ℕ → PutList

@@ -32,29 +32,22 @@ pub struct Line {
     pub good: bool,
 }
 
-// What a list's text reads as: so many lines, and where the job begins; the number of the line that
-// is not so written, counted from 0; or more lines than the room has.
-#[derive(Clone, Copy)]
-pub enum ListRead {
-    Lines(usize, usize),
+// Why a list's text is refused: the number of the line that is not so written, counted from 0, or more
+// lines than the room has.
+#[derive(Clone, Copy, Debug, PartialEq, Eq)]
+pub enum ListError {
     Malformed(usize),
     TooMany,
-}
-
-fn wide(x: u8) -> u64
-    ensures { result ≡ x }
-{
-    x as u64
 }
 
 // The byte at p, 256 past the end.
 fn byte_at(bytes: &[u8], p: usize) -> u64
     ensures { result ≡ byte_at bytes.now p }
 {
-    if p < bytes.len() {
-        return wide(bytes[p]);
+    match bytes.get(p) {
+        Some(b) => u64::from(*b),
+        None => 256,
     }
-    256
 }
 
 // Whether the byte b stands at p.
@@ -68,19 +61,11 @@ fn stands_at(bytes: &[u8], p: usize, b: u64) -> bool
 fn digit_of(b: u64) -> u64
     ensures { result ≡ digit_of b }
 {
-    if b < 48 {
-        return 16;
+    match b {
+        48..=57 => b - 48,
+        97..=102 => b - 87,
+        _ => 16,
     }
-    if b < 58 {
-        return b - 48;
-    }
-    if b < 97 {
-        return 16;
-    }
-    if b < 103 {
-        return b - 87;
-    }
-    16
 }
 
 // The digits from p on, so many at most.
@@ -89,18 +74,17 @@ fn digits_from(bytes: &[u8], base: u64, most: usize, p: usize) -> Digits
     ensures { result ≡ digits_from bytes.now base most p 0 }
 {
     let mut value: u64 = 0;
-    let mut end = p;
-    let mut left = most;
-    while 0 < left {
+    for end in p..p + most {
         let d = digit_of(byte_at(bytes, end));
         if base <= d {
             return Digits { value, end };
         }
         value = base * value + d;
-        end += 1;
-        left -= 1;
     }
-    Digits { value, end }
+    Digits {
+        value,
+        end: p + most,
+    }
 }
 
 // Whether all is so written up to the end of a field: it was before, its digits from p to end are
@@ -109,13 +93,7 @@ fn written(bytes: &[u8], before: bool, p: usize, least: usize, end: usize, b: u6
     requires { p + least ≤ 18446744073709551615 }
     ensures { result ≡ (before && (leb (p + least) end && eqb (byte_at bytes.now end) b)) }
 {
-    if !before {
-        return false;
-    }
-    if end < p + least {
-        return false;
-    }
-    stands_at(bytes, end, b)
+    before && p + least <= end && stands_at(bytes, end, b)
 }
 
 // The field after f: least to most digits, and then the byte b.
@@ -123,14 +101,12 @@ fn field_after(bytes: &[u8], base: u64, least: usize, most: usize, b: u64, f: Fi
     requires { (f.next ≤ 9223372036854776832) × (least ≤ 19) × (most ≤ 19) × (base ^ most ≤ 2 ^ 64) }
     ensures { result ≡ field_after bytes.now base least most b f }
 {
-    let p = f.next;
-    let before = f.good;
-    let d = digits_from(bytes, base, most, p);
-    let value = d.value;
-    let end = d.end;
-    let good = written(bytes, before, p, least, end, b);
-    let next = end + 1;
-    Field { value, next, good }
+    let d = digits_from(bytes, base, most, f.next);
+    Field {
+        value: d.value,
+        next: d.end + 1,
+        good: written(bytes, f.good, f.next, least, d.end, b),
+    }
 }
 
 // A decimal number of 1 to 19 digits, and a blank.
@@ -180,16 +156,10 @@ fn begins(bytes: &[u8], p: usize) -> bool
     requires { p ≤ 9223372036854775808 }
     ensures { result ≡ begins bytes.now p }
 {
-    if !stands_at(bytes, p, 112) {
-        return false;
-    }
-    if !stands_at(bytes, p + 1, 117) {
-        return false;
-    }
-    if !stands_at(bytes, p + 2, 116) {
-        return false;
-    }
-    stands_at(bytes, p + 3, 32)
+    stands_at(bytes, p, 112)
+        && stands_at(bytes, p + 1, 117)
+        && stands_at(bytes, p + 2, 116)
+        && stands_at(bytes, p + 3, 32)
 }
 
 // The numbers of a line, in the room's place n.
@@ -197,31 +167,29 @@ fn store_line(numbers: &mut [u64], n: usize, l: Line)
     requires { 4 * n + 4 ≤ length numbers.old }
     ensures { Stored numbers.old n l numbers.new }
 {
-    numbers[4 * n] = l.kind;
-    numbers[4 * n + 1] = l.orientation;
-    numbers[4 * n + 2] = l.x;
-    numbers[4 * n + 3] = l.y;
+    numbers[4 * n..4 * n + 4].copy_from_slice(&[l.kind, l.orientation, l.x, l.y]);
 }
 
-// The list that the text begins with: its lines' numbers, kind, orientation and the bits of x and y,
-// at the room's beginning. A room holds the whole lines that fit.
-pub fn read(bytes: &[u8], numbers: &mut [u64]) -> ListRead
+// The list that the text begins with: how many lines, and where the job begins; the lines' numbers, kind,
+// orientation and the bits of x and y, at the room's beginning. A room holds the whole lines that fit.
+pub fn read(bytes: &[u8], numbers: &mut [u64]) -> Result<(usize, usize), ListError>
     ensures { record { found = result; numbers = numbers.new } ≡ list_in bytes.now numbers.old }
 {
     let most = numbers.len() / 4;
     let mut at = 0;
-    let mut n = 0;
-    while begins(bytes, at) {
-        if n == most {
-            return ListRead::TooMany;
+    for n in 0..most {
+        if !begins(bytes, at) {
+            return Ok((n, at));
         }
         let l = line_from(bytes, at + 4);
         if !l.good {
-            return ListRead::Malformed(n);
+            return Err(ListError::Malformed(n));
         }
         store_line(numbers, n, l);
         at = l.next;
-        n += 1;
     }
-    ListRead::Lines(n, at)
+    if begins(bytes, at) {
+        return Err(ListError::TooMany);
+    }
+    Ok((most, at))
 }

@@ -4,11 +4,9 @@
 
 fn print_draws(seed: u64, count: u64) {
     let mut state = seed;
-    let mut i = 0;
-    while i < count {
+    for _ in 0..count {
         io::print_decimal(1, random::next_random(&mut state));
         io::write_all(1, b"\n");
-        i += 1;
     }
 }
 

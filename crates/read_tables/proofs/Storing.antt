@@ -1,13 +1,15 @@
 -- Laws of what is stored as far as a room goes, and of zeros behind it. Assumes nothing.
 use mathlib.Core.Path.{◌≡◌, refl, sym, ap, ap₂, subst, ◌∙◌}
-use Prim.Native.Nat.{ℕ, zero, suc, ◌+◌, ◌-◌, ◌≤◌, ◌<◌}
+use Prim.Native.Nat.{ℕ, suc, ◌+◌, ◌-◌, ◌≤◌, ◌<◌}
 use native.Mathlib.Omega.{arith}
 use native.Mathlib.Nat.{add-zero}
 use native.Mathlib.Numerals.{add-one}
-use mathlib.Core.List.{List, [], ◌∷◌, ◌++◌, append_assoc, append-nil}
-use lib.ListN.{length, get_or, set, take, drop, replicate, length-set, length-append, length-take, length-replicate}
-use lib.Seq.{sets, sets-eq, length-sets, take_all, take_at, take-suc, take-suc-set}
+use mathlib.Core.List.{List, [], ◌∷◌, ◌++◌}
+use lib.ListN.{length, get_or, set, take, drop, replicate, length-append}
+use lib.Seq.{sets, sets-eq, length-sets, take_at, take-suc}
+use borrow.Rule.Slice.PartMut.{put_mid}
 use Rattle.bit_writer.specs.Packed.{in_room}
+use Rattle.bit_writer.proofs.Writing.{filled_from}
 use Rattle.read_tables.specs.inner.Laying.{Stored, cleared}
 
 module _ {A : Type 0} where
@@ -74,49 +76,8 @@ module _ {A : Type 0} where
       z : (m n : ℕ) → m ≡ 0 + n → m ≡ n
       z m n e = omega arith
 
-  -- ---- zeros
-  -- the places from n to i are cleared
-  pub record Clearing (v : A) (before : List A) (n : ℕ) (now : List A) (i : ℕ) : Type 0 where
-    pub long : length now ≡ length before
-    pub from : n ≤ i
-    pub most : i - n ≤ length before - n
-    pub front : take i now ≡ take n before ++ replicate (i - n) v
-
-  pub clear-start : (v : A) (b : List A) (n : ℕ) → Clearing v b n b n
-  clear-start v b n =
-      let e : n - n ≡ 0 = omega arith in
-      record { long = refl; from = omega arith; most = omega arith; front = sym (ap (λ (k : ℕ). take n b ++ replicate k v) e ∙ append-nil (take n b)) }
-
-  pub clear_on : (v : A) (b : List A) (n : ℕ) (c : List A) (i : ℕ) → Clearing v b n c i → i < length c → Clearing v b n (set c i v) (i + 1)
-  clear_on v b n c i C h =
-      let e : suc (i - n) ≡ i + 1 - n = omega (arith, C.from) in
-      record {
-        long = length-set c i v ∙ C.long;
-        from = omega (arith, C.from);
-        most = omega (arith, C.from, C.long);
-        front =
-            ap (λ (k : ℕ). take k (set c i v)) (add-one i)
-            ∙ take-suc-set c i v h
-            ∙ ap (λ (l : List A). l ++ (v ∷ [])) C.front
-            ∙ append_assoc (take n b) (replicate (i - n) v) (v ∷ [])
-            ∙ ap (λ (l : List A). take n b ++ l) (snoc (i - n))
-            ∙ ap (λ (k : ℕ). take n b ++ replicate k v) e;
-      }
-    where
-      snoc : (m : ℕ) → replicate m v ++ (v ∷ []) ≡ replicate (suc m) v
-      snoc zero = refl
-      snoc (suc m) = ap (λ (l : List A). v ∷ l) (snoc m)
-
-  pub clear-end : (v : A) (b : List A) (n : ℕ) (c : List A) (i : ℕ) → Clearing v b n c i → length c ≤ i → c ≡ cleared v n b
+  -- zeros from place n on
+  pub fill-cleared : (v : A) (n : ℕ) (b c : List A) → n ≤ length b → c ≡ replicate (length (take (length b - n) (drop n b))) v
+      → put_mid n (length b - n) b c ≡ cleared v n b
   unfolding cleared
-  clear-end v b n c i C h =
-      let e : i - n ≡ length b - n = omega (arith, C.most, C.long) in
-      sym (take_all i c h) ∙ C.front ∙ ap (λ (k : ℕ). take n b ++ replicate k v) e
-
-  pub cleared_all : (v : A) (b c : List A) → c ≡ cleared v 0 b → c ≡ replicate (length b) v
-  unfolding cleared
-  cleared_all v b c e = let f : length b - 0 ≡ length b = omega arith in e ∙ ap (λ (k : ℕ). replicate k v) f
-
-  pub cleared-long : (v : A) (n : ℕ) (b : List A) → length (cleared v n b) ≡ length b
-  unfolding cleared
-  cleared-long v n b = simp (length-append, length-take, length-replicate) (omega arith)
+  fill-cleared v n b c h e = filled_from v n b c h e

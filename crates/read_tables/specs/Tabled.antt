@@ -1,19 +1,16 @@
 -- Document 02, W9, "The office edits jobs": the tables of a job, in lent rooms. Definitions only. Assumes nothing.
-use Rattle.std.specs.Prelude.{ℕ, Bool, cond, ◌&&◌, List, length, replicate, leb, Float}
+use Rattle.std.specs.Prelude.{Result, Ok, Err, ℕ, Bool, cond, ◌&&◌, List, length, replicate, leb, Float}
 use Rattle.numbers.specs.Numbers.{pos_zero}
-use Rattle.bits.specs.Reading.{job_refusal_number}
 use Rattle.job.specs.Jobs.{Job, Answer, accepted, refused}
 use Rattle.bit_writer.specs.Packed.{in_room}
 use Rattle.job_bits.specs.JobTables.{counts_of, coordinates_of, rows_of, areas_of}
-use Rattle.read_tables.specs.declared.Reply.{Reply}
-use Rattle.read_tables.specs.declared.Reply.TheVariants.{Tables, Refused, ShortRoom}
+use Rattle.job.specs.declared.Header.{Header}
+use Rattle.job_bits.specs.declared.JobError.{JobError}
+use Rattle.job_bits.specs.declared.JobError.TheVariants.{Refused, ShortRoom}
 
--- the paper's number of a reply; 0 for tables that are laid
-abbrev pub reply_number : Reply → ℕ
-reply_number (Tables h c x) = 0
-reply_number (Refused k) = job_refusal_number k
--- "a short output room with 28"
-reply_number ShortRoom = 28
+-- the header of a job whose tables are laid, how many counts and how many coordinates it has; or why they are not
+abbrev pub Reply : Type 0
+Reply = Result (Header × ℕ × ℕ) JobError
 
 -- the reply, and the rooms after
 pub record Laid : Type 0 where
@@ -36,7 +33,7 @@ fit j a b c d =
 unfoldable pub laid : Job → ℕ → ℕ → ℕ → ℕ → Laid
 laid j a b c d =
     record {
-      reply = Tables j.header (length (counts_of j)) (length (coordinates_of j));
+      reply = Ok (j.header, length (counts_of j), length (coordinates_of j));
       rows = in_room 0 (rows_of j.kinds) a;
       areas = in_room pos_zero (areas_of j.kinds) b;
       counts = in_room 0 (counts_of j) c;
@@ -44,5 +41,5 @@ laid j a b c d =
     }
 
 unfoldable pub tabled : Answer → ℕ → ℕ → ℕ → ℕ → Laid
-tabled (accepted j) a b c d = cond (fit j a b c d) (laid j a b c d) (zeros ShortRoom a b c d)
-tabled (refused k) a b c d = zeros (Refused k) a b c d
+tabled (accepted j) a b c d = cond (fit j a b c d) (laid j a b c d) (zeros (Err ShortRoom) a b c d)
+tabled (refused k) a b c d = zeros (Err (Refused k)) a b c d

@@ -3,65 +3,30 @@
 #![tactic(auto)]
 
 mod sets;
-pub mod stores;
+mod stores;
 
-ghost use Rattle.std.specs.Prelude.{◌≡◌, ℕ, ◌+◌, ◌*◌, ◌-◌, ◌≤◌, ◌<◌, min, cond, ◌&&◌, List, length, leb, eqb, Float};
+ghost use Rattle.std.specs.Prelude.{Ok, ◌≡◌, ℕ, ◌+◌, ◌*◌, ◌-◌, ◌≤◌, ◌<◌, ◌&&◌, List, length, leb, Float};
 ghost use Rattle.kinds.specs.inner.Tables.{tabulate, kind_at};
-ghost use Rattle.job.specs.declared.JobRead.TheVariants.{Good};
 ghost use Rattle.job.specs.Jobs.{read_job};
 ghost use Rattle.job.specs.inner.Meaning.{job_read};
 ghost use Rattle.job_bits.specs.JobTables.{rows_of};
-ghost use Rattle.read_tables.specs.Tabled.{reply_number, tabled};
-ghost use Rattle.read_tables.specs.inner.Laying.{Stored, row_at, Finished};
+ghost use Rattle.read_tables.specs.Tabled.{tabled};
+ghost use Rattle.read_tables.specs.inner.Laying.{Stored, row_at, Finished, left_of};
 
 use crate::sets::Filled;
-use bits::Refusal;
-use job::{Header, JobRead};
+use job::Header;
+use job_bits::JobError;
 
-// The header of a job whose tables are laid, how many counts and how many coordinates it has; or why
-// they are not.
-#[derive(Clone, Copy)]
-pub enum Reply {
-    Tables(Header, usize, usize),
-    Refused(Refusal),
-    ShortRoom,
-}
-
-// The paper's number of a reply, 0 for tables that are laid.
-pub fn reply_number(r: Reply) -> u64
-    ensures { result ≡ reply_number r }
-{
-    match r {
-        Reply::Tables(_, _, _) => 0,
-        Reply::Refused(k) => bits::refusal_number(k),
-        Reply::ShortRoom => 28,
-    }
-}
-
-// Fill as the job has it: 1, or 0.
-fn fill_of(n: u64) -> u64
-    ensures { result ≡ cond (eqb n 1) 1 0 }
-{
-    if n == 1 { 1 } else { 0 }
-}
-
-// Priority as the job has it, in 32 bits.
-fn priority_of(n: u64) -> u64
-    ensures { result ≡ min n 4294967295 }
-{
-    if n < 4294967295 { n } else { 4294967295 }
-}
-
-// The four numbers of kind k.
+// The four numbers of kind k as the job has them: fill 1 or 0, priority in 32 bits.
 fn put_row(out: &mut [u64], rows: &[u64], k: usize)
     requires { (k < 64) × (256 ≤ length rows.now) }
     ensures { Stored out.old (4 * k) (row_at rows.now k) out.new (4 * k + 4) }
 {
     let j = 4 * k;
-    stores::store_number(out, j, rows[j]);
-    stores::store_number(out, j + 1, fill_of(rows[j + 1]));
-    stores::store_number(out, j + 2, priority_of(rows[j + 2]));
-    stores::store_number(out, j + 3, rows[j + 3]);
+    bit_writer::store(out, j, rows[j]);
+    bit_writer::store(out, j + 1, u64::from(rows[j + 1] == 1));
+    bit_writer::store(out, j + 2, rows[j + 2].min(4294967295));
+    bit_writer::store(out, j + 3, rows[j + 3]);
 }
 
 // The four numbers of each of n kinds.
@@ -70,10 +35,8 @@ fn put_rows(out: &mut [u64], rows: &[u64], n: usize)
     ensures { (bytes : List ℕ) (areas : List Float) (places : List ℕ)
         → Stored out.old 0 (rows_of (tabulate (kind_at bytes rows.now areas places) n)) out.new (4 * n) }
 {
-    let mut k = 0;
-    while k < n {
+    for k in 0..n {
         put_row(out, rows, k);
-        k += 1;
     }
 }
 
@@ -90,19 +53,13 @@ fn all_fit(
     ensures { result ≡ (leb (4 * n) (length rows.now) && leb n (length areas.now)
         && leb w.counts (length counts.now) && leb w.coordinates (length coordinates.now)) }
 {
-    if rows.len() < 4 * n {
-        return false;
-    }
-    if areas.len() < n {
-        return false;
-    }
-    if counts.len() < w.counts {
-        return false;
-    }
-    w.coordinates <= coordinates.len()
+    4 * n <= rows.len()
+        && n <= areas.len()
+        && w.counts <= counts.len()
+        && w.coordinates <= coordinates.len()
 }
 
-// Zeros behind the tables, or in all rooms if one is too short.
+// Zeros behind the tables, if no room is too short.
 fn finish(
     rows: &mut [u64],
     areas: &mut [f64],
@@ -111,84 +68,61 @@ fn finish(
     h: Header,
     n: usize,
     w: Filled,
-) -> Reply
+) -> Result<(Header, usize, usize), JobError>
     requires { n ≤ 64 }
     ensures { Finished h n w rows.old areas.old counts.old coordinates.old
         result rows.new areas.new counts.new coordinates.new }
 {
-    if all_fit(rows, areas, counts, coordinates, n, w) {
-        let c = w.counts;
-        let x = w.coordinates;
-        stores::clear_numbers(rows, 4 * n);
-        stores::clear_doubles(areas, n);
-        stores::clear_numbers(counts, c);
-        stores::clear_doubles(coordinates, x);
-        return Reply::Tables(h, c, x);
+    if !all_fit(rows, areas, counts, coordinates, n, w) {
+        return Err(JobError::ShortRoom);
     }
-    stores::clear_all(rows, areas, counts, coordinates);
-    Reply::ShortRoom
+    rows[4 * n..].fill(0);
+    areas[n..].fill(0.0);
+    counts[w.counts..].fill(0);
+    coordinates[w.coordinates..].fill(0.0);
+    Ok((h, w.counts, w.coordinates))
 }
 
-// The tables of an accepted job: its header, the place of its sheet, and the tables that it was read
-// into.
+// The tables of the job that the bytes are, with zeros behind them; or why there are none.
 fn put_job(
     bytes: &[u8],
-    h: Header,
-    sheet: u32,
-    table: &[u64],
-    sizes: &[f64],
-    places: &[u32],
     rows: &mut [u64],
     areas: &mut [f64],
     counts: &mut [u64],
     coordinates: &mut [f64],
-) -> Reply
-    requires { (256 ≤ length table.now) × (64 ≤ length sizes.now) × (2048 ≤ length places.now)
-        × ((c : ℕ) × (read_job bytes.now ≡ job_read (Good h sheet c) bytes.now table.now sizes.now places.now)) }
-    ensures { record { reply = result; rows = rows.new; areas = areas.new; counts = counts.new; coordinates = coordinates.new }
+) -> Result<(Header, usize, usize), JobError>
+    ensures { left_of result rows.new areas.new counts.new coordinates.new
         ≡ tabled (read_job bytes.now) (length rows.old) (length areas.old) (length counts.old)
         (length coordinates.old) }
 {
+    let j = job::read(bytes);
+    let (h, sheet, _) = j.answer?;
     let n = h.kinds as usize;
-    put_rows(rows, table, n);
-    let _ = stores::put_doubles(areas, 0, sizes, n);
-    let w = sets::put_sets(bytes, sheet, table, places, n, counts, coordinates);
+    put_rows(rows, &j.rows, n);
+    stores::put_doubles(areas, 0, &j.areas, n);
+    let w = sets::put_sets(bytes, sheet, &j.rows, &j.places, n, counts, coordinates);
     finish(rows, areas, counts, coordinates, h, n, w)
 }
 
 // The tables of the job that the bytes are, with zeros behind them; or why there are none, and zeros.
+// What is told of them: the job's header, how many counts and how many coordinates it has.
 pub fn read_tables(
     bytes: &[u8],
     rows: &mut [u64],
     areas: &mut [f64],
     counts: &mut [u64],
     coordinates: &mut [f64],
-) -> Reply
+) -> Result<(Header, usize, usize), JobError>
     ensures { record { reply = result; rows = rows.new; areas = areas.new; counts = counts.new; coordinates = coordinates.new }
         ≡ tabled (read_job bytes.now) (length rows.old) (length areas.old) (length counts.old)
         (length coordinates.old) }
 {
-    let j = job::read(bytes);
-    let table = j.rows;
-    let sizes = j.areas;
-    let places = j.places;
-    let answer = j.answer;
-    match answer {
-        JobRead::Good(h, at, _) => put_job(
-            bytes,
-            h,
-            at,
-            &table,
-            &sizes,
-            &places,
-            rows,
-            areas,
-            counts,
-            coordinates,
-        ),
-        JobRead::NoJob(k) => {
-            stores::clear_all(rows, areas, counts, coordinates);
-            Reply::Refused(k)
-        }
+    let reply = put_job(bytes, rows, areas, counts, coordinates);
+    if reply.is_err() {
+        rows.fill(0);
+        areas.fill(0.0);
+        counts.fill(0);
+        coordinates.fill(0.0);
     }
+    reply
 }

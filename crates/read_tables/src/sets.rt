@@ -1,6 +1,6 @@
 // The counts and coordinates of a job's sets, in its order. What does not fit a room is only counted.
 // The functions are called by this crate alone.
-ghost use Rattle.std.specs.Prelude.{◌≡◌, ℕ, ◌+◌, ◌*◌, ◌-◌, ◌≤◌, ◌<◌, List, ◌∷◌, length, get_or, take, Float};
+ghost use Rattle.std.specs.Prelude.{◌≡◌, ℕ, ◌+◌, ◌*◌, ◌≤◌, ◌<◌, List, ◌∷◌, length, get_or, take, Float};
 ghost use Rattle.kinds.specs.sets.inner.Answers.{set_at};
 ghost use Rattle.kinds.specs.inner.Tables.{tabulate, orientation_at, orientations_of, kind_at};
 ghost use Rattle.job.specs.Jobs.{Job};
@@ -8,7 +8,6 @@ ghost use Rattle.job_bits.specs.JobTables.{loop_counts, set_counts, orientation_
 ghost use Rattle.read_tables.specs.inner.Laying.{Stored, Ready, Near, Put, PutKinds};
 
 use crate::stores;
-use kinds::sets::SetRead;
 
 // How many counts and coordinates there are so far.
 #[derive(Clone, Copy)]
@@ -17,28 +16,15 @@ pub struct Filled {
     pub coordinates: usize,
 }
 
-// a - b, or 0.
-fn difference(a: usize, b: usize) -> u64
-    ensures { result ≡ a - b }
-{
-    if b < a {
-        return (a - b) as u64;
-    }
-    0
-}
-
 // The points of each of n loops that end so.
 fn put_loops(counts: &mut [u64], at: usize, ends: &[usize], n: usize)
     requires { (n ≤ length ends.now) × (n ≤ 64) × (at ≤ 1000000000000) }
     ensures { Stored counts.old at (loop_counts 0 (take n ends.now)) counts.new (at + n) }
 {
     let mut before = 0;
-    let mut i = 0;
-    while i < n {
-        let end = ends[i];
-        stores::store_number(counts, at + i, difference(end, before));
-        before = end;
-        i += 1;
+    for i in 0..n {
+        bit_writer::store(counts, at + i, ends[i].saturating_sub(before) as u64);
+        before = ends[i];
     }
 }
 
@@ -47,7 +33,7 @@ fn put_counts(counts: &mut [u64], at: usize, ends: &[usize], n: usize) -> usize
     requires { (n ≤ length ends.now) × (n ≤ 64) × (at < 1000000000000) }
     ensures { Stored counts.old at (n ∷ loop_counts 0 (take n ends.now)) counts.new result × (result ≤ at + 65) }
 {
-    stores::store_number(counts, at, n as u64);
+    bit_writer::store(counts, at, n as u64);
     put_loops(counts, at + 1, ends, n);
     at + 1 + n
 }
@@ -66,25 +52,16 @@ fn put_set(
     ensures { Put w counts.old coordinates.old (set_counts (set_at bytes.now place))
         (set_at bytes.now place).points result counts.new coordinates.new × Near w result 65 1024 }
 {
-    let at = w.counts;
-    let from = w.coordinates;
-    match kinds::sets::read_set(bytes, place, room, ends) {
-        SetRead::Loops(n, m, _) => {
-            let c = put_counts(counts, at, ends, n);
-            let x = stores::put_doubles(coordinates, from, room, 2 * m);
-            Filled {
-                counts: c,
-                coordinates: x,
-            }
-        }
-        SetRead::NoSet(_) => {
-            stores::store_number(counts, at, 0);
-            let c = at + 1;
-            Filled {
-                counts: c,
-                coordinates: from,
-            }
-        }
+    let Ok((n, m, _)) = kinds::sets::read_set(bytes, place, room, ends) else {
+        bit_writer::store(counts, w.counts, 0);
+        return Filled {
+            counts: w.counts + 1,
+            ..w
+        };
+    };
+    Filled {
+        counts: put_counts(counts, w.counts, ends, n),
+        coordinates: stores::put_doubles(coordinates, w.coordinates, room, 2 * m),
     }
 }
 
@@ -127,8 +104,7 @@ fn put_orientations(
         (orientations_of bytes.now places.now kind n) result counts.new coordinates.new × Near w result 2080 32768 }
 {
     let mut v = w;
-    let mut i = 0;
-    while i < n {
+    for i in 0..n {
         v = put_orientation(
             bytes,
             places,
@@ -139,7 +115,6 @@ fn put_orientations(
             coordinates,
             v,
         );
-        i += 1;
     }
     v
 }
@@ -162,11 +137,9 @@ fn put_kinds(
         (tabulate (kind_at bytes.now rows.now areas places.now) n) result counts.new coordinates.new }
 {
     let mut v = w;
-    let mut i = 0;
-    while i < n {
+    for i in 0..n {
         let turns = rows[4 * i + 3] as usize;
         v = put_orientations(bytes, places, i, turns, room, ends, counts, coordinates, v);
-        i += 1;
     }
     v
 }

@@ -1,106 +1,95 @@
 // The commands of a script: a letter, a byte, four bytes and eight bytes, most significant first;
 // after some of them so many bytes more.
-ghost use Rattle.std.specs.Prelude.{◌+◌, ◌*◌, ◌≤◌, ◌<◌, length};
+use crate::records;
+
+// What a command's letter says.
+#[derive(Clone, Copy, Debug, PartialEq, Eq)]
+pub enum Step {
+    Job,
+    Order,
+    Length,
+    Title,
+    Spoil,
+    Set,
+    Print,
+    Hash,
+    Edit,
+    Leaf,
+    Start,
+    Fill,
+    Next,
+    Stack,
+    Withdraw,
+    // No command has the letter: nothing is done.
+    Nothing,
+}
+
+impl From<u8> for Step {
+    fn from(letter: u8) -> Step {
+        match letter {
+            b'J' => Step::Job,
+            b'O' => Step::Order,
+            b'L' => Step::Length,
+            b'T' => Step::Title,
+            b'H' => Step::Spoil,
+            b'R' => Step::Set,
+            b'P' => Step::Print,
+            b'V' => Step::Hash,
+            b'E' => Step::Edit,
+            b'K' => Step::Leaf,
+            b'S' => Step::Start,
+            b'F' => Step::Fill,
+            b'N' => Step::Next,
+            b'M' => Step::Stack,
+            b'W' => Step::Withdraw,
+            _ => Step::Nothing,
+        }
+    }
+}
 
 #[derive(Clone, Copy)]
 pub struct Command {
-    pub letter: u8,
+    pub step: Step,
     pub a: usize,
     pub n: usize,
     pub m: u64,
 }
 
-fn wide(x: u8) -> u64
-    ensures { result < 256 }
-{
-    x as u64
-}
-
-fn four(b: &[u8], at: usize) -> u64
-    requires { at + 4 ≤ length b.now }
-    ensures { result < 4294967296 }
-{
-    let w = wide(b[at]);
-    let x = wide(b[at + 1]);
-    let y = wide(b[at + 2]);
-    let z = wide(b[at + 3]);
-    w * 16777216 + x * 65536 + y * 256 + z
-}
-
-fn eight(b: &[u8], at: usize) -> u64
-    requires { at + 8 ≤ length b.now }
-{
-    four(b, at) * 4294967296 + four(b, at + 4)
-}
-
-// The next command; letter 0 where the script ends.
-pub fn next() -> Command {
+// The next command; none where the script ends.
+pub fn next() -> Option<Command> {
     let mut b = [0u8; 14];
-    let got = io::read_full(0, &mut b);
-    if got < 14 {
-        return Command {
-            letter: 0,
-            a: 0,
-            n: 0,
-            m: 0,
-        };
+    if io::read_full(0, &mut b) < 14 || b[0] == 0 {
+        return None;
     }
-    let letter = b[0];
-    let a = wide(b[1]) as usize;
-    let n = four(&b, 2) as usize;
-    let m = eight(&b, 6);
-    Command {
-        letter: letter,
-        a: a,
-        n: n,
-        m: m,
-    }
-}
-
-// Reads n bytes; how many there were, none where they do not fit.
-fn read_into(room: &mut [u8], n: usize) -> usize {
-    if room.len() < n {
-        return 0;
-    }
-    io::read_full(0, &mut room[..n])
+    Some(Command {
+        step: Step::from(b[0]),
+        a: usize::from(b[1]),
+        n: u32::from_be_bytes([b[2], b[3], b[4], b[5]]) as usize,
+        m: u64::from_be_bytes([b[6], b[7], b[8], b[9], b[10], b[11], b[12], b[13]]),
+    })
 }
 
 // A line of text, printed as it is.
 pub fn read_title(n: usize) {
     let mut text = [0u8; 256];
-    let got = read_into(&mut text, n);
-    if got <= 256 {
-        io::write_all(1, &text[..got]);
-        io::write_all(1, b"\n");
-    }
+    io::write_all(1, records::read_into(&mut text, n).unwrap_or(&[]));
+    io::write_all(1, b"\n");
 }
 
+// Reads a job; how many bytes there were, none where they do not fit.
 pub fn read_job(n: usize, bytes: &mut [u8]) -> usize {
-    read_into(bytes, n)
+    records::read_into(bytes, n).map_or(0, |job| job.len())
 }
 
-fn pair_at(from: &[u8], i: usize) -> usize {
-    if i < from.len() / 2 {
-        return (wide(from[2 * i]) * 256 + wide(from[2 * i + 1])) as usize;
-    }
-    0
-}
-
-// Numbers of two bytes each.
-fn spread_pairs(from: &[u8], to: &mut [usize]) {
-    let mut i: usize = 0;
-    while i < to.len() {
-        to[i] = pair_at(from, i);
-        i += 1;
-    }
-}
-
+// Reads an order, its numbers of two bytes each; how many there were, none where they do not fit.
 pub fn read_order(n: usize, order: &mut [usize]) -> usize {
     let mut text = [0u8; 8200];
-    if n <= 4100 {
-        let got = read_into(&mut text, 2 * n);
-        spread_pairs(&text, order);
-        return got / 2;
+    if n > 4100 {
+        return 0;
     }
-    0
+    let got = records::read_into(&mut text, 2 * n).map_or(0, |t| t.len());
+    for (k, pair) in order.iter_mut().zip(text.as_chunks::<2>().0) {
+        *k = usize::from(u16::from_be_bytes(*pair));
+    }
+    got / 2
 }

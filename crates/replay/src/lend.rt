@@ -1,86 +1,48 @@
 // What is lent: commands that fill, change or print rooms, and those that give job, order and lengths.
-ghost use Rattle.std.specs.Prelude.{◌≤◌, length};
-
-use crate::command::Command;
+use crate::command::{Command, Step};
+use crate::slot::Slot;
 use crate::{command, edit, show};
 use index::{Bucket, Entry};
 
-// How many of a room's slots are lent: number a of the lengths, at most all.
-pub fn lent(lengths: &[usize], a: usize, most: usize) -> usize
-    ensures { result ≤ most }
-{
-    if a < lengths.len() {
-        let n = lengths[a];
-        if n <= most {
-            return n;
-        }
-    }
-    most
+// How many slots of the nine rooms, bytes of the job and places of the order are lent, in this order.
+pub type Lengths = [usize; 11];
+
+// The slots of a room that are lent: n, at most all.
+pub fn lent<T>(room: &[T], n: usize) -> &[T] {
+    &room[..n.min(room.len())]
 }
 
-// Job (J), order (O), a room's length (L), a title (T).
-pub fn load(c: Command, bytes: &mut [u8], order: &mut [usize], lengths: &mut [usize])
-    requires { 11 ≤ length lengths.old }
-{
-    let letter = c.letter;
-    match letter {
-        74 => {
-            lengths[9] = command::read_job(c.n, bytes);
-        }
-        79 => {
-            lengths[10] = command::read_order(c.n, order);
-        }
-        76 => {
-            let a = c.a;
-            if a < 9 {
-                lengths[a] = c.n;
+pub fn lent_mut<T>(room: &mut [T], n: usize) -> &mut [T] {
+    let m = n.min(room.len());
+    &mut room[..m]
+}
+
+// Job, order, a room's length, a title.
+pub fn load(c: Command, bytes: &mut [u8], order: &mut [usize], lengths: &mut Lengths) {
+    match c.step {
+        Step::Job => lengths[9] = command::read_job(c.n, bytes),
+        Step::Order => lengths[10] = command::read_order(c.n, order),
+        Step::Length => {
+            if c.a < 9 {
+                lengths[c.a] = c.n;
             }
         }
-        84 => command::read_title(c.n),
+        Step::Title => command::read_title(c.n),
         _ => {}
     }
 }
 
-// Whether a command is of room a.
-fn of_room(letter: u8, at: usize, a: usize) -> bool {
-    if letter == 86 {
-        return true;
-    }
-    at == a
-}
-
-fn touch(c: Command, a: usize, lengths: &[usize], room: &mut [f64]) {
-    if of_room(c.letter, c.a, a) {
-        let n = lent(lengths, a, room.len());
-        edit::obey(c, &mut room[..n]);
+// What a command does to the n slots of room a that are lent, if it is of that room.
+fn touch<T: Slot>(c: Command, a: usize, n: usize, room: &mut [T]) {
+    if c.a == a || c.step == Step::Hash {
+        edit::obey(c, lent_mut(room, n));
     }
 }
 
-// The same of a room of entries or first buckets.
-fn touch_entries(c: Command, a: usize, lengths: &[usize], room: &mut [Entry]) {
-    if of_room(c.letter, c.a, a) {
-        let n = lent(lengths, a, room.len());
-        edit::obey_entries(c, &mut room[..n]);
-    }
-}
-
-// Begins and ends the line of the rooms' hashes (V).
-fn head(letter: u8) {
-    if letter == 86 {
-        io::write_all(1, b"rooms");
-    }
-}
-
-fn tail(letter: u8) {
-    if letter == 86 {
-        show::end();
-    }
-}
-
-// What reads or changes rooms alone: garbage (H), one slot (R), printing (P, V).
+// What reads or changes rooms alone: garbage, one slot, printing; the rooms' hashes are one line.
 pub fn touch_rooms(
     c: Command,
-    lengths: &[usize],
+    lengths: &Lengths,
     shapes: &mut [f64],
     sheet: &mut [f64],
     placed: &mut [f64],
@@ -91,15 +53,19 @@ pub fn touch_rooms(
     intervals: &mut [f64],
     positions: &mut [f64],
 ) {
-    head(c.letter);
-    touch(c, 0, lengths, shapes);
-    touch(c, 1, lengths, sheet);
-    touch(c, 2, lengths, placed);
-    touch_entries(c, 3, lengths, sheet_entries);
-    touch_entries(c, 4, lengths, placed_entries);
-    touch_entries(c, 5, lengths, sheet_firsts);
-    touch_entries(c, 6, lengths, placed_firsts);
-    touch(c, 7, lengths, intervals);
-    touch(c, 8, lengths, positions);
-    tail(c.letter);
+    if c.step == Step::Hash {
+        io::write_all(1, b"rooms");
+    }
+    touch(c, 0, lengths[0], shapes);
+    touch(c, 1, lengths[1], sheet);
+    touch(c, 2, lengths[2], placed);
+    touch(c, 3, lengths[3], sheet_entries);
+    touch(c, 4, lengths[4], placed_entries);
+    touch(c, 5, lengths[5], sheet_firsts);
+    touch(c, 6, lengths[6], placed_firsts);
+    touch(c, 7, lengths[7], intervals);
+    touch(c, 8, lengths[8], positions);
+    if c.step == Step::Hash {
+        show::end();
+    }
 }

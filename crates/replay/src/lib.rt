@@ -1,4 +1,4 @@
-// What the program filling_test does beside its calls: commands of a script (oracle/README.md), garbage
+// What the test programs have in common: commands of a script and records of jobs (oracle/README.md), garbage
 // in rooms, numbers changed one at a time, hashes and printed lines. Only test programs call it.
 #![tactic(auto)]
 
@@ -8,3 +8,4 @@ pub mod hash;
 pub mod lend;
 pub mod records;
 pub mod show;
+pub mod slot;

@@ -9,8 +9,6 @@ use lib.Dec.{ltb, ltb→lt}
 use lib.Ieee.{Float}
 use Rattle.trapezoid.specs.Strip.{part_of}
 use Rattle.job.specs.Jobs.{Job}
-use Rattle.filling.specs.declared.Verdict.{Verdict}
-use Rattle.filling.specs.declared.Verdict.TheVariants.{Accepted}
 use Rattle.filling.specs.Shapes.{Shape, planner_of, no_shape, shape_of}
 use Rattle.filling.specs.State.{slot_shape, part_at}
 use Rattle.filling.specs.Start.{apart_strips_of}
@@ -59,12 +57,12 @@ order-few j g h order r =
     omega arith
 
 -- what the report requires
-pub report_ready : (j : Job) (g : Given) → Prepared j g → (order : List ℕ) → length order ≤ 4096 → (kinds : ℕ) → length j.kinds ≡ kinds → (v : Verdict)
-    → (v ≡ Accepted → rearranged j order ≡ true) → (o x y gap looks room : ℕ) → o ≡ 4096 → x ≡ 4096 → y ≡ 4096 → gap ≡ 4096 → looks ≡ 1024
+pub report_ready : (j : Job) (g : Given) → Prepared j g → (order : List ℕ) → length order ≤ 4096 → (kinds : ℕ) → length j.kinds ≡ kinds → rearranged j order ≡ true
+    → (o x y gap looks room : ℕ) → o ≡ 4096 → x ≡ 4096 → y ≡ 4096 → gap ≡ 4096 → looks ≡ 1024
     → 6 * length order ≤ room
     → (kinds ≤ 64) × (256 ≤ length g.rows) × (length order ≤ o) × (length order ≤ x) × (length order ≤ y) × (1024 ≤ looks) × (4096 ≤ length g.parts)
-    × (v ≡ Accepted → (i : ℕ) → i < length order → get_or order i 0 < kinds) × (length order ≤ 4096) × (6 * length order ≤ room) × (length order ≤ gap)
-report_ready j g h order few kinds n v r o x y gap looks room lo lx ly lg ll lr = (
+    × ((i : ℕ) → i < length order → get_or order i 0 < kinds) × (length order ≤ 4096) × (6 * length order ≤ room) × (length order ≤ gap)
+report_ready j g h order few kinds n r o x y gap looks room lo lx ly lg ll lr = (
   subst (λ (m : ℕ). m ≤ 64) n h.tabled.few,
   h.tabled.rows_long,
   long few lo,
@@ -72,7 +70,7 @@ report_ready j g h order few kinds n v r o x y gap looks room lo lx ly lg ll lr 
   long few ly,
   least ll,
   all_parts,
-  λ e i l. subst (λ (m : ℕ). get_or order i 0 < m) n (kind-below j g h order (r e) i l),
+  λ i l. subst (λ (m : ℕ). get_or order i 0 < m) n (kind-below j g h order r i l),
   few,
   lr,
   long few lg,

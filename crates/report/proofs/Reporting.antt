@@ -1,7 +1,8 @@
 -- The plan of a filling that ended, or of one that was refused. Assumes nothing.
+use Rattle.std.specs.Prelude.{Ok, Err}
 use Prim.Native.Nat.{ℕ, ◌*◌, ◌≤◌}
 use native.Mathlib.Omega.{arith}
-use mathlib.Core.Path.{◌≡◌, refl, sym, ap, ap₂, ◌∙◌}
+use mathlib.Core.Path.{◌≡◌, sym, ap, ap₂, ◌∙◌}
 use mathlib.Core.List.{List}
 use lib.ListN.{length}
 use lib.Ieee.{Float}
@@ -11,43 +12,28 @@ use Rattle.job.specs.Jobs.{Job, frame_of}
 use Rattle.filling.specs.declared.State.{State}
 use Rattle.filling.specs.declared.Plan.{Plan}
 use Rattle.filling.specs.declared.Refusal.{Refusal}
-use Rattle.filling.specs.declared.Verdict.{Verdict}
-use Rattle.filling.specs.declared.Verdict.TheVariants.{Accepted, Refused}
 use Rattle.filling.specs.Shapes.{Planner, planner_of, Standing}
 use Rattle.filling.specs.Rooms.{Lent, laid, zeros, only_positions}
 use Rattle.filling.specs.State.{standing_of}
 use Rattle.filling.specs.Accounts.{framed_positions, positions, flat_positions, offcut_of, plan_of}
-use Rattle.filling.specs.Fill.{not_planned, planned_with, planned_by}
+use Rattle.filling.specs.Fill.{not_planned, planned_with}
 use Rattle.filling.proofs.Reading.{length-zeros}
 use Rattle.accounts.specs.tables.inner.Tabled.{Tabled}
 use Rattle.place.specs.declared.Totals.{Totals}
 use Rattle.accounts.specs.inner.Told.{PlanTold, Totalled}
-use Rattle.filling_laws.specs.fill_laws.inner.Prepared.{state_by, filling_by}
-use Rattle.report.specs.declared.NestResult.{NestResult}
+use Rattle.filling_laws.specs.fill_laws.inner.Prepared.{state_by}
 use Rattle.report.specs.on_sheet.inner.Turned.{back_to}
-use Rattle.report.specs.inner.Replies.{reply, reply_of, refused_by, reported}
+use Rattle.report.specs.inner.Replies.{reply, reply_of}
 use Rattle.report.proofs.on_sheet.Back.{back-positions}
 use Rattle.report.proofs.Agree.{Lent', standing_is, plan_is, told, totalled}
 
 -- refused: only the number
-refused-plain : (l : Lent) (k : Refusal) (room : List Float) → room ≡ zeros pos_zero l.positions → reply (refused_by k) room ≡ reply_of (not_planned k l)
+pub refused-reply : (l : Lent) (k : Refusal) (room : List Float) → room ≡ zeros pos_zero l.positions → reply (Err k) room ≡ reply_of (not_planned k l)
 unfolding not_planned only_positions laid
-refused-plain l k room e = rw e
-
-pub refused-reply : (l : Lent) (k : Refusal) (room : List Float) → room ≡ zeros pos_zero l.positions → (r : NestResult) → r ≡ refused_by k
-    → reply r room ≡ reply_of (not_planned k l)
-refused-reply l k room e r d = ap (λ (q : NestResult). reply q room) d ∙ refused-plain l k room e
-
-pub stopped-reply : (j : Job) (l : Lent) (v : Verdict) (k : Refusal) → v ≡ Refused k → (p : Planner) (order next looks : List ℕ) (t : Totals)
-    (orientation : List ℕ) (x y gap : List Float) (n : ℕ) (room : List Float) → room ≡ zeros pos_zero l.positions → (r : NestResult) → r ≡ refused_by k
-    → reply r room ≡ reply_of (reported v j l p order next looks t orientation x y gap n)
-stopped-reply j l v k d p order next looks t orientation x y gap n room e r f =
-    refused-reply l k room e r f
-    ∙ ap (λ (u : Verdict). reply_of (reported u j l p order next looks t orientation x y gap n)) (sym d)
+refused-reply l k room e = rw e
 
 -- accepted: what plan_of answers, its positions back on the sheet
-pub told-reply : (j : Job) (areas : List Float) (p : Planner) (next : List ℕ) (l : Lent) (rows : List ℕ) (kinds : ℕ) (v : Verdict) → v ≡ Accepted
-    → (order looks : List ℕ) (t : Totals) (orientation : List ℕ) (x y gap : List Float) (offcut : Float) (n : ℕ) (room₀ room : List Float) (plan : Plan)
+pub told-reply : (j : Job) (areas : List Float) (p : Planner) (next : List ℕ) (l : Lent) (rows : List ℕ) (kinds : ℕ) (order looks : List ℕ) (t : Totals) (orientation : List ℕ) (x y gap : List Float) (offcut : Float) (n : ℕ) (room₀ room : List Float) (plan : Plan)
     → length order ≤ length orientation → length order ≤ length x → length order ≤ length y → length order ≤ length gap
     → Tabled j rows areas → length j.kinds ≡ kinds
     → offcut_of (planner_of j) (state_by p order (length order) next looks t orientation x y gap) ≡ offcut → room₀ ≡ zeros pos_zero l.positions
@@ -55,9 +41,9 @@ pub told-reply : (j : Job) (areas : List Float) (p : Planner) (next : List ℕ) 
     → PlanTold s order orientation x y gap looks (length order) → Totalled j s t.right t.unplaced_area offcut
     → (plan ≡ plan_of j s n) × (room ≡ laid (flat_positions (framed_positions j (standing_of s))) room₀))
     → (f : Frame) (sheet : List Float) → 6 * length order ≤ length room₀ → frame_of j.header ≡ f → sheet ≡ back_to f room (length order)
-    → reply (record { verdict = Accepted; plan = plan }) sheet ≡ reply_of (reported v j l p order next looks t orientation x y gap n)
+    → reply (Ok plan) sheet ≡ reply_of (planned_with j l (state_by p order (length order) next looks t orientation x y gap) n)
 unfolding planned_with only_positions
-told-reply j areas p next l rows kinds v d order looks t orientation x y gap offcut n room₀ room plan io ix iy ig T m e z E f sheet h g b =
+told-reply j areas p next l rows kinds order looks t orientation x y gap offcut n room₀ room plan io ix iy ig T m e z E f sheet h g b =
     let s = Lent' p order next looks t orientation x y gap io ix iy ig in
     let S = state_by p order (length order) next looks t orientation x y gap in
     let a = E j areas s T m (told p order next looks t orientation x y gap io ix iy ig)
@@ -69,12 +55,4 @@ told-reply j areas p next l rows kinds v d order looks t orientation x y gap off
     let k : length room₀ ≡ length l.positions = ap length z ∙ length-zeros pos_zero l.positions in
     let u : sheet ≡ laid (flat_positions (positions j (standing_of S))) (zeros pos_zero l.positions) =
     b ∙ (ap (λ (w : List Float). back_to f w (length order)) r ∙ back-positions j S f g l.positions (omega arith)) in
-    ap₂ (λ (w : Plan) (y : List Float). record { verdict = Accepted; plan = w; positions = y }) q u
-    ∙ ap (λ (w : Verdict). reply_of (reported w j l p order next looks t orientation x y gap n)) (sym d)
-
--- with no improvements it is the plan of the filling
-pub reported_filling : (v : Verdict) (j : Job) (l : Lent) (p : Planner) (order next looks : List ℕ) (t : Totals) (orientation : List ℕ) (x y gap : List Float)
-    → reported v j l p order next looks t orientation x y gap 0 ≡ planned_by j l (filling_by v p order next looks t orientation x y gap)
-unfolding planned_by
-reported_filling Accepted j l p order next looks t orientation x y gap = refl
-reported_filling (Refused k) j l p order next looks t orientation x y gap = refl
+    ap₂ (λ (w : Plan) (y : List Float). record { verdict = Ok tt; plan = w; positions = y }) q u

@@ -11,11 +11,9 @@ fn reach_moved(part: &[f64], x: f64, a: f64) -> f64
 {
     let count = trapezoid::capacity(part);
     let mut reach = a;
-    let mut i = 0;
-    while i < count {
+    for i in 0..count {
         let q = trapezoid::load(part, i);
         reach = numbers::larger(reach, q.x1 + x);
-        i += 1;
     }
     reach
 }
@@ -26,13 +24,7 @@ fn reach_copy(parts: &[usize], shapes: &[f64], kind: usize, number: usize, x: f6
     requires { 4096 ≤ length parts.now }
     ensures { result ≡ reach_copy parts.now shapes.now kind number x a }
 {
-    if number == 0 {
-        return a;
-    }
-    if 64 <= kind {
-        return a;
-    }
-    if 16 < number {
+    if number == 0 || 64 <= kind || 16 < number {
         return a;
     }
     let at = 4 * (16 * kind + (number - 1));
@@ -55,10 +47,8 @@ fn reach(
 {
     let n = order.len();
     let mut reach = right;
-    let mut i = 0;
-    while i < n {
+    for i in 0..n {
         reach = reach_copy(parts, shapes, order[i], orientation[i], x[i], reach);
-        i += 1;
     }
     reach
 }

@@ -20,9 +20,7 @@ pub fn positions_on_sheet(f: Frame, room: &mut [f64], n: usize)
     requires { 6 * n ≤ length room.old }
     ensures { room.new ≡ back_to f room.old n }
 {
-    let mut i = 0;
-    while i < n {
+    for i in 0..n {
         position_on_sheet(f, room, i);
-        i += 1;
     }
 }

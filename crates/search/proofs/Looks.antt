@@ -1,4 +1,5 @@
 -- A search's looks are the list of columns from its start to the one yielded; the look count goes up by their number; 22 exactly where one of them has too many intervals. Assumes nothing.
+use Rattle.std.specs.Prelude.{Some, None, Ok, Err}
 use Prim.Native.Nat.{ℕ, zero, suc, ◌+◌, ◌<◌}
 use native.Mathlib.Omega.{arith}
 use mathlib.Core.Path.{◌≡◌, refl, sym, ap, ◌∙◌, subst}
@@ -6,35 +7,30 @@ use mathlib.Core.List.{List, [], ◌∷◌}
 use mathlib.Core.Bool.{Bool, true, false, ◌||◌}
 use lib.ListN.{length, get_or, set, length-set}
 use lib.Seq.{get_or-set_same, set-set, set-get_or}
-use Rattle.look.specs.declared.height.Look.TheVariants.{Free, Full}
-use Rattle.look.specs.declared.Answer.{Answer}
-use Rattle.look.specs.declared.Answer.TheVariants.{NoRoom, Seen}
-use Rattle.search.specs.declared.Found.{Found}
-use Rattle.search.specs.declared.Found.TheVariants.{At, Nowhere, Overflow}
-use Rattle.search.specs.inner.Searching.{after_look, after_answer, counted, search_from}
+use Rattle.search.specs.inner.Searching.{Answer, Found, after_look, after_answer, counted, search_from}
 
 -- the columns after one with this answer are looked at only if it is full
 abbrev pub onward : Answer → List ℕ → List ℕ
-onward NoRoom cs = []
-onward (Seen (Free y g)) cs = []
-onward (Seen Full) cs = cs
+onward (Err r) cs = []
+onward (Ok (Some (y, g))) cs = []
+onward (Ok None) cs = cs
 
 unfoldable pub looks_made : (ℕ → Answer) → ℕ → ℕ → List ℕ
 looks_made f zero c = []
 looks_made f (suc n) c = c ∷ onward (f c) (looks_made f n (c + 1))
 
 abbrev pub lacks_room : Answer → Bool
-lacks_room NoRoom = true
-lacks_room (Seen l) = false
+lacks_room (Err r) = true
+lacks_room (Ok l) = false
 
 unfoldable pub any_lacks_room : (ℕ → Answer) → List ℕ → Bool
 any_lacks_room f [] = false
 any_lacks_room f (c ∷ cs) = lacks_room (f c) || any_lacks_room f cs
 
 abbrev pub is_overflow : Found → Bool
-is_overflow (At c y g) = false
-is_overflow Nowhere = false
-is_overflow Overflow = true
+is_overflow (Ok (Some (c, y, g))) = false
+is_overflow (Ok None) = false
+is_overflow (Err r) = true
 
 module _ (f : ℕ → Answer) (slot : ℕ) where
   -- the look count goes up by the number of looks
@@ -48,9 +44,9 @@ module _ (f : ℕ → Answer) (slot : ℕ) where
 
       go : (v : Answer) → (search_from f slot n (c + 1) (counted slot counts)).counts ≡ set (counted slot counts) slot (get_or (counted slot counts) slot 0 + length (looks_made f n (c + 1)))
           → (after_answer v c (counted slot counts) (search_from f slot n (c + 1) (counted slot counts))).counts ≡ set counts slot (get_or counts slot 0 + length (c ∷ onward v (looks_made f n (c + 1))))
-      go NoRoom e = unfold after_answer in one
-      go (Seen (Free y g)) e = unfold after_answer in (unfold after_look in one)
-      go (Seen Full) e = unfold after_answer in (unfold after_look in (e ∙ (set-set counts slot (get_or counts slot 0 + 1) _ ∙ ap (set counts slot) (more (get_or (counted slot counts) slot 0) (get_or counts slot 0) (length (looks_made f n (c + 1))) (get_or-set_same counts slot (get_or counts slot 0 + 1) 0 h)))))
+      go (Err r) e = unfold after_answer in one
+      go (Ok (Some (y, g))) e = unfold after_answer in (unfold after_look in one)
+      go (Ok None) e = unfold after_answer in (unfold after_look in (e ∙ (set-set counts slot (get_or counts slot 0 + 1) _ ∙ ap (set counts slot) (more (get_or (counted slot counts) slot 0) (get_or counts slot 0) (length (looks_made f n (c + 1))) (get_or-set_same counts slot (get_or counts slot 0 + 1) 0 h)))))
         where
           more : (a b m : ℕ) → a ≡ b + 1 → a + m ≡ b + suc m
           more a b m e = omega arith
@@ -63,6 +59,6 @@ module _ (f : ℕ → Answer) (slot : ℕ) where
     where
       go : (v : Answer) → f c ≡ v → is_overflow (search_from f slot n (c + 1) (counted slot counts)).found ≡ any_lacks_room f (looks_made f n (c + 1))
           → is_overflow (after_answer v c (counted slot counts) (search_from f slot n (c + 1) (counted slot counts))).found ≡ (lacks_room (f c) || any_lacks_room f (onward v (looks_made f n (c + 1))))
-      go NoRoom q e = unfold after_answer in (rw q)
-      go (Seen (Free y g)) q e = unfold after_answer in (unfold after_look in (rw q))
-      go (Seen Full) q e = unfold after_answer in (unfold after_look in (rw q e))
+      go (Err r) q e = unfold after_answer in (rw q)
+      go (Ok (Some (y, g))) q e = unfold after_answer in (unfold after_look in (rw q))
+      go (Ok None) q e = unfold after_answer in (unfold after_look in (rw q e))

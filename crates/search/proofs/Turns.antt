@@ -1,4 +1,5 @@
 -- One turn of the column search. Assumes nothing.
+use Rattle.std.specs.Prelude.{Some, None, Ok, Err}
 use Prim.Native.Nat.{ℕ, suc, ◌+◌, ◌-◌, ◌*◌, ◌/◌, ◌<◌, ◌≤◌, ◌^◌}
 use native.Mathlib.Omega.{arith}
 use mathlib.Core.Path.{◌≡◌, sym, ap, ap₂, ◌∙◌, subst}
@@ -6,32 +7,27 @@ use mathlib.Core.List.{List}
 use lib.ListN.{length, get_or, set}
 use lib.Seq.{get_or-set_same}
 use lib.Ieee.{Float}
-use Rattle.look.specs.declared.height.Look.{Look}
-use Rattle.look.specs.declared.height.Look.TheVariants.{Free, Full}
 use Rattle.rooms.specs.tracks.inner.Tracks.{next_columns, look_counts_from, slot_numbers}
 use Rattle.rooms.proofs.tracks.Fields.{length-field, field_at, slot_first, slot_number, number-kept}
-use Rattle.look.specs.declared.Answer.{Answer}
-use Rattle.look.specs.declared.Answer.TheVariants.{NoRoom, Seen}
+use Rattle.index.specs.declared.Overrun.{Overrun}
 use Rattle.search.specs.declared.columns.Columns.{Columns}
-use Rattle.search.specs.declared.Found.{Found}
-use Rattle.search.specs.declared.Found.TheVariants.{At, Nowhere, Overflow}
 use Rattle.search.specs.columns.inner.Stands.{last_of, start_of}
-use Rattle.search.specs.inner.Searching.{remembering, next_of, tracked, search_of, answer_at, looked, counted, after_look, after_answer, search_from}
+use Rattle.search.specs.inner.Searching.{remembering, next_of, tracked, search_of, Answer, Found, answer_at, looked, counted, after_look, after_answer, search_from}
 
 module _ (f : ℕ → Answer) (slot c : ℕ) (counts : List ℕ) where
-  pub search-end : (n : ℕ) → n ≡ 0 → search_from f slot n c counts ≡ looked Nowhere counts
+  pub search-end : (n : ℕ) → n ≡ 0 → search_from f slot n c counts ≡ looked (Ok None) counts
   unfolding search_from
   search-end n e = rw e
 
-  pub search_overflow : (n m : ℕ) → n ≡ suc m → f c ≡ NoRoom → search_from f slot n c counts ≡ looked Overflow (counted slot counts)
+  pub search_overflow : (n m : ℕ) (r : Overrun) → n ≡ suc m → f c ≡ Err r → search_from f slot n c counts ≡ looked (Err r) (counted slot counts)
   unfolding search_from after_answer
-  search_overflow n m e l = rw (e, l)
+  search_overflow n m r e l = rw (e, l)
 
-  pub search_free : (n m : ℕ) (y g : Float) → n ≡ suc m → f c ≡ Seen (Free y g) → search_from f slot n c counts ≡ looked (At c y g) (counted slot counts)
+  pub search_free : (n m : ℕ) (y g : Float) → n ≡ suc m → f c ≡ Ok (Some (y, g)) → search_from f slot n c counts ≡ looked (Ok (Some (c, y, g))) (counted slot counts)
   unfolding search_from after_answer after_look
   search_free n m y g e l = rw (e, l)
 
-  pub search_full : (n m : ℕ) → n ≡ suc m → f c ≡ Seen Full → search_from f slot n c counts ≡ search_from f slot m (c + 1) (counted slot counts)
+  pub search_full : (n m : ℕ) → n ≡ suc m → f c ≡ Ok None → search_from f slot n c counts ≡ search_from f slot m (c + 1) (counted slot counts)
   unfolding search_from after_answer after_look
   search_full n m e l = rw (e, l)
 
@@ -54,15 +50,16 @@ module _ (k : Columns) (inset apart sheet placed room₀ : List Float) (slot las
   abbrev pub Goes : List Float → List ℕ → ℕ → Type 0
   Goes room tracks c = Going room₀ look_of_lem slot last from tracks₀ room tracks c
 
+  pub at-end : (room : List Float) (tracks : List ℕ) (c : ℕ) → Goes room tracks c → last < c
+      → looked (Ok None) (look_counts_from tracks) ≡ search_from look_of_lem slot (last + 1 - from) from counts₀
+  at-end room tracks c g h = sym (search-end look_of_lem slot c (look_counts_from tracks) (last + 1 - c) (omega arith)) ∙ g.same
+
   module _ (room room' : List Float) (tracks tracks' : List ℕ) (c : ℕ) (v : Answer) (g : Goes room tracks c) where
     abbrev counts : List ℕ
     counts = look_counts_from tracks
 
     abbrev counts' : List ℕ
     counts' = look_counts_from tracks'
-
-    pub at-end : last < c → looked Nowhere counts ≡ search_from look_of_lem slot (last + 1 - from) from counts₀
-    at-end h = sym (search-end look_of_lem slot c counts (last + 1 - c) (omega arith)) ∙ g.same
 
     module _ (h : c ≤ last) (e : v ≡ answer_at (length room / 2) k inset apart sheet placed c) (l : counts' ≡ counted slot counts)
         (m : next_columns tracks' ≡ next_columns tracks) where
@@ -72,16 +69,15 @@ module _ (k : Columns) (inset apart sheet placed room₀ : List Float) (slot las
       left : last + 1 - c ≡ suc (last - c)
       left = omega arith
 
-      pub at_overflow : v ≡ NoRoom → looked Overflow counts' ≡ search_from look_of_lem slot (last + 1 - from) from counts₀
-      at_overflow q = ap (looked Overflow) l ∙ (sym (search_overflow look_of_lem slot c counts (last + 1 - c) (last - c) left (same_look NoRoom q)) ∙ g.same)
+      pub at_overflow : (r : Overrun) → v ≡ Err r → looked (Err r) counts' ≡ search_from look_of_lem slot (last + 1 - from) from counts₀
+      at_overflow r q = ap (looked (Err r)) l ∙ (sym (search_overflow look_of_lem slot c counts (last + 1 - c) (last - c) r left (same_look (Err r) q)) ∙ g.same)
 
-      pub at_free : (y gap : Float) (u : Look) → v ≡ Seen u → u ≡ Free y gap
-          → looked (At c y gap) counts' ≡ search_from look_of_lem slot (last + 1 - from) from counts₀
-      at_free y gap u q r = ap (looked (At c y gap)) l ∙ (sym (search_free look_of_lem slot c counts (last + 1 - c) (last - c) y gap left
-          (same_look (Seen (Free y gap)) (q ∙ ap Seen r))) ∙ g.same)
+      pub at_free : (y gap : Float) → v ≡ Ok (Some (y, gap)) → looked (Ok (Some (c, y, gap))) counts' ≡ search_from look_of_lem slot (last + 1 - from) from counts₀
+      at_free y gap q = ap (looked (Ok (Some (c, y, gap)))) l ∙ (sym (search_free look_of_lem slot c counts (last + 1 - c) (last - c) y gap left
+          (same_look (Ok (Some (y, gap))) q)) ∙ g.same)
 
-      pub at_full : slot < 1024 → length room' ≡ length room → length tracks' ≡ length tracks → (u : Look) → v ≡ Seen u → u ≡ Full → Goes room' tracks' (c + 1)
-      at_full s w t u q r =
+      pub at_full : slot < 1024 → length room' ≡ length room → length tracks' ≡ length tracks → v ≡ Ok None → Goes room' tracks' (c + 1)
+      at_full s w t q =
           record {
             on = (let o = g.on in omega arith);
             wide = w ∙ g.wide;
@@ -90,7 +86,7 @@ module _ (k : Columns) (inset apart sheet placed room₀ : List Float) (slot las
             small = fewer h (get_or counts' slot 0) (get_or counts slot 0) (ap (λ (x : List ℕ). get_or x slot 0) l ∙ get_or-set_same counts slot
                 (get_or counts slot 0 + 1) 0 (subst (λ (n : ℕ). slot < n) (sym (length-field 0 2 1 1024 tracks)) s)) g.small;
             same = ap (search_from look_of_lem slot (last + 1 - (c + 1)) (c + 1)) l ∙
-                (sym (search_full look_of_lem slot c counts (last + 1 - c) (last + 1 - (c + 1)) (less h) (same_look (Seen Full) (q ∙ ap Seen r))) ∙ g.same);
+                (sym (search_full look_of_lem slot c counts (last + 1 - c) (last + 1 - (c + 1)) (less h) (same_look (Ok None) q)) ∙ g.same);
           }
         where
           less : c ≤ last → last + 1 - c ≡ suc (last + 1 - (c + 1))

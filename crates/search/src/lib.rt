@@ -13,18 +13,11 @@ ghost use Rattle.search.specs.columns.inner.Stands.{column_x, last_of};
 ghost use Rattle.search.specs.inner.Searching.{answer_at, looked, search_from, Within, next_of, tracked, search_of};
 
 use crate::columns::Columns;
-use index::{Bucket, Entry, Index};
-use look::Answer;
-use look::height::Look;
+use index::{Bucket, Entry, Index, Overrun};
 
-// The column that a search yields, with its free height and the clear height above it; or that a
-// look's intervals exceed the room.
-#[derive(Clone, Copy)]
-pub enum Found {
-    At(usize, f64, f64),
-    Nowhere,
-    Overflow,
-}
+// The column that a search yields, with its free height and the clear height above it, or none; or
+// that a look's intervals exceed the room.
+pub type Found = Result<Option<(usize, f64, f64)>, Overrun>;
 
 // One look at column c, and one more in its orientation's look count, which nothing else writes.
 fn column_step(
@@ -44,7 +37,7 @@ fn column_step(
     tracks: &mut [usize],
     sheet_firsts: &[Bucket],
     placed_firsts: &[Bucket],
-) -> Answer
+) -> Result<Option<(f64, f64)>, Overrun>
     requires { Lookable ix (column_x k c) k.y_low k.y_high inset.now apart.now sheet.now placed.now
         sheet_entries.now sheet_starts.now placed_entries.now placed_starts.now
         × (k.count ≤ 4000000000) × (slot < 1024) × (slot_numbers ≤ length tracks.old) × (get_or (look_counts_from tracks.old) slot 0 + 1 < 2 ^ 64)
@@ -56,7 +49,7 @@ fn column_step(
 {
     let row = 2 * slot;
     let at = row + 1;
-    tracks[at] = tracks[at] + 1;
+    tracks[at] += 1;
     look::look_at(
         ix,
         k.x(c),
@@ -107,12 +100,8 @@ fn column_search(
         slot (last + 1 - from) from (look_counts_from tracks.old))
         × (next_columns tracks.new ≡ next_columns tracks.old) × Within last result }
 {
-    let mut c = from;
-    let found = loop {
-        if last < c {
-            break Found::Nowhere;
-        }
-        match column_step(
+    for c in from..=last {
+        let look = column_step(
             ix,
             k,
             c,
@@ -129,21 +118,12 @@ fn column_search(
             tracks,
             sheet_firsts,
             placed_firsts,
-        ) {
-            Answer::NoRoom => {
-                break Found::Overflow;
-            }
-            Answer::Seen(look) => match look {
-                Look::Free(y, gap) => {
-                    break Found::At(c, y, gap);
-                }
-                Look::Full => {
-                    c += 1;
-                }
-            },
+        )?;
+        if let Some((y, gap)) = look {
+            return Ok(Some((c, y, gap)));
         }
-    };
-    found
+    }
+    Ok(None)
 }
 
 // What is remembered of a search: 0 for none, else one more than the column.
@@ -152,9 +132,8 @@ fn next_of(found: Found, last: usize) -> usize
     ensures { result ≡ next_of found }
 {
     match found {
-        Found::At(c, _, _) => c + 1,
-        Found::Nowhere => 0,
-        Found::Overflow => 0,
+        Ok(Some((c, _, _))) => c + 1,
+        _ => 0,
     }
 }
 

@@ -1,4 +1,5 @@
 -- Laws of loops and sets, judged and put. Assumes nothing.
+use Rattle.std.specs.Prelude.{Result, Ok, Err}
 use mathlib.Core.Path.{◌≡◌, refl, sym, ap, ap₂, subst, ◌∙◌}
 use Prim.Native.Nat.{ℕ, suc, ◌+◌, ◌*◌, ◌≤◌}
 use native.Mathlib.Omega.{arith}
@@ -12,8 +13,6 @@ use lib.Ieee.{Float}
 use Rattle.numbers.proofs.Truth.{zero-not-one}
 use Rattle.bits.specs.declared.Refusal.{Refusal}
 use Rattle.bits.specs.declared.Refusal.TheVariants.{CountOutOfRange}
-use Rattle.bits.specs.declared.Counted.{Counted}
-use Rattle.bits.specs.declared.Counted.TheVariants.{Count, NoCount}
 use Rattle.bits.specs.Fields.{judge_count, judge_points}
 use Rattle.bits.specs.inner.Answers.{count_of}
 use Rattle.bits.proofs.Judging.{points-most}
@@ -23,8 +22,6 @@ use Rattle.bit_writer.specs.inner.BitWriting.{Sound, Put}
 use Rattle.bit_writer.proofs.Bits.{binary-length}
 use Rattle.bit_writer.proofs.Writing.{put-none}
 use Rattle.set_writer.specs.declared.Walk.{Walk}
-use Rattle.set_writer.specs.declared.Walked.{Walked}
-use Rattle.set_writer.specs.declared.Walked.TheVariants.{On, Not}
 use Rattle.job_bits.specs.JobBits.{double_bits, loops_bits, set_bits}
 use Rattle.job_bits.specs.Given.{ok, after, counted, next_loops, next_points, given_points, given_loops, given_set}
 use Rattle.set_writer.specs.inner.Walks.{Walks, went, stopped, Near}
@@ -39,8 +36,13 @@ loops_more : (cs : List ℕ) (xs : List Float) (n m before : ℕ) → n ≡ suc 
 unfolding given_loops
 loops_more cs xs n m before e c x = ap (λ (k : ℕ). given_loops k before cs xs c x) e
 
+-- n loops are put, of a set that has so many points before them
+abbrev pub PutLoops : List ℕ → List Float → ℕ → ℕ → Walk → List ℕ → Result Walk Refusal → List ℕ → Type 0
+PutLoops cs xs n before w out r o =
+    Walks (given_loops n before cs xs w.counts w.coordinates) (loop_bits before) w out r o × Near w r n (1024 * n) (65546 * n)
+
 pub loops_none : (cs : List ℕ) (xs : List Float) (w : Walk) (out : List ℕ) (n before : ℕ) → Sound w.writer → n ≡ 0 → Walks
-    (given_loops n before cs xs w.counts w.coordinates) (loop_bits before) w out (On w) out × Near w (On w) n (1024 * n) (65546 * n)
+    (given_loops n before cs xs w.counts w.coordinates) (loop_bits before) w out (Ok w) out × Near w (Ok w) n (1024 * n) (65546 * n)
 unfolding given_loops loops_bits
 loops_none cs xs w out n before S e = (
   walk_same (ap (λ (k : ℕ). given_loops k before cs xs w.counts w.coordinates) e)
@@ -48,21 +50,21 @@ loops_none cs xs w out n before S e = (
   (omega arith, omega arith, omega arith),
 )
 
-points-judged : (cs : List ℕ) (xs : List Float) (before c x v : ℕ) (t : Counted) → v ≡ get_or cs c 0 → t ≡ judge_points before v → next_points before cs xs c x ≡
+points-judged : (cs : List ℕ) (xs : List Float) (before c x v : ℕ) (t : Result ℕ Refusal) → v ≡ get_or cs c 0 → t ≡ judge_points before v → next_points before cs xs c x ≡
     counted t (c + 1) x
 unfolding next_points
 points-judged cs xs before c x v t e f = ap₂ (λ (n k : ℕ). counted (judge_points before n) k x) (sym e) (sym (add-one c)) ∙ ap
-    (λ (y : Counted). counted y (c + 1) x) (sym f)
+    (λ (y : Result ℕ Refusal). counted y (c + 1) x) (sym f)
 
 -- how many points there can be
-pub points-few : (before n m : ℕ) (t : Counted) → before ≤ 512 → t ≡ judge_points before n → t ≡ Count m → before + m ≤ 512
+pub points-few : (before n m : ℕ) (t : Result ℕ Refusal) → before ≤ 512 → t ≡ judge_points before n → t ≡ Ok m → before + m ≤ 512
 points-few before n m t h e f = subst (λ (x : ℕ). before + x ≤ 512) (ap count_of (sym e ∙ f)) (points-most before n h)
 
-module _ (cs : List ℕ) (xs : List Float) (w : Walk) (out o o' : List ℕ) (n m before v p : ℕ) (t : Counted) (writer : BitWriter) where
-  pub loops_on : (u : Walk) (r₁ r : Walked) (o'' : List ℕ) → n ≡ m + 1 → before ≤ 512 → v ≡ get_or cs w.counts 0 → t ≡ judge_points before v → t ≡ Count p → Put
+module _ (cs : List ℕ) (xs : List Float) (w : Walk) (out o o' : List ℕ) (n m before v p : ℕ) (t : Result ℕ Refusal) (writer : BitWriter) where
+  pub loops_on : (u : Walk) (r₁ r : Result Walk Refusal) (o'' : List ℕ) → n ≡ m + 1 → before ≤ 512 → v ≡ get_or cs w.counts 0 → t ≡ judge_points before v → t ≡ Ok p → Put
       out w.writer (binary 10 p) o writer → ((ds : List ℕ) → Walks (given_points p ds xs (w.counts + 1) w.coordinates) (flat_map double_bits)
       (record { counts = w.counts + 1; coordinates = w.coordinates; writer = writer }) o r₁ o') × Near
-      (record { counts = w.counts + 1; coordinates = w.coordinates; writer = writer }) r₁ 0 (2 * p) (128 * p) → r₁ ≡ On u → Walks
+      (record { counts = w.counts + 1; coordinates = w.coordinates; writer = writer }) r₁ 0 (2 * p) (128 * p) → r₁ ≡ Ok u → Walks
       (given_loops m (before + p) cs xs u.counts u.coordinates) (loop_bits (before + p)) u o' r o'' × Near u r m (1024 * m) (65546 * m) → Walks
       (given_loops n before cs xs w.counts w.coordinates) (loop_bits before) w out r o'' × Near w r n (1024 * n) (65546 * n)
   loops_on u r₁ r o'' e b f g h P F k H = (
@@ -70,7 +72,7 @@ module _ (cs : List ℕ) (xs : List Float) (w : Walk) (out o o' : List ℕ) (n m
     near_more w r _ _ _ n (1024 * n) (65546 * n)
         (near-then w (record { counts = w.counts + 1; coordinates = w.coordinates; writer = writer }) r 1 0 10 _ _ _
         (omega arith, omega arith, omega (arith, P.count, binary-length 10 p))
-        (near-then (record { counts = w.counts + 1; coordinates = w.coordinates; writer = writer }) u r _ _ _ _ _ _ (near_at (record { counts = w.counts + 1; coordinates = w.coordinates; writer = writer }) (On u) 0 (2 * p) (128 * p) F.1 k) H.1))
+        (near-then (record { counts = w.counts + 1; coordinates = w.coordinates; writer = writer }) u r _ _ _ _ _ _ (near_at (record { counts = w.counts + 1; coordinates = w.coordinates; writer = writer }) (Ok u) 0 (2 * p) (128 * p) F.1 k) H.1))
         (omega arith)
         (omega (arith, points-few before v p t b g h))
         (omega (arith, points-few before v p t b g h)),
@@ -90,18 +92,18 @@ module _ (cs : List ℕ) (xs : List Float) (w : Walk) (out o o' : List ℕ) (n m
           (loop_bits before)
           p
           ps
-          (points-judged cs xs before w.counts w.coordinates v t f g ∙ ap (λ (y : Counted). counted y (w.counts + 1) w.coordinates) h)
+          (points-judged cs xs before w.counts w.coordinates v t f g ∙ ap (λ (y : Result ℕ Refusal). counted y (w.counts + 1) w.coordinates) h)
           P
           j
           q
           H.0
           (λ s c x z. loop_bits_lem before p ps s (points-length p cs xs _ _ ps _ _ j)))
 
-  pub loops_bad-points : (r₁ : Walked) (k : Refusal) → n ≡ m + 1 → v ≡ get_or cs w.counts 0 → t ≡ judge_points before v → t ≡ Count p → Put out w.writer
+  pub loops_bad-points : (r₁ : Result Walk Refusal) (k : Refusal) → n ≡ m + 1 → v ≡ get_or cs w.counts 0 → t ≡ judge_points before v → t ≡ Ok p → Put out w.writer
       (binary 10 p) o writer → ((ds : List ℕ) → Walks (given_points p ds xs (w.counts + 1) w.coordinates) (flat_map double_bits)
       (record { counts = w.counts + 1; coordinates = w.coordinates; writer = writer }) o r₁ o') × Near
-      (record { counts = w.counts + 1; coordinates = w.coordinates; writer = writer }) r₁ 0 (2 * p) (128 * p) → r₁ ≡ Not k → Walks
-      (given_loops n before cs xs w.counts w.coordinates) (loop_bits before) w out (Not k) o' × Unit {0}
+      (record { counts = w.counts + 1; coordinates = w.coordinates; writer = writer }) r₁ 0 (2 * p) (128 * p) → r₁ ≡ Err k → Walks
+      (given_loops n before cs xs w.counts w.coordinates) (loop_bits before) w out (Err k) o' × Unit {0}
   loops_bad-points r₁ k e f g h P F j =
       let s = stopped_at k (F.0 cs) j in (
         walk_same (loops_more cs xs n m before (e ∙ add-one m) w.counts w.coordinates)
@@ -112,39 +114,39 @@ module _ (cs : List ℕ) (xs : List Float) (w : Walk) (out o o' : List ℕ) (n m
             (loop_bits before)
             p
             k
-            (points-judged cs xs before w.counts w.coordinates v t f g ∙ ap (λ (y : Counted). counted y (w.counts + 1) w.coordinates) h)
+            (points-judged cs xs before w.counts w.coordinates v t f g ∙ ap (λ (y : Result ℕ Refusal). counted y (w.counts + 1) w.coordinates) h)
             P
             s.0
             s.1),
         tt,
       )
 
-  pub loops_bad : (k : Refusal) → n ≡ m + 1 → v ≡ get_or cs w.counts 0 → t ≡ judge_points before v → t ≡ NoCount k → Walks
-      (given_loops n before cs xs w.counts w.coordinates) (loop_bits before) w out (Not k) out × Unit {0}
+  pub loops_bad : (k : Refusal) → n ≡ m + 1 → v ≡ get_or cs w.counts 0 → t ≡ judge_points before v → t ≡ Err k → Walks
+      (given_loops n before cs xs w.counts w.coordinates) (loop_bits before) w out (Err k) out × Unit {0}
   loops_bad k e f g h = (
     walk_same (loops_more cs xs n m before (e ∙ add-one m) w.counts w.coordinates)
         (stopped (bad-first (next_points before cs xs w.counts w.coordinates) _ k
-        (points-judged cs xs before w.counts w.coordinates v t f g ∙ ap (λ (y : Counted). counted y (w.counts + 1) w.coordinates) h)) refl),
+        (points-judged cs xs before w.counts w.coordinates v t f g ∙ ap (λ (y : Result ℕ Refusal). counted y (w.counts + 1) w.coordinates) h)) refl),
     tt,
   )
 
 -- ---- a set
-loops_judged : (cs : List ℕ) (xs : List Float) (c x v : ℕ) (t : Counted) → v ≡ get_or cs c 0 → t ≡ judge_count 1 64 v → next_loops cs xs c x ≡ counted t (c + 1) x
+loops_judged : (cs : List ℕ) (xs : List Float) (c x v : ℕ) (t : Result ℕ Refusal) → v ≡ get_or cs c 0 → t ≡ judge_count 1 64 v → next_loops cs xs c x ≡ counted t (c + 1) x
 unfolding next_loops
-loops_judged cs xs c x v t e f = ap₂ (λ (n k : ℕ). counted (judge_count 1 64 n) k x) (sym e) (sym (add-one c)) ∙ ap (λ (y : Counted). counted y (c + 1) x)
+loops_judged cs xs c x v t e f = ap₂ (λ (n k : ℕ). counted (judge_count 1 64 n) k x) (sym e) (sym (add-one c)) ∙ ap (λ (y : Result ℕ Refusal). counted y (c + 1) x)
     (sym f)
 
-pub count-few : (least most n m : ℕ) (t : Counted) → t ≡ judge_count least most n → t ≡ Count m → (least ≤ m) × (m ≤ most)
+pub count-few : (least most n m : ℕ) (t : Result ℕ Refusal) → t ≡ judge_count least most n → t ≡ Ok m → (least ≤ m) × (m ≤ most)
 unfolding judge_count
 count-few least most n m t e f = go (leb least n) (leb n most) (leb-true least n) (leb-true n most) (sym e ∙ f)
   where
-    go : (a b : Bool) → (a ≡ true → least ≤ n) → (b ≡ true → n ≤ most) → cond (a && b) (Count n) (NoCount CountOutOfRange) ≡ Count m → (least ≤ m) × (m ≤ most)
+    go : (a b : Bool) → (a ≡ true → least ≤ n) → (b ≡ true → n ≤ most) → cond (a && b) (Ok n) (Err CountOutOfRange) ≡ Ok m → (least ≤ m) × (m ≤ most)
     go true true g h e = (subst (λ (x : ℕ). least ≤ x) (ap count_of e) (g refl), subst (λ (x : ℕ). x ≤ most) (ap count_of e) (h refl))
     go true false g h e = absurd (zero-not-one (cc))
     go false b g h e = absurd (zero-not-one (cc))
 
-pub set_on : (cs : List ℕ) (xs : List Float) (w : Walk) (out o o' : List ℕ) (v n : ℕ) (t : Counted) (writer : BitWriter) (r : Walked) → v ≡ get_or cs w.counts
-    0 → t ≡ judge_count 1 64 v → t ≡ Count n → Put out w.writer (binary 7 n) o writer → Walks (given_loops n 0 cs xs (w.counts + 1) w.coordinates)
+pub set_on : (cs : List ℕ) (xs : List Float) (w : Walk) (out o o' : List ℕ) (v n : ℕ) (t : Result ℕ Refusal) (writer : BitWriter) (r : Result Walk Refusal) → v ≡ get_or cs w.counts
+    0 → t ≡ judge_count 1 64 v → t ≡ Ok n → Put out w.writer (binary 7 n) o writer → Walks (given_loops n 0 cs xs (w.counts + 1) w.coordinates)
     (loop_bits 0) (record { counts = w.counts + 1; coordinates = w.coordinates; writer = writer }) o r o' × Near
     (record { counts = w.counts + 1; coordinates = w.coordinates; writer = writer }) r n (1024 * n) (65546 * n) → Walks
     (given_set cs xs w.counts w.coordinates) set_bits w out r o' × Near w r 65 65536 4194951
@@ -157,7 +159,7 @@ set_on cs xs w out o o' v n t writer r e f g P H =
           (loop_bits 0)
           set_bits
           n
-          (loops_judged cs xs w.counts w.coordinates v t e f ∙ ap (λ (y : Counted). counted y (w.counts + 1) w.coordinates) g)
+          (loops_judged cs xs w.counts w.coordinates v t e f ∙ ap (λ (y : Result ℕ Refusal). counted y (w.counts + 1) w.coordinates) g)
           P
           H.0
           (λ s c x z. ap (λ (k : ℕ). binary 7 k ++ loop_bits 0 s) (loops_length n 0 cs xs _ _ s _ _ z)),
@@ -165,11 +167,11 @@ set_on cs xs w out o o' v n t writer r e f g P H =
           (omega arith, omega arith, omega (arith, P.count, binary-length 7 n)) H.1) (omega (arith, few)) (omega (arith, few)) (omega (arith, few)),
     )
 
-pub set-bad : (cs : List ℕ) (xs : List Float) (w : Walk) (out : List ℕ) (v : ℕ) (t : Counted) (k : Refusal) → v ≡ get_or cs w.counts 0 → t ≡ judge_count 1 64
-    v → t ≡ NoCount k → Walks (given_set cs xs w.counts w.coordinates) set_bits w out (Not k) out × Unit {0}
+pub set-bad : (cs : List ℕ) (xs : List Float) (w : Walk) (out : List ℕ) (v : ℕ) (t : Result ℕ Refusal) (k : Refusal) → v ≡ get_or cs w.counts 0 → t ≡ judge_count 1 64
+    v → t ≡ Err k → Walks (given_set cs xs w.counts w.coordinates) set_bits w out (Err k) out × Unit {0}
 unfolding given_set
 set-bad cs xs w out v t k e f g = (
   stopped (bad-first (next_loops cs xs w.counts w.coordinates) (λ n c x. given_loops n 0 cs xs c x) k
-      (loops_judged cs xs w.counts w.coordinates v t e f ∙ ap (λ (y : Counted). counted y (w.counts + 1) w.coordinates) g)) refl,
+      (loops_judged cs xs w.counts w.coordinates v t e f ∙ ap (λ (y : Result ℕ Refusal). counted y (w.counts + 1) w.coordinates) g)) refl,
   tt,
 )

@@ -1,4 +1,5 @@
 -- Both passes and the bounds together are the shapes by slot. Assumes nothing.
+use Rattle.std.specs.Prelude.{Option, Some, None}
 use mathlib.Core.Path.{◌≡◌, refl, sym, ap, ap₂, subst, ◌∙◌}
 use mathlib.Core.List.{List, [], ◌∷◌, ◌++◌, map, flat_map, append-nil, append_assoc}
 use Prim.Native.Nat.{ℕ, zero, suc, ◌+◌, ◌*◌, ◌/◌, ◌%◌, ◌≤◌, ◌<◌}
@@ -10,7 +11,6 @@ use Rattle.trapezoid.specs.declared.Trapezoid.{Trapezoid}
 use Rattle.trapezoid.specs.Strip.{flat, capacity}
 use Rattle.index.specs.Buckets.{up_from}
 use Rattle.strips.specs.declared.Rect.{Rect}
-use Rattle.strips.specs.declared.Stored.{Stored}
 use Rattle.strips.specs.inner.Tables as Tables
 use Rattle.filling.specs.Shapes.{Shape, no_shape}
 use Rattle.filling.specs.Rooms.{laid}
@@ -20,7 +20,6 @@ use Rattle.filling.proofs.Reading.{flat_append, get_d_by_slot, length-by_slot, b
 use Rattle.filling.proofs.WithinBoundsStrips.{capacity-flat}
 use Rattle.shapes.proofs.set_strips.ReadSets.{laid-first}
 use Rattle.frames.specs.declared.Frame.{Frame}
-use Rattle.shapes.specs.declared.ShapesLaid.TheVariants as Laid
 use Rattle.shapes.specs.slots.inner.Slots.{slot_strips, slot_bounds, slot_of, strips_to, Column, SlotsLaid, BoundsTo}
 use Rattle.shapes.specs.inner.ShapeRooms.{ShapesAre}
 use Rattle.shapes.proofs.slots.SlotWalk.{length-laid, laid_on}
@@ -176,9 +175,9 @@ module _ (f g : ℕ → List Trapezoid) (b : ℕ → Rect) (s : ℕ → Shape) (
   both-number = ap capacity both ∙ capacity-flat (strips_to f 1024 ++ strips_to g 1024) ∙ length-append (strips_to f 1024) (strips_to g 1024)
 
   module _ (shapes₀ shapes₁ shapes bounds₀ bounds : List Float) (parts₀ parts₁ parts : List ℕ) (m n : ℕ) where
-    pub all_laid : SlotsLaid (Stored.Count m) 0 f 1024 0 shapes₀ shapes₁ parts₀ parts₁ → SlotsLaid (Stored.Count n) 1 g 1024 m shapes₁ shapes parts₁ parts →
+    pub all_laid : SlotsLaid (Some m) 0 f 1024 0 shapes₀ shapes₁ parts₀ parts₁ → SlotsLaid (Some n) 1 g 1024 m shapes₁ shapes parts₁ parts →
         BoundsTo b 1024 bounds₀ bounds
-        → length parts ≡ 4096 → length bounds ≡ 4096 → ShapesAre (Laid.Strips m n) (by_slot s) shapes₀ shapes bounds parts
+        → length parts ≡ 4096 → length bounds ≡ 4096 → ShapesAre (Some (m, n)) (by_slot s) shapes₀ shapes bounds parts
     unfolding capacity
     all_laid P Q B k l =
         let x = ap capacity (strips_by_slot (λ t. t.apart) f s fs) ∙ capacity-flat (strips_to f 1024) in
@@ -197,11 +196,11 @@ module _ (f g : ℕ → List Trapezoid) (b : ℕ → Rect) (s : ℕ → Shape) (
           parts_are parts₀ parts₁ parts P.3 Q.3 k,
         )
 
-    pub first_over : SlotsLaid Stored.NoRoom 0 f 1024 0 shapes₀ shapes₁ parts₀ parts₁ → ShapesAre Laid.NoRoom (by_slot s) shapes₀ shapes bounds parts
+    pub first_over : SlotsLaid None 0 f 1024 0 shapes₀ shapes₁ parts₀ parts₁ → ShapesAre None (by_slot s) shapes₀ shapes bounds parts
     first_over P = let z = both-number in omega (arith, z, P)
 
-    pub second_over : SlotsLaid (Stored.Count m) 0 f 1024 0 shapes₀ shapes₁ parts₀ parts₁ → SlotsLaid Stored.NoRoom 1 g 1024 m shapes₁ shapes parts₁ parts →
-        ShapesAre Laid.NoRoom (by_slot s) shapes₀ shapes bounds parts
+    pub second_over : SlotsLaid (Some m) 0 f 1024 0 shapes₀ shapes₁ parts₀ parts₁ → SlotsLaid None 1 g 1024 m shapes₁ shapes parts₁ parts →
+        ShapesAre None (by_slot s) shapes₀ shapes bounds parts
     unfolding capacity
     second_over P Q =
         let z = both-number in
@@ -210,41 +209,41 @@ module _ (f g : ℕ → List Trapezoid) (b : ℕ → Rect) (s : ℕ → Shape) (
 
 -- ---- what the calls leave
 
-module _ (f : Frame) (bytes rows places : List ℕ) (kinds : ℕ) (shapes₀ shapes₁ : List Float) (parts₀ parts₁ : List ℕ) (r : Stored) where
+module _ (f : Frame) (bytes rows places : List ℕ) (kinds : ℕ) (shapes₀ shapes₁ : List Float) (parts₀ parts₁ : List ℕ) (r : Option ℕ) where
   abbrev FirstPass : Type 0
   FirstPass = SlotsLaid r 0 (slot_strips f bytes rows places kinds 0) 1024 0 shapes₀ shapes₁ parts₀ parts₁
 
-  told : (t : Stored) → FirstPass → r ≡ t → SlotsLaid t 0 (slot_strips f bytes rows places kinds 0) 1024 0 shapes₀ shapes₁ parts₀ parts₁
-  told t P e = subst (λ (x : Stored). SlotsLaid x 0 (slot_strips f bytes rows places kinds 0) 1024 0 shapes₀ shapes₁ parts₀ parts₁) e P
+  told : (t : Option ℕ) → FirstPass → r ≡ t → SlotsLaid t 0 (slot_strips f bytes rows places kinds 0) 1024 0 shapes₀ shapes₁ parts₀ parts₁
+  told t P e = subst (λ (x : Option ℕ). SlotsLaid x 0 (slot_strips f bytes rows places kinds 0) 1024 0 shapes₀ shapes₁ parts₀ parts₁) e P
 
-  pub first_fits : (m : ℕ) → FirstPass → r ≡ Stored.Count m → 6 * m ≤ length shapes₀
-  first_fits m P e = let p = told (Stored.Count m) P e in omega (arith, p.1)
+  pub first_fits : (m : ℕ) → FirstPass → r ≡ Some m → 6 * m ≤ length shapes₀
+  first_fits m P e = let p = told (Some m) P e in omega (arith, p.1)
 
   module _ (shapes bounds : List Float) (parts : List ℕ) where
-    pub none-laid : FirstPass → r ≡ Stored.NoRoom → ShapesAre Laid.NoRoom (by_slot (slot_of f bytes rows places kinds)) shapes₀ shapes bounds parts
+    pub none-laid : FirstPass → r ≡ None → ShapesAre None (by_slot (slot_of f bytes rows places kinds)) shapes₀ shapes bounds parts
     unfolding slot_of
     none-laid P e =
         first_over (slot_strips f bytes rows places kinds 0) (slot_strips f bytes rows places kinds 1) (slot_bounds f bytes rows places kinds)
         (slot_of f bytes rows places kinds) (λ i. refl) (λ i. refl) (λ i. refl) shapes₀ shapes₁ shapes bounds bounds parts₀ parts₁ parts 0 0
-        (told Stored.NoRoom P e)
+        (told None P e)
 
-    module _ (m : ℕ) (P : FirstPass) (e : r ≡ Stored.Count m) (t : Stored) (Q : SlotsLaid t 1 (slot_strips f bytes rows places kinds 1) 1024 m shapes₁ shapes
+    module _ (m : ℕ) (P : FirstPass) (e : r ≡ Some m) (t : Option ℕ) (Q : SlotsLaid t 1 (slot_strips f bytes rows places kinds 1) 1024 m shapes₁ shapes
         parts₁ parts) where
-      pub some-laid : t ≡ Stored.NoRoom → ShapesAre Laid.NoRoom (by_slot (slot_of f bytes rows places kinds)) shapes₀ shapes bounds parts
+      pub some-laid : t ≡ None → ShapesAre None (by_slot (slot_of f bytes rows places kinds)) shapes₀ shapes bounds parts
       unfolding slot_of
       some-laid d =
           second_over (slot_strips f bytes rows places kinds 0) (slot_strips f bytes rows places kinds 1) (slot_bounds f bytes rows places kinds)
           (slot_of f bytes rows places kinds) (λ i. refl) (λ i. refl) (λ i. refl) shapes₀ shapes₁ shapes bounds bounds parts₀ parts₁ parts m 0
-          (told (Stored.Count m) P e)
-          (subst (λ (x : Stored). SlotsLaid x 1 (slot_strips f bytes rows places kinds 1) 1024 m shapes₁ shapes parts₁ parts) d Q)
+          (told (Some m) P e)
+          (subst (λ (x : Option ℕ). SlotsLaid x 1 (slot_strips f bytes rows places kinds 1) 1024 m shapes₁ shapes parts₁ parts) d Q)
 
-      pub both-laid : (n : ℕ) (bounds₀ : List Float) → t ≡ Stored.Count n → BoundsTo (slot_bounds f bytes rows places kinds) 1024 bounds₀ bounds → length parts ≡
+      pub both-laid : (n : ℕ) (bounds₀ : List Float) → t ≡ Some n → BoundsTo (slot_bounds f bytes rows places kinds) 1024 bounds₀ bounds → length parts ≡
           4096 → length bounds ≡ 4096
-          → ShapesAre (Laid.Strips m n) (by_slot (slot_of f bytes rows places kinds)) shapes₀ shapes bounds parts
+          → ShapesAre (Some (m, n)) (by_slot (slot_of f bytes rows places kinds)) shapes₀ shapes bounds parts
       unfolding slot_of
       both-laid n bounds₀ d B k l =
           all_laid (slot_strips f bytes rows places kinds 0) (slot_strips f bytes rows places kinds 1) (slot_bounds f bytes rows places kinds)
           (slot_of f bytes rows places kinds) (λ i. refl) (λ i. refl) (λ i. refl) shapes₀ shapes₁ shapes bounds₀ bounds parts₀ parts₁ parts m n
-          (told (Stored.Count m) P e)
-          (subst (λ (x : Stored). SlotsLaid x 1 (slot_strips f bytes rows places kinds 1) 1024 m shapes₁ shapes parts₁ parts) d Q)
+          (told (Some m) P e)
+          (subst (λ (x : Option ℕ). SlotsLaid x 1 (slot_strips f bytes rows places kinds 1) 1024 m shapes₁ shapes parts₁ parts) d Q)
           B k l

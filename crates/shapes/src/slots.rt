@@ -7,19 +7,18 @@ ghost use Rattle.shapes.specs.slots.inner.Slots.{in_use, slot_strips, slot_bound
 ghost use Rattle.strips.specs.inner.Tables.{Stowed, strips_stored};
 
 use crate::set_strips;
+use crate::set_strips::Scratch;
 use frames::Frame;
-use strips::{Rect, Stored};
+use strips::Rect;
 
 // Whether the job has slot i.
+#[tactic(auto, unfolding(crate::specs::slots::inner::Slots::in_use))]
 fn in_use(rows: &[u64], kinds: usize, i: usize) -> bool
     requires { (256 ≤ length rows.now) × (i < 1024) }
     ensures { result ≡ in_use rows.now kinds i }
 {
     let kind = i / 16;
-    if kind < kinds {
-        return i % 16 < (rows[4 * kind + 3] as usize);
-    }
-    false
+    kind < kinds && i % 16 < rows[4 * kind + 3] as usize
 }
 
 // The strips of slot i go into the room from strip `from` on: those of its apart set (0) or of its
@@ -31,29 +30,20 @@ fn slot_strips(
     kinds: usize,
     which: usize,
     i: usize,
-    points: &mut [f64],
-    ends: &mut [usize],
-    short: &mut [u16],
-    es: &mut [f64],
-    crossings: &mut [f64],
-    line: &mut [f64],
+    scratch: &mut Scratch,
     shapes: &mut [f64],
     from: usize,
     f: Frame,
-) -> Stored
-    requires { (256 ≤ length rows.now) × (2048 ≤ length places.now) × (which < 2) × (i < 1024) × (1024 ≤ length points.old) × (64 ≤ length ends.old)
-        × (64 ≤ length short.old) × (3072 ≤ length es.old) × (1536 ≤ length crossings.old) × (514 ≤ length line.old)
-        × (6 * from ≤ length shapes.old) }
+) -> Option<usize>
+    requires { (256 ≤ length rows.now) × (2048 ≤ length places.now) × (which < 2) × (i < 1024) × (6 * from ≤ length shapes.old) }
     ensures { record { answer = result; room = shapes.new } ≡ strips_stored (slot_strips f bytes.now rows.now
         places.now kinds which i) shapes.old from }
 {
-    if in_use(rows, kinds, i) {
-        let at = places[2 * i + which];
-        return set_strips::set_strips(
-            bytes, at, false, points, ends, short, es, crossings, line, shapes, from, f,
-        );
+    if !in_use(rows, kinds, i) {
+        return Some(0);
     }
-    Stored::Count(0)
+    let at = places[2 * i + which];
+    set_strips::set_strips(bytes, at, false, scratch, shapes, from, f)
 }
 
 // The strips of all slots go into the room from strip `from` on; how many they are, or that they do
@@ -65,43 +55,28 @@ pub fn lay_slots(
     places: &[u32],
     kinds: usize,
     which: usize,
-    points: &mut [f64],
-    ends: &mut [usize],
-    short: &mut [u16],
-    es: &mut [f64],
-    crossings: &mut [f64],
-    line: &mut [f64],
+    scratch: &mut Scratch,
     shapes: &mut [f64],
     from: usize,
     parts: &mut [usize],
     f: Frame,
-) -> Stored
-    requires { (256 ≤ length rows.now) × (2048 ≤ length places.now) × (which < 2) × (1024 ≤ length points.old) × (64 ≤ length ends.old)
-        × (64 ≤ length short.old) × (3072 ≤ length es.old) × (1536 ≤ length crossings.old) × (514 ≤ length line.old) × (6 * from ≤ length shapes.old)
+) -> Option<usize>
+    requires { (256 ≤ length rows.now) × (2048 ≤ length places.now) × (which < 2) × (6 * from ≤ length shapes.old)
         × (4096 ≤ length parts.old) }
     ensures { SlotsLaid result which (slot_strips f bytes.now rows.now places.now kinds which) 1024 from shapes.old
         shapes.new parts.old parts.new }
 {
-    let mut i: usize = 0;
     let mut held = from;
-    while i < 1024 {
-        match slot_strips(
-            bytes, rows, places, kinds, which, i, points, ends, short, es, crossings, line, shapes,
-            held, f,
-        ) {
-            Stored::Count(n) => {
-                let at = 4 * i + 2 * which;
-                parts[at] = held - from;
-                parts[at + 1] = n;
-                held += n;
-            }
-            Stored::NoRoom => {
-                return Stored::NoRoom;
-            }
-        }
-        i += 1;
+    for i in 0..1024 {
+        let n = slot_strips(
+            bytes, rows, places, kinds, which, i, scratch, shapes, held, f,
+        )?;
+        let at = 4 * i + 2 * which;
+        parts[at] = held - from;
+        parts[at + 1] = n;
+        held += n;
     }
-    Stored::Count(held - from)
+    Some(held - from)
 }
 
 // The inset bounds of slot i; zeros where the job lacks it.
@@ -111,23 +86,22 @@ fn slot_bounds(
     places: &[u32],
     kinds: usize,
     i: usize,
-    points: &mut [f64],
-    ends: &mut [usize],
+    scratch: &mut Scratch,
     f: Frame,
 ) -> Rect
-    requires { (256 ≤ length rows.now) × (2048 ≤ length places.now) × (i < 1024) × (1024 ≤ length points.old) × (64 ≤ length ends.old) }
+    requires { (256 ≤ length rows.now) × (2048 ≤ length places.now) × (i < 1024) }
     ensures { result ≡ slot_bounds f bytes.now rows.now places.now kinds i }
 {
-    if in_use(rows, kinds, i) {
-        let at = places[2 * i + 1];
-        return set_strips::set_bounds(bytes, at, points, ends, f);
+    if !in_use(rows, kinds, i) {
+        return Rect {
+            left: 0.0,
+            bottom: 0.0,
+            right: 0.0,
+            top: 0.0,
+        };
     }
-    Rect {
-        left: 0.0,
-        bottom: 0.0,
-        right: 0.0,
-        top: 0.0,
-    }
+    let at = places[2 * i + 1];
+    set_strips::set_bounds(bytes, at, scratch, f)
 }
 
 // The bounds b as those of slot i.
@@ -148,20 +122,16 @@ pub fn lay_bounds(
     rows: &[u64],
     places: &[u32],
     kinds: usize,
-    points: &mut [f64],
-    ends: &mut [usize],
+    scratch: &mut Scratch,
     table: &mut [f64],
     f: Frame,
 )
-    requires { (256 ≤ length rows.now) × (2048 ≤ length places.now) × (1024 ≤ length points.old) × (64 ≤ length ends.old)
-        × (4096 ≤ length table.old) }
+    requires { (256 ≤ length rows.now) × (2048 ≤ length places.now) × (4096 ≤ length table.old) }
     ensures { BoundsTo (slot_bounds f bytes.now rows.now places.now kinds) 1024 table.old
         table.new }
 {
-    let mut i: usize = 0;
-    while i < 1024 {
-        let b = slot_bounds(bytes, rows, places, kinds, i, points, ends, f);
+    for i in 0..1024 {
+        let b = slot_bounds(bytes, rows, places, kinds, i, scratch, f);
         put_bounds(table, i, b);
-        i += 1;
     }
 }

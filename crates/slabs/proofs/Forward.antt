@@ -1,53 +1,26 @@
 -- Crossings gathered from the first edge to the last, each put after its equals. Assumes nothing.
-use Prim.Native.Nat.{ℕ, ◌+◌, ◌-◌, ◌*◌, ◌≤◌, ◌<◌}
+use Prim.Native.Nat.{ℕ, ◌+◌}
 use native.Mathlib.Omega.{arith}
 use native.Mathlib.Numerals.{add-one}
 use mathlib.Core.Path.{◌≡◌, refl, ap, sym, ◌∙◌, subst}
-use mathlib.Core.Logic.{◌⊎◌, inl, inr}
+use mathlib.Core.Logic.{inl, inr}
 use mathlib.Core.List.{List, [], ◌∷◌, ◌++◌}
 use mathlib.Core.Bool.{Bool, true, false}
-use lib.Dec.{T}
-use lib.ListN.{length}
-use lib.Ieee.{Float, eq, fits, binary64}
-use lib.Ieee.Fits.{add-fits}
+use lib.Ieee.{Float}
 use Rattle.numbers.specs.Numbers.{◌⊕◌}
 use Rattle.numbers.proofs.Truth.{either}
 use Rattle.slabs.specs.declared.Edge.{Edge}
 use Rattle.slabs.specs.declared.Row.{Row}
 use Rattle.slabs.specs.Slab.{up, insert, sort, Crossing, crossing, before, spans, spanning, crossings}
-use Rattle.slabs.specs.inner.Tables.{down, merge, row_at, set_row, crossing_of, crossing_at, behind, Number, Placed}
-use Rattle.slabs.proofs.Sorting.{over, insert-step, insert-last, insert_on, insert-here, up_snoc}
+use Rattle.slabs.specs.inner.Tables.{down, merge, crossing_of, behind, Number, Placed}
+use Rattle.slabs.proofs.Sorting.{insert_on, insert-here, up_snoc}
 use Rattle.slabs.proofs.Merging.{All, merge-right, merge-left, merge_none, merge-sort, all_append}
-use Rattle.slabs.proofs.Rows.{row_below, row_above, row_same}
 use Rattle.slabs.proofs.Places.{in_place}
 
--- ---- a row put after its equals
-pub after_row : (rs rs' : List Float) (n k : ℕ) (c row : Row) (t : Bool) → 0 < k → k ≤ n → 3 * n + 3 ≤ length rs → rs' ≡ set_row rs k row → row ≡ row_at rs (k - 1) → t ≡ behind (crossing_of row) (crossing_of c) → t ≡ true
-    → over (crossing_at rs') (k - 1) (n - (k - 1)) (insert behind (crossing_of c) (down (crossing_at rs') (k - 1))) ≡ over (crossing_at rs) k (n - k) (insert behind (crossing_of c) (down (crossing_at rs) k))
-unfolding crossing_at
-after_row rs rs' n k c row t p l len es er et e =
-    insert-step behind (crossing_at rs) (crossing_at rs') (crossing_of c) k n p l
-    (λ i h. ap (λ (r : List Float). crossing_at r i) es ∙ row_below rs k row i h)
-    (λ i h. ap (λ (r : List Float). crossing_at r i) es ∙ row_above rs k row i h)
-    (ap (λ (r : List Float). crossing_at r k) es ∙ (row_same rs k row (omega arith) ∙ ap (λ (r : Row). crossing_of r) er))
-    (ap (λ (r : Row). behind (crossing_of r) (crossing_of c)) (sym er) ∙ (sym et ∙ e))
-
-pub after_row_last : (rs rs' : List Float) (n k : ℕ) (c : Row) → k ≤ n → 3 * n + 3 ≤ length rs → rs' ≡ set_row rs k c → (k ≡ 0) ⊎ (behind (crossing_at rs (k - 1)) (crossing_of c) ≡ false)
-    → down (crossing_at rs') (n + 1) ≡ over (crossing_at rs) k (n - k) (insert behind (crossing_of c) (down (crossing_at rs) k))
-after_row_last rs rs' n k c l len es t =
-    insert-last behind (crossing_at rs) (crossing_at rs') (crossing_of c) k n l
-    (λ i h. ap (λ (r : List Float). crossing_at r i) es ∙ row_below rs k c i h)
-    (λ i h. ap (λ (r : List Float). crossing_at r i) es ∙ row_above rs k c i h)
-    (ap (λ (r : List Float). crossing_at r k) es ∙ row_same rs k c (omega arith)) t
-
-pub after_stops : (rs : List Float) (k : ℕ) (c row : Row) (t : Bool) → row ≡ row_at rs (k - 1) → t ≡ behind (crossing_of row) (crossing_of c) → t ≡ false → behind (crossing_at rs (k - 1)) (crossing_of c) ≡ false
-unfolding crossing_at
-after_stops rs k c row t er et e = ap (λ (r : Row). behind (crossing_of r) (crossing_of c)) (sym er) ∙ (sym et ∙ e)
-
 -- ---- a crossing that has a place
-pub placed_is : (c : Row) → T (fits binary64 c.ya) → eq (c.ya ⊕ c.yb) (c.ya ⊕ c.yb) ≡ true → eq c.ya c.ya ≡ true → Placed (crossing_of c)
-unfolding Placed Number crossing_of
-placed_is c t e f = ((add-fits binary64 c.ya c.yb, e), (t, f))
+pub placed_is : (c : Row) → Number (c.ya ⊕ c.yb) → Number c.ya → Placed (crossing_of c)
+unfolding Placed crossing_of
+placed_is c p q = (p, q)
 
 -- ---- sorted lists with one more at the end
 pub stays : (x a : Crossing) → before x a ≡ true → behind a x ≡ false

@@ -6,13 +6,24 @@ use mathlib.Core.Path.{◌≡◌, refl, sym, ◌∙◌, subst}
 use mathlib.Core.Logic.{◌⊎◌, inl, inr}
 use mathlib.Core.Bool.{Bool, true, false, cond, ◌&&◌, ◌||◌}
 use lib.Dec.{T, ltb}
-use lib.Ieee.{Float, lt, eq, binary64}
+use lib.Ieee.{Float, nan, inf, fin, lt, eq, fits, binary64, is_nan}
 use Rattle.numbers.specs.Numbers.{◌⊕◌}
 use Rattle.numbers.proofs.Truth.{is_true, holds, either, clash}
-use Rattle.numbers.proofs.Keys.{key, mid, lt_is, eq→key, key→eq, key-top, self_real}
+use Rattle.numbers.proofs.Keys.{key, mid, real, lt_is, eq→key, key→eq, key-top, self_real}
 use Rattle.slabs.specs.Slab.{Crossing, positive, ahead, before}
 use Rattle.slabs.specs.inner.Tables.{Number, Placed}
 use Rattle.slabs.proofs.Merging.{Order}
+
+whole : (x : Float) → is_nan x ≡ false → T (real x)
+unfolding is_nan
+whole nan e = subst T e tt
+whole (inf s) e = tt
+whole (fin s m d) e = tt
+
+-- what is no NaN is a number
+pub no_nan : (x : Float) (r : Bool) → T (fits binary64 x) → r ≡ is_nan x → r ≡ false → Number x
+unfolding Number
+no_nan x r t h e = let w = whole x (sym h ∙ e) in (t, is_true (eq x x) (key→eq binary64 x x t t w w refl))
 
 abbrev k : Float → ℕ
 k x = key binary64 x
@@ -64,11 +75,6 @@ or_yes : (x y z : Bool) → (x || y && z) ≡ true → (x ≡ true) ⊎ ((y ≡ 
 or_yes true y z e = inl refl
 or_yes false true z e = inr (refl, e)
 or_yes false false z e = absurd (subst T (sym e) tt)
-
-or_no : (x y z : Bool) → (x || y && z) ≡ false → (x ≡ false) × ((y ≡ false) ⊎ (z ≡ false))
-or_no true y z e = absurd (subst T e tt)
-or_no false true z e = (refl, inr e)
-or_no false false z e = (refl, inl refl)
 
 or_left : (x y z : Bool) → x ≡ true → (x || y && z) ≡ true
 or_left x y z e = rw e

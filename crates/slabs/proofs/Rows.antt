@@ -4,10 +4,10 @@ use native.Mathlib.Omega.{arith}
 use mathlib.Core.Path.{◌≡◌, refl, ap, sym, ◌∙◌}
 use mathlib.Core.Logic.{◌⊎◌, inl, inr}
 use mathlib.Core.List.{List, ◌∷◌}
-use mathlib.Core.Bool.{Bool, true, false}
+use mathlib.Core.Bool.{Bool, true, false, not}
 use lib.ListN.{length, get_or, set, length-set}
 use lib.Seq.{get_or-set_same, get_or-set_other}
-use lib.Ieee.{Float, nan, lt, binary64, of_bits, neg}
+use lib.Ieee.{Float, nan, lt, eq, ne, binary64, of_bits, neg}
 use Rattle.slabs.specs.declared.Edge.{Edge}
 use Rattle.slabs.specs.declared.Row.{Row}
 use Rattle.slabs.specs.Slab.{up, insert, sort, Crossing, direction, crossing, before, spans, spanning, crossings}
@@ -51,30 +51,36 @@ module _ (rs : List Float) (i : ℕ) (c : Row) where
         get_or-set_same r0 (3 * i) c.ya nan (omega arith),
       )
 
-pub insert_row : (rs rs' : List Float) (n k : ℕ) (c row : Row) (t : Bool) → 0 < k → k ≤ n → 3 * n + 3 ≤ length rs → rs' ≡ set_row rs k row → row ≡ row_at rs (k - 1) → t ≡ before (crossing_of row) (crossing_of c) → t ≡ true
-    → over (crossing_at rs') (k - 1) (n - (k - 1)) (insert before (crossing_of c) (down (crossing_at rs') (k - 1))) ≡ over (crossing_at rs) k (n - k) (insert before (crossing_of c) (down (crossing_at rs) k))
-unfolding crossing_at
-insert_row rs rs' n k c row t p l len es er et e =
-    insert-step before (crossing_at rs) (crossing_at rs') (crossing_of c) k n p l
-    (λ i h. ap (λ (r : List Float). crossing_at r i) es ∙ row_below rs k row i h)
-    (λ i h. ap (λ (r : List Float). crossing_at r i) es ∙ row_above rs k row i h)
-    (ap (λ (r : List Float). crossing_at r k) es ∙ (row_same rs k row (omega arith) ∙ ap (λ (r : Row). crossing_of r) er))
-    (ap (λ (r : Row). before (crossing_of r) (crossing_of c)) (sym er) ∙ (sym et ∙ e))
+-- ---- a row put in, by any test
+module _ (first : Crossing → Crossing → Bool) where
+  pub insert_row : (rs rs' : List Float) (n k : ℕ) (c row : Row) (t : Bool) → 0 < k → k ≤ n → 3 * n + 3 ≤ length rs → rs' ≡ set_row rs k row → row ≡ row_at rs (k - 1) → t ≡ first (crossing_of row) (crossing_of c) → t ≡ true
+      → over (crossing_at rs') (k - 1) (n - (k - 1)) (insert first (crossing_of c) (down (crossing_at rs') (k - 1))) ≡ over (crossing_at rs) k (n - k) (insert first (crossing_of c) (down (crossing_at rs) k))
+  unfolding crossing_at
+  insert_row rs rs' n k c row t p l len es er et e =
+      insert-step first (crossing_at rs) (crossing_at rs') (crossing_of c) k n p l
+      (λ i h. ap (λ (r : List Float). crossing_at r i) es ∙ row_below rs k row i h)
+      (λ i h. ap (λ (r : List Float). crossing_at r i) es ∙ row_above rs k row i h)
+      (ap (λ (r : List Float). crossing_at r k) es ∙ (row_same rs k row (omega arith) ∙ ap (λ (r : Row). crossing_of r) er))
+      (ap (λ (r : Row). first (crossing_of r) (crossing_of c)) (sym er) ∙ (sym et ∙ e))
 
-pub insert_row_last : (rs rs' : List Float) (n k : ℕ) (c : Row) → k ≤ n → 3 * n + 3 ≤ length rs → rs' ≡ set_row rs k c → (k ≡ 0) ⊎ (before (crossing_at rs (k - 1)) (crossing_of c) ≡ false)
-    → down (crossing_at rs') (n + 1) ≡ over (crossing_at rs) k (n - k) (insert before (crossing_of c) (down (crossing_at rs) k))
-insert_row_last rs rs' n k c l len es t =
-    insert-last before (crossing_at rs) (crossing_at rs') (crossing_of c) k n l
-    (λ i h. ap (λ (r : List Float). crossing_at r i) es ∙ row_below rs k c i h)
-    (λ i h. ap (λ (r : List Float). crossing_at r i) es ∙ row_above rs k c i h)
-    (ap (λ (r : List Float). crossing_at r k) es ∙ row_same rs k c (omega arith)) t
+  pub insert_row_last : (rs rs' : List Float) (n k : ℕ) (c : Row) → k ≤ n → 3 * n + 3 ≤ length rs → rs' ≡ set_row rs k c → (k ≡ 0) ⊎ (first (crossing_at rs (k - 1)) (crossing_of c) ≡ false)
+      → down (crossing_at rs') (n + 1) ≡ over (crossing_at rs) k (n - k) (insert first (crossing_of c) (down (crossing_at rs) k))
+  insert_row_last rs rs' n k c l len es t =
+      insert-last first (crossing_at rs) (crossing_at rs') (crossing_of c) k n l
+      (λ i h. ap (λ (r : List Float). crossing_at r i) es ∙ row_below rs k c i h)
+      (λ i h. ap (λ (r : List Float). crossing_at r i) es ∙ row_above rs k c i h)
+      (ap (λ (r : List Float). crossing_at r k) es ∙ row_same rs k c (omega arith)) t
 
--- the row that stopped an insertion
-pub stops : (rs : List Float) (k : ℕ) (c row : Row) (t : Bool) → row ≡ row_at rs (k - 1) → t ≡ before (crossing_of row) (crossing_of c) → t ≡ false → before (crossing_at rs (k - 1)) (crossing_of c) ≡ false
-unfolding crossing_at
-stops rs k c row t er et e = ap (λ (r : Row). before (crossing_of r) (crossing_of c)) (sym er) ∙ (sym et ∙ e)
+  -- the row that stopped an insertion
+  pub stops : (rs : List Float) (k : ℕ) (c row : Row) (t : Bool) → row ≡ row_at rs (k - 1) → t ≡ first (crossing_of row) (crossing_of c) → t ≡ false → first (crossing_at rs (k - 1)) (crossing_of c) ≡ false
+  unfolding crossing_at
+  stops rs k c row t er et e = ap (λ (r : Row). first (crossing_of r) (crossing_of c)) (sym er) ∙ (sym et ∙ e)
 
 -- ---- a crossing made
+pub unequal : (a b : Float) → ne a b ≡ not (eq a b)
+unfolding ne
+unequal a b = refl
+
 one_up : lt zero_bits (of_bits binary64 0x3ff0_0000_0000_0000) ≡ true
 unfolding lt of_bits
 one_up = refl

@@ -5,9 +5,9 @@
 mod winding;
 pub mod xs;
 
-ghost use Rattle.std.specs.Prelude.{◌≡◌, true, not, ◌+◌, ◌-◌, ◌*◌, ◌≤◌, ◌<◌, length, pos};
-ghost use Rattle.slabs.specs.Slab.{up, insert, spans, height_at, crossing, ahead, before, crossings, strip, runs, walk, slab};
-ghost use Rattle.slabs.specs.inner.Tables.{down, edge_at, row_at, set_row, crossing_of, crossing_at, behind, Placed, put, hold};
+ghost use Rattle.std.specs.Prelude.{◌≡◌, Bool, true, not, IsSome, ◌+◌, ◌-◌, ◌*◌, ◌≤◌, ◌<◌, length, pos};
+ghost use Rattle.slabs.specs.Slab.{up, insert, spans, height_at, Crossing, crossing, ahead, before, crossings, strip, runs, walk, slab};
+ghost use Rattle.slabs.specs.inner.Tables.{down, edge_at, row_at, set_row, crossing_of, crossing_at, behind, Orders, GatheredIs, Placed, put, hold};
 
 // An edge from p to q, with the smaller and the larger of its x's.
 #[derive(Clone, Copy)]
@@ -29,21 +29,15 @@ pub struct Row {
 }
 
 // Whether an edge that is not vertical spans the slab.
+#[tactic(auto, using(crate::proofs::Rows::unequal), unfolding(crate::specs::Slab::spans))]
 fn spans(e: Edge, xa: f64, xb: f64) -> bool
     ensures { result ≡ spans xa xb e }
 {
-    if e.lo <= xa {
-        if e.hi >= xb {
-            if e.px == e.qx {
-                return false;
-            }
-            return true;
-        }
-    }
-    false
+    e.lo <= xa && e.hi >= xb && e.px != e.qx
 }
 
 // The edge's height at x.
+#[tactic(auto, unfolding(crate::specs::Slab::height_at))]
 fn height_at(e: Edge, x: f64) -> f64
     ensures { result ≡ height_at e x }
 {
@@ -62,53 +56,36 @@ fn cross(e: Edge, xa: f64, xb: f64) -> Row
 {
     let ya = height_at(e, xa);
     let yb = height_at(e, xb);
-    if e.px < e.qx {
-        return Row {
-            ya: ya,
-            yb: yb,
-            d: 1.0,
-        };
-    }
-    Row {
-        ya: ya,
-        yb: yb,
-        d: -1.0,
-    }
+    let d = if e.px < e.qx { 1.0 } else { -1.0 };
+    Row { ya, yb, d }
 }
 
 // Of two crossings with equal sums, whether a comes strictly before b.
+#[tactic(auto, unfolding(crate::specs::Slab::ahead, crate::specs::Slab::positive, crate::specs::inner::Tables::crossing_of))]
 fn ahead(a: Row, b: Row) -> bool
     ensures { result ≡ ahead (crossing_of a) (crossing_of b) }
 {
-    if a.d > 0.0 {
-        if b.d > 0.0 {
-            return a.ya < b.ya;
-        }
-        return true;
+    let rises = a.d > 0.0;
+    if rises == (b.d > 0.0) {
+        a.ya < b.ya
+    } else {
+        rises
     }
-    if b.d > 0.0 {
-        return false;
-    }
-    a.ya < b.ya
 }
 
 // Whether a comes strictly before b.
+#[tactic(auto, unfolding(crate::specs::Slab::before, crate::specs::inner::Tables::crossing_of))]
 fn before(a: Row, b: Row) -> bool
     ensures { result ≡ before (crossing_of a) (crossing_of b) }
 {
     let s = a.ya + a.yb;
     let t = b.ya + b.yb;
-    if s < t {
-        return true;
-    }
-    if s == t {
-        return ahead(a, b);
-    }
-    false
+    s < t || s == t && ahead(a, b)
 }
 
 // The edge number i of the table.
-fn edge_at(es: &[f64], i: usize) -> Edge
+#[tactic(auto, unfolding(crate::specs::inner::Tables::edge_at))]
+pub fn edge_at(es: &[f64], i: usize) -> Edge
     requires { 6 * i + 6 ≤ length es.now }
     ensures { result ≡ edge_at es.now i }
 {
@@ -124,6 +101,7 @@ fn edge_at(es: &[f64], i: usize) -> Edge
 }
 
 // The row number i of the table.
+#[tactic(auto, unfolding(crate::specs::inner::Tables::row_at))]
 fn row_at(rows: &[f64], i: usize) -> Row
     requires { 3 * i + 3 ≤ length rows.now }
     ensures { result ≡ row_at rows.now i }
@@ -137,6 +115,7 @@ fn row_at(rows: &[f64], i: usize) -> Row
 }
 
 // The row number i of the table becomes c.
+#[tactic(auto, unfolding(crate::specs::inner::Tables::set_row))]
 fn put_row(rows: &mut [f64], i: usize, c: Row)
     requires { 3 * i + 3 ≤ length rows.old }
     ensures { rows.new ≡ set_row rows.old i c }
@@ -147,105 +126,73 @@ fn put_row(rows: &mut [f64], i: usize, c: Row)
     rows[at + 2] = c.d;
 }
 
-// The crossing goes to its place among the n rows, whose first stands last; how far from the end.
-fn insert(rows: &mut [f64], n: usize, c: Row) -> usize
-    requires { 3 * n + 3 ≤ length rows.old }
-    ensures { down (crossing_at rows.new) (n + 1) ≡ insert before (crossing_of c) (down (crossing_at rows.old) n) }
-{
-    let mut k = n;
-    while k > 0 {
-        let b = row_at(rows, k - 1);
-        if before(b, c) {
-            put_row(rows, k, b);
-        } else {
-            break;
-        }
-        k -= 1;
-    }
-    put_row(rows, k, c);
-    n - k
-}
-
 // Whether a crossing b stays before a later edge's crossing a.
+#[tactic(auto, unfolding(crate::specs::inner::Tables::behind))]
 fn behind(b: Row, a: Row) -> bool
     ensures { result ≡ behind (crossing_of b) (crossing_of a) }
 {
-    if before(a, b) {
-        return false;
-    }
-    true
+    !before(a, b)
 }
 
-// The crossing goes to its place among the n rows, whose first stands last, after its equals; how far from the end.
-fn insert_after(rows: &mut [f64], n: usize, c: Row) -> usize
-    requires { 3 * n + 3 ≤ length rows.old }
-    ensures { down (crossing_at rows.new) (n + 1) ≡ insert behind (crossing_of c) (down (crossing_at rows.old) n) }
+// The crossing goes to its place among the n rows, whose first stands last: after those that `first`
+// puts before it; how far from the end.
+fn insert<F: Fn(Row, Row) -> bool>(rows: &mut [f64], n: usize, c: Row, first: F) -> usize
+    requires room { 3 * n + 3 ≤ length rows.old }
+    requires calls { F.IsAlwaysCallable first }
+    ensures { (order : Crossing → Crossing → Bool) → Orders (F.post first) order → down (crossing_at rows.new) (n + 1) ≡ insert order (crossing_of c)
+        (down (crossing_at rows.old) n) }
 {
-    let mut k = n;
-    while k > 0 {
-        let b = row_at(rows, k - 1);
-        if behind(b, c) {
-            put_row(rows, k, b);
-        } else {
-            break;
+    for k in (0..n).rev() {
+        let b = row_at(rows, k);
+        if !first(b, c) {
+            put_row(rows, k + 1, c);
+            return n - 1 - k;
         }
-        k -= 1;
+        put_row(rows, k + 1, b);
     }
-    put_row(rows, k, c);
-    n - k
-}
-
-// The crossings of the slab from xa to xb, first last; how many.
-fn gather(es: &[f64], count: usize, xa: f64, xb: f64, rows: &mut [f64]) -> usize
-    requires { (6 * count ≤ length es.now) × (3 * count ≤ length rows.old) }
-    ensures { (result ≤ count) × (down (crossing_at rows.new) result ≡ crossings xa xb (up (edge_at es.now) 0 count)) }
-{
-    let mut i = count;
-    let mut n: usize = 0;
-    while i > 0 {
-        i -= 1;
-        let e = edge_at(es, i);
-        if spans(e, xa, xb) {
-            let c = cross(e, xa, xb);
-            insert(rows, n, c);
-            n += 1;
-        }
-    }
+    put_row(rows, 0, c);
     n
 }
 
 // What is left of an allowance after an insertion that far from the end.
-fn spend(left: usize, far: usize) -> usize {
+fn spend(left: usize, far: usize) -> usize
+    ensures { left ≤ result + 1 }
+{
     if far > 8 {
-        if left > 0 {
-            return left - 1;
-        }
+        left.saturating_sub(1)
+    } else {
+        left
     }
-    left
 }
 
-// As `gather`, but gives up, with one more than `count`, after some insertions far from the end.
-fn gather_down(es: &[f64], count: usize, xa: f64, xb: f64, rows: &mut [f64]) -> usize
-    requires { (6 * count ≤ length es.now) × (3 * count ≤ length rows.old) }
-    ensures { result ≤ count → down (crossing_at rows.new) result ≡ crossings xa xb (up (edge_at es.now) 0 count) }
+// The crossings of the slab from xa to xb, first last; how many. Gives up where `allowance` insertions
+// were far from the end.
+fn gather_down(
+    es: &[f64],
+    count: usize,
+    xa: f64,
+    xb: f64,
+    rows: &mut [f64],
+    allowance: usize,
+) -> Option<usize>
+    requires { (6 * count ≤ length es.now) × (3 * count ≤ length rows.old) × (0 < allowance) }
+    ensures gathered { GatheredIs result rows.new count xa xb (up (edge_at es.now) 0 count) }
+    ensures goes_on { count < allowance → IsSome result }
 {
-    let mut i = count;
-    let mut n: usize = 0;
-    let mut left: usize = 8;
-    while i > 0 {
-        i -= 1;
+    let mut n = 0;
+    let mut left = allowance;
+    for i in (0..count).rev() {
         let e = edge_at(es, i);
         if spans(e, xa, xb) {
-            let c = cross(e, xa, xb);
-            let far = insert(rows, n, c);
+            let far = insert(rows, n, cross(e, xa, xb), before);
             n += 1;
             left = spend(left, far);
             if left == 0 {
-                return count + 1;
+                return None;
             }
         }
     }
-    n
+    Some(n)
 }
 
 // Whether neither the crossing's sum nor its ya is a NaN, which has no place in an order.
@@ -253,55 +200,58 @@ fn placed(c: Row) -> bool
     ensures { result ≡ true → Placed (crossing_of c) }
 {
     let s = c.ya + c.yb;
-    if s == s {
-        return c.ya == c.ya;
-    }
-    false
+    !s.is_nan() && !c.ya.is_nan()
 }
 
-// As `gather_down`, from the first edge to the last; also gives up at a NaN.
-fn gather_up(es: &[f64], count: usize, xa: f64, xb: f64, rows: &mut [f64]) -> usize
+// As `gather_down`, from the first edge to the last; also gives up at a NaN. One loop for both would
+// ask at each edge which way it goes.
+fn gather_up(
+    es: &[f64],
+    count: usize,
+    xa: f64,
+    xb: f64,
+    rows: &mut [f64],
+    allowance: usize,
+) -> Option<usize>
     requires { (6 * count ≤ length es.now) × (3 * count ≤ length rows.old) }
-    ensures { result ≤ count → down (crossing_at rows.new) result ≡ crossings xa xb (up (edge_at es.now) 0 count) }
+    ensures { GatheredIs result rows.new count xa xb (up (edge_at es.now) 0 count) }
 {
-    let mut i: usize = 0;
-    let mut n: usize = 0;
-    let mut left: usize = 8;
-    while i < count {
+    let mut n = 0;
+    let mut left = allowance;
+    for i in 0..count {
         let e = edge_at(es, i);
-        i += 1;
-        if spans(e, xa, xb) {
-            let c = cross(e, xa, xb);
-            if placed(c) {
-                let far = insert_after(rows, n, c);
-                n += 1;
-                left = spend(left, far);
-                if left == 0 {
-                    return count + 1;
-                }
-            } else {
-                return count + 1;
-            }
+        if !spans(e, xa, xb) {
+            continue;
+        }
+        let c = cross(e, xa, xb);
+        if !placed(c) {
+            return None;
+        }
+        let far = insert(rows, n, c, behind);
+        n += 1;
+        left = spend(left, far);
+        if left == 0 {
+            return None;
         }
     }
-    n
+    Some(n)
 }
 
 // The crossings of the slab from xa to xb, first last; how many. Edges that mostly rise are walked
 // from the last to the first, edges that mostly fall from the first to the last.
+#[tactic(auto, unfolding(crate::specs::inner::Tables::GatheredIs))]
 fn sorted_rows(es: &[f64], count: usize, xa: f64, xb: f64, rows: &mut [f64]) -> usize
     requires { (6 * count ≤ length es.now) × (3 * count ≤ length rows.old) }
     ensures { (result ≤ count) × (down (crossing_at rows.new) result ≡ crossings xa xb (up (edge_at es.now) 0 count)) }
 {
-    let m = gather_down(es, count, xa, xb, rows);
-    if m <= count {
+    if let Some(m) = gather_down(es, count, xa, xb, rows, 8) {
         return m;
     }
-    let k = gather_up(es, count, xa, xb, rows);
-    if k <= count {
-        return k;
+    if let Some(m) = gather_up(es, count, xa, xb, rows, 8) {
+        return m;
     }
-    gather(es, count, xa, xb, rows)
+    // the allowance for all edges is never spent
+    gather_down(es, count, xa, xb, rows, count + 1).unwrap()
 }
 
 // The strips of one slab, from its m crossings. Winding is counted from m, so that it stays positive.
@@ -320,26 +270,24 @@ fn wind(
     ensures { record { room = room.exit.now; count = result } ≡ hold (record { room = room.entry.now; count = n })
         (walk sheet top xa xb (pos 0) bottom bottom (down (crossing_at rows.now) m)) }
 {
-    let mut k = m;
     let mut w = m;
     let mut la = bottom;
     let mut lb = bottom;
     let mut count = n;
-    while k > 0 {
-        k -= 1;
+    for k in (0..m).rev() {
         let c = row_at(rows, k);
         let was = winding::runs(sheet, m, w);
         w = winding::turned(w, c.d);
         let is = winding::runs(sheet, m, w);
         let s = winding::strip(xa, xb, la, lb, c.ya, c.yb);
-        let closed = winding::closes(was, is);
-        count = winding::close(closed, room, count, s);
-        la = winding::pick(was, la, c.ya);
-        lb = winding::pick(was, lb, c.yb);
+        count = winding::close(was && !is, room, count, s);
+        if !was {
+            la = c.ya;
+            lb = c.yb;
+        }
     }
     let s = winding::strip(xa, xb, la, lb, top, top);
-    let last = winding::both(sheet, winding::runs(sheet, m, w));
-    winding::close(last, room, count, s)
+    winding::close(sheet && winding::runs(sheet, m, w), room, count, s)
 }
 
 // The strips of the slab from xa to xb go into the room from number n on; how many it then holds, or

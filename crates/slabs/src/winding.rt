@@ -1,5 +1,5 @@
 // Winding (document 01, "Strips"): where strips run, and the strip that ends there.
-ghost use Rattle.std.specs.Prelude.{◌≡◌, ◌&&◌, not, cond, ◌+◌, ◌-◌, ◌<◌, pos, ◌-ℤ◌};
+ghost use Rattle.std.specs.Prelude.{◌≡◌, cond, ◌+◌, ◌-◌, ◌<◌, pos, ◌-ℤ◌};
 ghost use Rattle.std.specs.Float.Ieee.{lt};
 ghost use Rattle.slabs.specs.Slab.{strip, kept, piece, runs};
 ghost use Rattle.slabs.specs.inner.Tables.{zero_bits, put, hold};
@@ -20,31 +20,30 @@ pub fn runs(sheet: bool, base: usize, w: usize) -> bool
 }
 
 // The strip between a lower and an upper edge.
+#[tactic(auto, unfolding(crate::specs::Slab::strip))]
 pub fn strip(xa: f64, xb: f64, la: f64, lb: f64, ya: f64, yb: f64) -> trapezoid::Trapezoid
     ensures { result ≡ strip xa xb la lb ya yb }
 {
-    let low0 = numbers::smaller(la, ya);
-    let low1 = numbers::smaller(lb, yb);
-    let high0 = numbers::larger(la, ya);
-    let high1 = numbers::larger(lb, yb);
     trapezoid::Trapezoid {
         x0: xa,
         x1: xb,
-        low0: low0,
-        low1: low1,
-        high0: high0,
-        high1: high1,
+        low0: numbers::smaller(la, ya),
+        low1: numbers::smaller(lb, yb),
+        high0: numbers::larger(la, ya),
+        high1: numbers::larger(lb, yb),
     }
 }
 
 // Whether the strip is kept.
+#[tactic(auto, unfolding(crate::specs::Slab::kept))]
 pub fn kept(s: trapezoid::Trapezoid) -> bool
     ensures { result ≡ kept s }
 {
     s.low0 < s.high0 || s.low1 < s.high1
 }
 
-// The strip goes into the room as number n, if it fits; how many it then holds, or one more than fit.
+// The strip goes into the room as number n, if it fits; how many it then holds, or one more than fit:
+// `Held` of specs/ counts so, and other crates read it.
 pub fn put(room: &mut [f64], n: usize, s: trapezoid::Trapezoid) -> usize
     ensures { record { room = room.exit.now; count = result } ≡ put (record { room = room.entry.now; count = n }) s }
 {
@@ -61,30 +60,9 @@ pub fn put(room: &mut [f64], n: usize, s: trapezoid::Trapezoid) -> usize
 pub fn close(closed: bool, room: &mut [f64], n: usize, s: trapezoid::Trapezoid) -> usize
     ensures { record { room = room.exit.now; count = result } ≡ hold (record { room = room.entry.now; count = n }) (piece closed s) }
 {
-    let keep = both(closed, kept(s));
-    if keep { put(room, n, s) } else { n }
-}
-
-pub fn pick(first: bool, a: f64, b: f64) -> f64
-    ensures { result ≡ cond first a b }
-{
-    if first { a } else { b }
-}
-
-pub fn both(a: bool, b: bool) -> bool
-    ensures { result ≡ a && b }
-{
-    if a { b } else { false }
-}
-
-pub fn closes(now: bool, then: bool) -> bool
-    ensures { result ≡ now && not then }
-{
-    if now {
-        if then {
-            return false;
-        }
-        return true;
+    if closed && kept(s) {
+        put(room, n, s)
+    } else {
+        n
     }
-    false
 }

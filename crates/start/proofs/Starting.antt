@@ -1,4 +1,5 @@
 -- A start, from what its calls leave. Assumes nothing.
+use Rattle.std.specs.Prelude.{Result, Ok, Err}
 use mathlib.Core.Path.{◌≡◌, refl, sym, ap, subst, ◌∙◌}
 use mathlib.Core.Bool.{Bool, true, false}
 use mathlib.Core.List.{List}
@@ -10,21 +11,18 @@ use borrow.Author.Tests.{lt-ltb, le-ltb}
 use Rattle.numbers.specs.Numbers.{pos_zero}
 use Rattle.bits.specs.declared.Refusal as Input
 use Rattle.job.specs.declared.Header.{Header}
-use Rattle.job.specs.declared.JobRead.TheVariants.{Good}
 use Rattle.job.specs.Jobs.{Job, Answer, accepted, refused, read_job}
 use Rattle.job.specs.inner.Meaning.{job_read}
 use Rattle.job.proofs.Accepted.{job_good, same-job}
 use Rattle.filling.specs.declared.Refusal.{Refusal}
 use Rattle.filling.specs.declared.Refusal.TheVariants as Why
 use Rattle.filling.specs.declared.State.{State}
-use Rattle.filling.specs.declared.Verdict.{Verdict}
-use Rattle.filling.specs.declared.Verdict.TheVariants.{Accepted, Refused}
 use Rattle.filling.specs.Refusals.{refuse_if}
 use Rattle.filling.specs.Shapes.{Planner, planner_of}
 use Rattle.filling.specs.Rooms.{Lent, position_capacity, laid, zeros, zero_rooms, only_positions, lent_of}
 use Rattle.filling.specs.Order.{rearranged}
 use Rattle.filling.specs.Start.{first_rooms, prepare_verdict, start_verdict, Start, no_start, good_start, start_job, start_given, start_of}
-use Rattle.filling.proofs.Begin.{rearranged-length}
+use Rattle.filling.proofs.Begin.{rearranged-length, start-refused, start-good}
 use Rattle.accounts.specs.tables.inner.Tabled.{Tabled}
 use Rattle.accounts.proofs.tables.Tabling.{job_in, kinds_in, tabled}
 use Rattle.prepare.specs.inner.Ready.{FromTables}
@@ -33,16 +31,15 @@ use Rattle.start.specs.declared.replies.Started.{Started}
 use Rattle.start.specs.replies.inner.Answers.{not_started}
 use Rattle.start.specs.Answered.{answered}
 use Rattle.start.specs.ordered.inner.Beginning.{Cleared, Begun}
-use Rattle.filling.proofs.Begin.{start-refused, start-good}
 use Rattle.start.proofs.ordered.Beginning.{not_begun, begun_refused}
 
 -- ---- the verdict
 module _ (j : Job) (order : List ℕ) (l : Lent) (positions : ℕ) (e : position_capacity l.positions ≡ positions) where
-  position-room : positions < j.copies → start_verdict j order l ≡ Refused Why.PositionRoom
+  position-room : positions < j.copies → start_verdict j order l ≡ Err Why.PositionRoom
   unfolding start_verdict refuse_if
   position-room h = rw (e, lt-ltb positions j.copies h)
 
-  order_wrong : j.copies ≤ positions → rearranged j order ≡ false → start_verdict j order l ≡ Refused Why.WrongOrder
+  order_wrong : j.copies ≤ positions → rearranged j order ≡ false → start_verdict j order l ≡ Err Why.WrongOrder
   unfolding start_verdict refuse_if
   order_wrong h g = rw (e, le-ltb positions j.copies h, g)
 
@@ -71,7 +68,7 @@ module _ (j : Job) (order : List ℕ) (l : Lent) (r : Started) (shapes sheet : L
   wrong_order positions e h g d C = begun_refused j order l r shapes sheet entries firsts Why.WrongOrder (order_wrong j order l positions e h g) d C
 
 -- ---- through the tables
-module _ (bytes rows places : List ℕ) (h : Header) (at c : ℕ) (t : (areas : List Float) × (64 ≤ length areas) × (read_job bytes ≡ job_read (Good h at c) bytes rows areas places)) where
+module _ (bytes rows places : List ℕ) (h : Header) (at c : ℕ) (t : (areas : List Float) × (64 ≤ length areas) × (read_job bytes ≡ job_read (Ok (h, at, c)) bytes rows areas places)) where
   abbrev J : Job
   J = job_in h at c bytes rows t.0 places
 
@@ -116,16 +113,16 @@ good_zeroed p order l = record { placed = refl; placed_entries = refl; placed_fi
 job_zeroed : (j : Job) (order : List ℕ) (l : Lent) → Zeroed (start_job j order l) l
 job_zeroed j order l = go (start_verdict j order l) refl
   where
-    go : (v : Verdict) → start_verdict j order l ≡ v → Zeroed (start_job j order l) l
-    go (Refused k) e = subst (λ (s : Start). Zeroed s l) (sym (start-refused j order l k e)) (refused_zeroed k l)
-    go Accepted e = subst (λ (s : Start). Zeroed s l) (sym (start-good j order l e)) (good_zeroed (planner_of j) order l)
+    go : (v : Result (Unit {0}) Refusal) → start_verdict j order l ≡ v → Zeroed (start_job j order l) l
+    go (Err k) e = subst (λ (s : Start). Zeroed s l) (sym (start-refused j order l k e)) (refused_zeroed k l)
+    go (Ok tt) e = subst (λ (s : Start). Zeroed s l) (sym (start-good j order l e)) (good_zeroed (planner_of j) order l)
 
 given_zeroed : (a : Answer) (order : List ℕ) (l : Lent) → Zeroed (start_given a order l) l
 unfolding start_given
 given_zeroed (refused k) order l = refused_zeroed (Why.Job k) l
 given_zeroed (accepted j) order l = job_zeroed j order l
 
-start-same : (v v' : Verdict) (t t' : State) (a a' b b' c c' : List Float) (d d' e e' m m' n n' : List ℕ) (f f' g g' : List Float)
+start-same : (v v' : Result (Unit {0}) Refusal) (t t' : State) (a a' b b' c c' : List Float) (d d' e e' m m' n n' : List ℕ) (f f' g g' : List Float)
     → v ≡ v' → t ≡ t' → a ≡ a' → b ≡ b' → c ≡ c' → d ≡ d' → e ≡ e' → m ≡ m' → n ≡ n' → f ≡ f' → g ≡ g'
     → ◌≡◌ {A = Start} (record { verdict = v; state = t; lent = lent_of a b c d e m n f g }) (record { verdict = v'; state = t'; lent = lent_of a' b' c' d' e' m' n' f' g' })
 start-same v v' t t' a a' b b' c c' d d' e e' m m' n n' f f' g g' h1 h2 h3 h4 h5 h6 h7 h8 h9 h10 h11 = rw (h1, h2, h3, h4, h5, h6, h7, h8, h9, h10, h11)

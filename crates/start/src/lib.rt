@@ -4,8 +4,7 @@
 pub mod ordered;
 pub mod replies;
 
-ghost use Rattle.std.specs.Prelude.{◌≡◌, List, ◌≤◌, length, Float};
-ghost use Rattle.job.specs.declared.JobRead.TheVariants.{Good};
+ghost use Rattle.std.specs.Prelude.{Ok, ◌≡◌, List, ◌≤◌, length, Float};
 ghost use Rattle.job.specs.Jobs.{Job, accepted, read_job};
 ghost use Rattle.job.specs.inner.Meaning.{job_read};
 ghost use Rattle.filling.specs.Rooms.{Lent, position_capacity, lent_of};
@@ -16,7 +15,7 @@ ghost use Rattle.start.specs.Answered.{answered};
 use crate::replies::Started;
 use filling::Refusal;
 use index::{Bucket, Entry};
-use job::{Header, JobRead};
+use job::Header;
 
 // The start of a job that was read into the tables.
 fn begin_job(
@@ -34,7 +33,7 @@ fn begin_job(
     sheet_firsts: &mut [Bucket],
 ) -> Started
     requires { (256 ≤ length rows.now) × (2048 ≤ length places.now) × ((areas : List Float) × (64 ≤ length areas)
-        × (read_job bytes.now ≡ job_read (Good h at copies) bytes.now rows.now areas places.now)) }
+        × (read_job bytes.now ≡ job_read (Ok (h, at, copies)) bytes.now rows.now areas places.now)) }
     ensures { (j : Job) (l : Lent) → read_job bytes.now ≡ accepted j → Cleared l shapes.old sheet.old
         sheet_entries.old sheet_firsts.old → position_capacity l.positions ≡ positions
         → Begun result (start_job j order.now l) shapes.new sheet.new sheet_entries.new sheet_firsts.new }
@@ -43,22 +42,21 @@ fn begin_job(
     if positions < n {
         return replies::refused(Refusal::PositionRoom);
     }
-    let kinds = h.kinds as usize;
-    if accounts::order::rearranged(order, rows, kinds, n) {
-        return ordered::begin_order(
-            bytes,
-            order,
-            h,
-            at,
-            rows,
-            places,
-            shapes,
-            sheet,
-            sheet_entries,
-            sheet_firsts,
-        );
+    if !accounts::order::rearranged(order, rows, h.kinds as usize, n) {
+        return replies::refused(Refusal::WrongOrder);
     }
-    replies::refused(Refusal::WrongOrder)
+    ordered::begin_order(
+        bytes,
+        order,
+        h,
+        at,
+        rows,
+        places,
+        shapes,
+        sheet,
+        sheet_entries,
+        sheet_firsts,
+    )
 }
 
 // The start over zeroed rooms; the position room holds so many positions.
@@ -78,9 +76,8 @@ fn begin(
     let j = job::read(bytes);
     let rows = j.rows;
     let places = j.places;
-    let answer = j.answer;
-    match answer {
-        JobRead::Good(h, at, copies) => begin_job(
+    match j.answer {
+        Ok((h, at, copies)) => begin_job(
             bytes,
             order,
             positions,
@@ -94,7 +91,7 @@ fn begin(
             sheet_entries,
             sheet_firsts,
         ),
-        JobRead::NoJob(k) => replies::refused(Refusal::Job(k)),
+        Err(k) => replies::refused(Refusal::Job(k)),
     }
 }
 
@@ -120,15 +117,15 @@ pub fn start(
         intervals.old positions.old) }
 {
     let held = positions.len() / 6;
-    rooms::zero(shapes);
-    rooms::zero(sheet);
-    rooms::zero(placed);
-    rooms::zero_numbers(sheet_entries);
-    rooms::zero_numbers(placed_entries);
-    rooms::zero_numbers(sheet_firsts);
-    rooms::zero_numbers(placed_firsts);
-    rooms::zero(intervals);
-    rooms::zero(positions);
+    shapes.fill(0.0);
+    sheet.fill(0.0);
+    placed.fill(0.0);
+    sheet_entries.fill(0);
+    placed_entries.fill(0);
+    sheet_firsts.fill(0);
+    placed_firsts.fill(0);
+    intervals.fill(0.0);
+    positions.fill(0.0);
     begin(
         bytes,
         order,

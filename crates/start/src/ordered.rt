@@ -10,7 +10,6 @@ ghost use Rattle.start.specs.ordered.inner.Beginning.{Cleared, Begun};
 
 use crate::replies;
 use crate::replies::Started;
-use filling::Verdict;
 use index::{Bucket, Entry};
 use job::Header;
 
@@ -45,18 +44,17 @@ pub fn begin_order(
         sheet_entries,
         sheet_firsts,
     );
-    let verdict = p.verdict;
-    match verdict {
-        Verdict::Accepted => {
+    match p.verdict {
+        Ok(()) => {
             let mut table = [0usize; 4096];
-            replies::copy_order(order, &mut table);
+            table[..order.len()].copy_from_slice(order);
             replies::accepted(p.tables, table)
         }
-        Verdict::Refused(k) => {
-            rooms::zero(shapes);
-            rooms::zero(sheet);
-            rooms::zero_numbers(sheet_entries);
-            rooms::zero_numbers(sheet_firsts);
+        Err(k) => {
+            shapes.fill(0.0);
+            sheet.fill(0.0);
+            sheet_entries.fill(0);
+            sheet_firsts.fill(0);
             replies::refused(k)
         }
     }

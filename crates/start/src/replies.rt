@@ -1,29 +1,15 @@
 // What a start answers, and the state before the first copy.
-ghost use Rattle.std.specs.Prelude.{◌≡◌, ◌≤◌, length};
-ghost use Rattle.filling.specs.Rooms.{laid};
+ghost use Rattle.std.specs.Prelude.{◌≡◌};
 ghost use Rattle.start.specs.replies.inner.Answers.{not_started, started_with};
 
-use filling::{Layout, Refusal, State, Tables, Verdict};
+use filling::{Layout, Refusal, State, Tables};
 use strips::Rect;
 
 // Whether the start was refused, and the state before the first copy; all zero where it was.
 #[derive(Clone, Copy)]
 pub struct Started {
-    pub verdict: Verdict,
+    pub verdict: Result<(), Refusal>,
     pub state: State,
-}
-
-// The order, at the beginning of a table.
-pub fn copy_order(order: &[usize], table: &mut [usize])
-    requires { length order.now ≤ length table.old }
-    ensures { table.new ≡ laid order.now table.old }
-{
-    let n = order.len();
-    let mut i = 0;
-    while i < n {
-        table[i] = order[i];
-        i += 1;
-    }
 }
 
 // A refused start.
@@ -31,7 +17,7 @@ pub fn refused(k: Refusal) -> Started
     ensures { result ≡ not_started k }
 {
     Started {
-        verdict: Verdict::Refused(k),
+        verdict: Err(k),
         state: State {
             tables: Tables {
                 resolution: 0.0,
@@ -69,7 +55,7 @@ pub fn accepted(tables: Tables, order: [usize; 4096]) -> Started
     ensures { result ≡ started_with tables order }
 {
     Started {
-        verdict: Verdict::Accepted,
+        verdict: Ok(()),
         state: State {
             tables,
             order,

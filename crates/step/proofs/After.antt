@@ -1,19 +1,15 @@
 -- The state after a copy, put together from its parts, and the answer by its verdict. Assumes nothing.
 use Prim.Native.Nat.{ℕ, ◌+◌, ◌*◌, ◌^◌, ◌<◌, ◌≤◌}
 use native.Mathlib.Omega.{arith}
-use mathlib.Core.Path.{◌≡◌, sym, ap, ◌∙◌}
+use mathlib.Core.Path.{◌≡◌, ap, ◌∙◌}
 use mathlib.Core.List.{List}
 use lib.ListN.{set}
 use lib.Ieee.{Float}
 use Rattle.filling.specs.declared.State.{State}
-use Rattle.filling.specs.declared.Refusal.{Refusal}
-use Rattle.filling.specs.declared.Verdict.{Verdict}
-use Rattle.filling.specs.declared.Verdict.TheVariants.{Accepted, Refused}
 use Rattle.rooms.specs.tracks.inner.Tracks.{field, next_columns, look_counts_from, slot_numbers}
 use Rattle.place.specs.declared.Step.{Step}
-use Rattle.place.specs.inner.Placing.{verdict_of, orientation_number, outcome_x, y_of, gap_of}
-use Rattle.step.specs.declared.Stepped.{Stepped}
-use Rattle.step.specs.inner.Going.{taken_of, answer_of}
+use Rattle.place.specs.inner.Placing.{orientation_number, outcome_x, y_of, gap_of}
+use Rattle.step.specs.inner.Going.{taken_of}
 
 -- ---- numbers
 pub below : (i n : ℕ) → i < 4096 → n ≡ 4096 → i < n
@@ -21,9 +17,6 @@ below i n h e = omega arith
 
 pub small : (i : ℕ) → i < 4096 → i * 8 < 2 ^ 64
 small i h = omega arith
-
-pub next_place : (i : ℕ) → i < 4096 → i + 1 < 2 ^ 64
-next_place i h = omega arith
 
 -- the r-th number of each slot can be read
 pub readable : (r l t : ℕ) → r < 2 → l ≡ 1024 → slot_numbers ≤ t → (2 ≤ 4) × (l ≤ 4096) × (r ≤ 4096) × ((i : ℕ) → i < l → 2 * i + r < t)
@@ -61,15 +54,3 @@ module _ (s : State) (r : Step) (tracks : List ℕ) where
       ∙ (ap (λ (z : Float). state_by (next_columns tracks) (look_counts_from tracks) (orientation_number o) z y gap) h
       ∙ (ap (λ (z : Float). state_by (next_columns tracks) (look_counts_from tracks) (orientation_number o) (outcome_x o) z gap) k
       ∙ ap (λ (z : Float). state_by (next_columns tracks) (look_counts_from tracks) (orientation_number o) (outcome_x o) (y_of o) z) m))))
-
-  -- ---- the answer
-  by_verdict : (v w : Verdict) → v ≡ verdict_of r.outcome → v ≡ w → answer_of s r tracks w ≡ answer_of s r tracks (verdict_of r.outcome)
-  by_verdict v w a b = ap (answer_of s r tracks) (sym b ∙ a)
-
-  pub answer-taken : (v : Verdict) → v ≡ verdict_of r.outcome → v ≡ Accepted → (t : State) → t ≡ taken_of (s.taken + 1) s r tracks
-      → ◌≡◌ {A = Stepped} (record { verdict = Accepted; state = t }) (answer_of s r tracks (verdict_of r.outcome))
-  answer-taken v a b t e = ap (λ (t : State). record { verdict = Accepted; state = t }) e ∙ by_verdict v Accepted a b
-
-  pub answer-refused : (v : Verdict) → v ≡ verdict_of r.outcome → (why : Refusal) → v ≡ Refused why
-      → ◌≡◌ {A = Stepped} (record { verdict = Refused why; state = s }) (answer_of s r tracks (verdict_of r.outcome))
-  answer-refused v a why b = by_verdict v (Refused why) a b

@@ -2,7 +2,7 @@
 use Prim.Native.Nat.{ℕ, zero, suc, ◌+◌, ◌*◌, ◌^◌, ◌<◌, ◌≤◌}
 use native.Mathlib.Omega.{arith}
 use mathlib.Core.Path.{◌≡◌, sym, subst, subst⁻¹}
-use mathlib.Core.List.{List, [], ◌∷◌, map, map-id}
+use mathlib.Core.List.{List, [], ◌∷◌}
 use lib.ListN.{length, get_or, take}
 use lib.Dec.{T}
 use lib.Ieee.{Float, binary64}
@@ -36,10 +36,6 @@ each-fit [] us p i = nan-fits
 each-fit (x ∷ xs) [] p i = absurd p
 each-fit (x ∷ xs) (u ∷ us) p zero = subst T (sym p.0.1) tt
 each-fit (x ∷ xs) (u ∷ us) p (suc i) = each-fit xs us p.1 i
-
--- of a field of a struct
-pub field_fit : (xs : List Float) (us : List Val) → shadow (each Float (FloatOf binary64).own_val (map (λ (v : Float). v) xs) us) → AllFit xs
-field_fit xs us p = each-fit xs us (subst (λ (ys : List Float). shadow (each Float (FloatOf binary64).own_val ys us)) (map-id xs) p)
 
 -- ---- numbers
 pub six : (a l : ℕ) → 6 * a ≤ l → l < 2 ^ 64 → 6 * a < 2 ^ 64

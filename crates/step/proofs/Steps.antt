@@ -1,4 +1,5 @@
 -- What code leaves of a step is the definition's. Assumes nothing.
+use Rattle.std.specs.Prelude.{Some, None, Result, Ok, Err}
 use Prim.Native.Nat.{ℕ, ◌+◌, ◌*◌, ◌/◌, ◌≤◌}
 use native.Mathlib.Numerals.{add-one}
 use mathlib.Core.Path.{◌≡◌, refl, sym, ap, subst, subst⁻¹, ◌∙◌}
@@ -9,8 +10,6 @@ use Rattle.numbers.specs.Numbers.{pos_zero}
 use Rattle.job.specs.Jobs.{Job}
 use Rattle.filling.specs.declared.State.{State}
 use Rattle.filling.specs.declared.Refusal.{Refusal}
-use Rattle.filling.specs.declared.Verdict.{Verdict}
-use Rattle.filling.specs.declared.Verdict.TheVariants as Verdicts
 use Rattle.filling.specs.Rooms.{Rooms, zeros}
 use Rattle.filling.specs.State.{apart_room, inset_room, planner_at, orientation_counts}
 use Rattle.filling.specs.Consistent.{sheet_index}
@@ -23,8 +22,7 @@ use Rattle.choose.specs.inner.Choosing.{grid_of, surroundings_in}
 use Rattle.place.specs.declared.Copy.{Copy}
 use Rattle.place.specs.declared.Totals.{Totals}
 use Rattle.place.specs.declared.Step.{Step}
-use Rattle.place.specs.declared.Outcome.{Outcome}
-use Rattle.place.specs.declared.Outcome.TheVariants.{At, Nowhere, Refused}
+use Rattle.place.specs.inner.Placing.{Outcome}
 use Rattle.place.specs.inner.Placing.{totals_of, copy_of, verdict_of, Placed, done, place_of}
 use Rattle.store.specs.inner.Storing.{FirstsLaid}
 use Rattle.filling_laws.proofs.Firsts.{firsts_stay}
@@ -37,10 +35,9 @@ use Rattle.step.specs.inner.Going.{rooms, Going, taken_of, answer_of, step_of}
 use Rattle.step.proofs.Allowed.{kind, turns, listed, known, turns_are}
 use Rattle.step.proofs.Kept.{place_kept}
 
-pub refused_by_lem : (o : Outcome) (k : Refusal) → verdict_of o ≡ Verdicts.Refused k → o ≡ Refused k
-refused_by_lem (At c) k e = absurd (accepted≢refused e)
-refused_by_lem Nowhere k e = absurd (accepted≢refused e)
-refused_by_lem (Refused r) k e = ap Refused (same-refusal e)
+pub refused_by_lem : (o : Outcome) (k : Refusal) → verdict_of o ≡ Err k → o ≡ Err k
+refused_by_lem (Ok c) k e = absurd (accepted≢refused e)
+refused_by_lem (Err r) k e = ap Err (same-refusal e)
 
 pub room-zeros : (l m : List Float) → length m ≡ length l → zeros pos_zero m ≡ zeros pos_zero l
 unfolding zeros
@@ -115,21 +112,21 @@ module _ {j : Job} {s : State} {w : Rooms} {rows : List ℕ} {areas : List Float
 
     -- a copy that is taken
     abbrev written_as : ℕ → Next.Step
-    written_as m = answered (record { verdict = Verdicts.Accepted; state = taken_of m s r tracks }) (zeros pos_zero intervals)
+    written_as m = answered (record { verdict = Ok tt; state = taken_of m s r tracks }) (zeros pos_zero intervals)
 
-    written : (o : Outcome) → verdict_of o ≡ Verdicts.Accepted → written_as (s.taken + 1) ≡ step_by o s w intervals firsts left
+    written : (o : Outcome) → verdict_of o ≡ (Ok tt) → written_as (s.taken + 1) ≡ step_by o s w intervals firsts left
     unfolding entered
-    written (At c) e = ap written_as (add-one s.taken)
-    written Nowhere e = ap written_as (add-one s.taken)
-    written (Refused why) e = absurd (refused≢accepted e)
+    written (Ok (Some c)) e = ap written_as (add-one s.taken)
+    written (Ok None) e = ap written_as (add-one s.taken)
+    written (Err why) e = absurd (refused≢accepted e)
 
     -- a copy that is refused: the old state and rooms
-    no_step_lem : (why : Refusal) → step_of (record { verdict = Verdicts.Refused why; state = s }) w (zeros pos_zero intervals) ≡ no_step why s w intervals
+    no_step_lem : (why : Refusal) → step_of (record { verdict = Err why; state = s }) w (zeros pos_zero intervals) ≡ no_step why s w intervals
     unfolding no_step
     no_step_lem why = refl
 
-    refused : left ≡ code → Written firsts left → (why : Refusal) → r.outcome ≡ Refused why
-        → answered (record { verdict = Verdicts.Refused why; state = s }) (zeros pos_zero intervals) ≡ step_from s w intervals firsts left
+    refused : left ≡ code → Written firsts left → (why : Refusal) → r.outcome ≡ Err why
+        → answered (record { verdict = Err why; state = s }) (zeros pos_zero intervals) ≡ step_from s w intervals firsts left
     refused e F why o =
         let q = copy_of s.order rows areas s.taken in
         let ix = sheet_index s.tables.sheet_bounds in
@@ -139,7 +136,7 @@ module _ {j : Job} {s : State} {w : Rooms} {rows : List ℕ} {areas : List Float
         let t = ap (λ (p : Placed). p.left.reply.totals) e ∙ h.2 in
         let K = subst (λ (l : List Float). FirstsLaid ix l s.placed_strips w.placed_firsts firsts) a
         (subst (λ (t : Totals). FirstsLaid ix placed t.placed_strips w.placed_firsts firsts) t F) in
-        let old : Stepped = record { verdict = Verdicts.Refused why; state = s } in
+        let old : Stepped = record { verdict = Err why; state = s } in
         ap (λ (l : List Float). step_of old (rooms w.shapes w.sheet l w.sheet_entries entries w.sheet_firsts firsts) (zeros pos_zero intervals)) a
         ∙ (ap (λ (l : List ℕ). step_of old (rooms w.shapes w.sheet w.placed w.sheet_entries l w.sheet_firsts firsts) (zeros pos_zero intervals))
         (ap (λ (p : Placed). p.left.entries) e ∙ h.1)
@@ -147,10 +144,10 @@ module _ {j : Job} {s : State} {w : Rooms} {rows : List ℕ} {areas : List Float
         (zeros pos_zero intervals)) (firsts_stay ix w.placed s.placed_strips w.placed_firsts firsts G.placed_kept K)
         ∙ (no_step_lem why ∙ sym (ap (λ (a : Outcome). step_by a s w intervals firsts left) o))))
 
-    by_verdict : left ≡ code → Written firsts left → (v : Verdict) → verdict_of r.outcome ≡ v
+    by_verdict : left ≡ code → Written firsts left → (v : Result (Unit {0}) Refusal) → verdict_of r.outcome ≡ v
         → answered (answer_of s r tracks v) (zeros pos_zero intervals) ≡ step_from s w intervals firsts left
-    by_verdict e F Verdicts.Accepted v = written r.outcome v
-    by_verdict e F (Verdicts.Refused why) v = refused e F why (refused_by_lem r.outcome why v)
+    by_verdict e F (Ok tt) v = written r.outcome v
+    by_verdict e F (Err why) v = refused e F why (refused_by_lem r.outcome why v)
 
     pub step-answer : left ≡ code → Written firsts left → (a : Stepped) → a ≡ answer_of s r tracks (verdict_of r.outcome)
         → (zeroed : List Float) → zeroed ≡ zeros pos_zero intervals → answered a zeroed ≡ core_step j s w intervals

@@ -10,14 +10,14 @@ ghost use Rattle.rooms.specs.tracks.inner.Tracks.{next_columns, look_counts_from
 ghost use Rattle.place.specs.inner.Placing.{totals_of, verdict_of, Under};
 ghost use Rattle.step.specs.inner.Going.{rooms, Going, taken_of, answer_of, step_of};
 
-use filling::{Layout, State, Verdict};
+use filling::{Layout, State};
 use index::{Bucket, Entry};
 use place::{Step, Totals};
 
 // What a single step answers: its verdict, and the state after it.
 #[derive(Clone, Copy)]
 pub struct Stepped {
-    pub verdict: Verdict,
+    pub verdict: Result<(), filling::Refusal>,
     pub state: State,
 }
 
@@ -25,15 +25,14 @@ pub struct Stepped {
 pub fn totals_of(state: State) -> Totals
     ensures { result ≡ totals_of state }
 {
-    let layout = state.layout;
     Totals {
         placed_strips: state.placed_strips,
-        right: layout.right,
-        unplaced_area: layout.unplaced_area,
+        right: state.layout.right,
+        unplaced_area: state.layout.unplaced_area,
     }
 }
 
-// A table for the slots' numbers.
+// A table for the slots' numbers, made apart: its zeros would be written out at each goal of the caller.
 fn no_tracks() -> [usize; 2048]
     ensures { length result ≡ slot_numbers }
 {
@@ -60,8 +59,8 @@ fn taken(state: State, n: usize, step: Step, tracks: &[usize]) -> State
     let order = state.order;
     let mut next_column = state.next_column;
     let mut look_counts = state.look_counts;
-    rooms::tracks::read_numbers(tracks, 2, 0, &mut next_column);
-    rooms::tracks::read_numbers(tracks, 2, 1, &mut look_counts);
+    rooms::tracks::read(tracks, 2, 0, &mut next_column);
+    rooms::tracks::read(tracks, 2, 1, &mut look_counts);
     let at = state.taken;
     let o = step.outcome;
     let layout = state.layout;
@@ -69,24 +68,24 @@ fn taken(state: State, n: usize, step: Step, tracks: &[usize]) -> State
     let mut x = layout.x;
     let mut y = layout.y;
     let mut gap = layout.gap;
-    orientation[at] = place::next::number_of(o, n);
-    x[at] = place::next::x_of(o);
-    y[at] = place::next::y_of(o);
-    gap[at] = place::next::gap_of(o);
-    let after = at + 1;
+    let spot = place::next::spot_of(o, n);
+    orientation[at] = spot.number;
+    x[at] = spot.x;
+    y[at] = spot.y;
+    gap[at] = spot.gap;
     let t = step.totals;
     State {
-        tables: tables,
-        order: order,
-        taken: after,
-        next_column: next_column,
-        look_counts: look_counts,
+        tables,
+        order,
+        taken: at + 1,
+        next_column,
+        look_counts,
         placed_strips: t.placed_strips,
         layout: Layout {
-            orientation: orientation,
-            x: x,
-            y: y,
-            gap: gap,
+            orientation,
+            x,
+            y,
+            gap,
             unplaced_area: t.unplaced_area,
             right: t.right,
         },
@@ -98,18 +97,14 @@ fn answer(state: State, n: usize, step: Step, tracks: &[usize]) -> Stepped
     requires { (state.taken < 4096) × Under n step.outcome × (n ≤ 1024) × (slot_numbers ≤ length tracks.now) }
     ensures { result ≡ answer_of state step tracks.now (verdict_of step.outcome) }
 {
-    let o = step.outcome;
-    match place::verdict_of(o) {
-        Verdict::Accepted => {
-            let after = taken(state, n, step, tracks);
-            Stepped {
-                verdict: Verdict::Accepted,
-                state: after,
-            }
-        }
-        Verdict::Refused(r) => Stepped {
-            verdict: Verdict::Refused(r),
-            state: state,
+    match step.outcome {
+        Ok(_) => Stepped {
+            verdict: Ok(()),
+            state: taken(state, n, step, tracks),
+        },
+        Err(r) => Stepped {
+            verdict: Err(r),
+            state,
         },
     }
 }
@@ -169,6 +164,6 @@ pub fn step_copy(
         sheet_firsts,
         firsts,
     );
-    rooms::zero(intervals);
+    intervals.fill(0.0);
     answer(state, copy.orientations, step, &tracks)
 }

@@ -7,17 +7,17 @@ ghost use Rattle.step.specs.inner.Going.{rooms, step_of};
 ghost use Rattle.step.specs.step_job.inner.Opened.{Opened};
 
 use crate::Stepped;
-use filling::{Refusal, State, Verdict};
+use filling::{Refusal, State};
 use index::{Bucket, Entry};
 
 // The state as it was, and zeros in the interval room.
 pub fn refuse(why: Refusal, state: State, intervals: &mut [f64]) -> Stepped
     ensures { (w : Rooms) → step_of result w intervals.new ≡ no_step why state w intervals.old }
 {
-    rooms::zero(intervals);
+    intervals.fill(0.0);
     Stepped {
-        verdict: Verdict::Refused(why),
-        state: state,
+        verdict: Err(why),
+        state,
     }
 }
 
@@ -46,7 +46,7 @@ pub fn step_job(
 {
     let mut sheet_starts = [0usize; 513];
     let mut starts = [0usize; 513];
-    if consistent::agreed::agree(
+    if !consistent::agreed::agree(
         rows,
         kinds,
         copies,
@@ -61,24 +61,24 @@ pub fn step_job(
         sheet_firsts,
         firsts,
     ) {
-        if state.taken < copies {
-            return crate::step_copy(
-                rows,
-                areas,
-                state,
-                shapes,
-                sheet,
-                sheet_entries,
-                &sheet_starts,
-                placed,
-                entries,
-                &mut starts,
-                intervals,
-                sheet_firsts,
-                firsts,
-            );
-        }
+        return refuse(Refusal::Inconsistent, state, intervals);
+    }
+    if copies <= state.taken {
         return refuse(Refusal::OrderUsedUp, state, intervals);
     }
-    refuse(Refusal::Inconsistent, state, intervals)
+    crate::step_copy(
+        rows,
+        areas,
+        state,
+        shapes,
+        sheet,
+        sheet_entries,
+        &sheet_starts,
+        placed,
+        entries,
+        &mut starts,
+        intervals,
+        sheet_firsts,
+        firsts,
+    )
 }

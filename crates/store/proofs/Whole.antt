@@ -1,4 +1,5 @@
 -- Storing a whole copy: 20, 21, or what is left. Assumes nothing.
+use Rattle.std.specs.Prelude.{Option, Some, None, is_some, Ok, Err}
 use Prim.Native.Nat.{ℕ, zero, suc, ◌+◌, ◌-◌, ◌*◌, ◌/◌, ◌<◌, ◌≤◌}
 use native.Mathlib.Omega.{arith}
 use native.Mathlib.Nat.{le_refl}
@@ -17,6 +18,7 @@ use Rattle.trapezoid.specs.declared.Trapezoid.{Trapezoid}
 use Rattle.trapezoid.specs.Strip.{strip_at, capacity, moved_by}
 use Rattle.trapezoid.specs.inner.Writing.{set_strip}
 use Rattle.index.specs.declared.Index.{Index}
+use Rattle.index.specs.declared.Overrun.TheVariants.{StripRoom, EntryRoom}
 use Rattle.index.specs.Buckets.{buckets, bucket_in, entries_of, strip_numbers, standing_capacity}
 use Rattle.index.proofs.Standing.{standing-within, standing-few, standing-long}
 use Rattle.index.proofs.Steps.{bucket_top}
@@ -26,9 +28,6 @@ use Rattle.enter.specs.inner.EntryRoom.{entries_in, starts_of, Entering, enter_o
 use Rattle.enter.specs.inner.Gaps.{rooms, entering}
 use Rattle.enter.proofs.Starts.{enter_fits}
 use Rattle.filling.specs.Rooms.{laid}
-use Rattle.store.specs.declared.Stored.TheVariants.{NoStrips, NoEntries, Done}
-use Rattle.store.specs.declared.Rest.{Rest}
-use Rattle.store.specs.declared.Rest.TheVariants.{Enough, Short}
 use Rattle.store.specs.inner.Storing.{moved_to, width_at, widths_to, rest_of, left, together, store_of, FirstsLaid}
 use Rattle.store.proofs.Strips.{after-length, after-before, after-strip, strips-count, after-laid, strips-same}
 use Rattle.store.proofs.Widths.{entries-same, starts-same, entries_more}
@@ -41,6 +40,22 @@ widths_start ix apart x = refl
 pub widths_next : (ix : Index) (apart : List Float) (x : Float) (j a w : ℕ) → a ≡ widths_to ix apart x j → w ≡ width_at ix (strip_at apart j) x → a + w ≡ widths_to ix apart x (suc j)
 unfolding widths_to
 widths_next ix apart x j a w e f = rw (e, f)
+
+-- what is left of a room, by its test
+pub rest-enough : (room n : ℕ) → leb n room ≡ true → rest_of room n ≡ Some (room - n)
+unfolding rest_of
+rest-enough room n e = rw (e, rest_of)
+
+pub rest_short : (room n : ℕ) → leb n room ≡ false → rest_of room n ≡ None
+unfolding rest_of
+rest_short room n e = rw (e, rest_of)
+
+-- and the test by what is left
+rest-fits : (room n : ℕ) (q : Option ℕ) → q ≡ rest_of room n → is_some q ≡ leb n room
+rest-fits room n q e = elim (either (leb n room)) [
+  | inl t ↦ ap is_some (e ∙ rest-enough room n t) ∙ sym t
+  | inr f ↦ ap is_some (e ∙ rest_short room n f) ∙ sym f
+]
 
 module _ (ix : Index) (apart : List Float) (x y : Float) (n : ℕ) (p : List Float) (e s fs : List ℕ) (L : Laid ix p n e s) where
   abbrev k : ℕ
@@ -55,7 +70,7 @@ module _ (ix : Index) (apart : List Float) (x y : Float) (n : ℕ) (p : List Flo
   test-strips : (b : Bool) → ltb (standing_capacity p fs) (n + k) ≡ b → ltb (standing_capacity p fs) (capacity strips) ≡ b
   test-strips b q = ap (ltb (standing_capacity p fs)) count ∙ q
 
-  pub store_short : standing_capacity p fs < n + k → left NoStrips p e s ≡ store_of ix apart x y n p e s fs
+  pub store_short : standing_capacity p fs < n + k → left (Err StripRoom) p e s ≡ store_of ix apart x y n p e s fs
   unfolding store_of
   store_short h = rw (test-strips true (lt-ltb (standing_capacity p fs) (n + k) h), store_of)
 
@@ -87,7 +102,7 @@ module _ (ix : Index) (apart : List Float) (x y : Float) (n : ℕ) (p : List Flo
     total : length (entries_of ix p' (n + k)) ≡ get_or s buckets 0 + widths_to ix apart x k
     total = entries_more ix apart x y p' n k (λ i l. after-strip apart x y n p k i l six_in) e s laid_still
 
-    pub store_full : length e - get_or s buckets 0 < widths_to ix apart x k → left NoEntries p e s ≡ store_of ix apart x y n p e s fs
+    pub store_full : length e - get_or s buckets 0 < widths_to ix apart x k → left (Err EntryRoom) p e s ≡ store_of ix apart x y n p e s fs
     unfolding store_of
     store_full h =
         rw (
@@ -103,7 +118,7 @@ module _ (ix : Index) (apart : List Float) (x y : Float) (n : ℕ) (p : List Flo
       pub six_still : 6 * (n + k) ≤ length p'
       six_still = let l = after-length apart x y n p k in let q = six_in in omega arith
 
-      store_fits : left Done (laid strips p) (laid (entries_of ix strips (capacity strips)) e) (starts_of ix strips (capacity strips)) ≡ store_of ix apart x y n p e s fs
+      store_fits : left (Ok tt) (laid strips p) (laid (entries_of ix strips (capacity strips)) e) (starts_of ix strips (capacity strips)) ≡ store_of ix apart x y n p e s fs
       unfolding store_of
       store_fits =
           rw (
@@ -116,20 +131,20 @@ module _ (ix : Index) (apart : List Float) (x y : Float) (n : ℕ) (p : List Flo
       unfolding entries_in laid
       entries-laid = ap (λ (l : List ℕ). l ++ drop (length l) e) (sym entries_are)
 
-      pub store_done : (r : Bool) (q : List Float) (e' s' : List ℕ) → q ≡ p' → entering r e' s' ≡ enter_of ix q (n + k) (rooms e s) → (left Done q e' s' ≡ store_of ix apart x y n p e s fs) × (r ≡ true)
+      pub store_done : (r : Bool) (q : List Float) (e' s' : List ℕ) → q ≡ p' → entering r e' s' ≡ enter_of ix q (n + k) (rooms e s) → (left (Ok tt) q e' s' ≡ store_of ix apart x y n p e s fs) × (r ≡ true)
       store_done r q e' s' E h =
           let t : entering r e' s' ≡ record { fits = true; after = record { entries = entries_in ix p' (n + k) e; starts = starts_of ix p' (n + k) } } = h ∙ (ap (λ (z : List Float). enter_of ix z (n + k) (rooms e s)) E ∙ sym (enter_fits ix p' (n + k) (rooms e s) all_in)) in (
-            ap (λ (z : Entering). left Done q z.after.entries z.after.starts) t
-                ∙ (ap (λ (z : List Float). left Done z (entries_in ix p' (n + k) e) (starts_of ix p' (n + k))) (E ∙ after-laid apart x y n p six_in)
-                ∙ (ap (λ (z : List ℕ). left Done (laid strips p) z (starts_of ix p' (n + k))) entries-laid
-                ∙ (ap (λ (z : List ℕ). left Done (laid strips p) (laid (entries_of ix strips (capacity strips)) e) z) (sym starts_are)
+            ap (λ (z : Entering). left (Ok tt) q z.after.entries z.after.starts) t
+                ∙ (ap (λ (z : List Float). left (Ok tt) z (entries_in ix p' (n + k) e) (starts_of ix p' (n + k))) (E ∙ after-laid apart x y n p six_in)
+                ∙ (ap (λ (z : List ℕ). left (Ok tt) (laid strips p) z (starts_of ix p' (n + k))) entries-laid
+                ∙ (ap (λ (z : List ℕ). left (Ok tt) (laid strips p) (laid (entries_of ix strips (capacity strips)) e) z) (sym starts_are)
                 ∙ store_fits))),
             ap (λ (z : Entering). z.fits) t,
           )
 
       pub done_is : (k' : ℕ) (r : Bool) (q : List Float) (e' s' fs' : List ℕ) → k' ≡ k → q ≡ p' → entering r e' s' ≡ enter_of ix q (n + k') (rooms e s) → (r ≡ true → Laid ix q (n + k') e' s')
           → FirstBuckets ix p n fs → length fs' ≡ length fs → (r ≡ true → FirstsWritten ix q n (n + k') fs fs')
-          → (left Done q e' s' ≡ store_of ix apart x y n p e s fs) × Laid ix q (n + k) e' s' × FirstsLaid ix q (n + k) fs fs'
+          → (left (Ok tt) q e' s' ≡ store_of ix apart x y n p e s fs) × Laid ix q (n + k) e' s' × FirstsLaid ix q (n + k) fs fs'
       done_is k' r q e' s' fs' d E h l B m w =
           let t = store_done r q e' s' E (h ∙ ap (λ (z : ℕ). enter_of ix q (n + z) (rooms e s)) d) in (
             t.0,
@@ -143,13 +158,16 @@ module _ (ix : Index) (apart : List Float) (x y : Float) (n : ℕ) (p : List Flo
     pub laid_on : (q : List Float) → q ≡ p' → Laid ix q n e s
     laid_on q E = subst⁻¹ (λ (z : List Float). Laid ix z n e s) E laid_still
 
-    pub full_is : (r : Bool) → r ≡ leb (widths_to ix apart x k) (length e - get_or s buckets 0) → r ≡ false → left NoEntries p e s ≡ store_of ix apart x y n p e s fs
-    full_is r d h = store_full (leb-false (widths_to ix apart x k) (length e - get_or s buckets 0) (sym d ∙ h))
+    abbrev unused : ℕ
+    unused = length e - get_or s buckets 0
 
-    pub room_is : (r : Bool) → r ≡ leb (widths_to ix apart x k) (length e - get_or s buckets 0) → r ≡ true → widths_to ix apart x k ≤ length e - get_or s buckets 0
-    room_is r d h = leb-true (widths_to ix apart x k) (length e - get_or s buckets 0) (sym d ∙ h)
+    pub full_is : (r : Option ℕ) → r ≡ rest_of unused (widths_to ix apart x k) → is_some r ≡ false → left (Err EntryRoom) p e s ≡ store_of ix apart x y n p e s fs
+    full_is r d h = store_full (leb-false (widths_to ix apart x k) unused (sym (rest-fits unused (widths_to ix apart x k) r d) ∙ h))
 
-  pub short_is : (cap k' : ℕ) → cap ≡ standing_capacity p fs → k' ≡ k → cap < n + k' → left NoStrips p e s ≡ store_of ix apart x y n p e s fs
+    pub room_is : (r : Option ℕ) → r ≡ rest_of unused (widths_to ix apart x k) → is_some r ≡ true → widths_to ix apart x k ≤ unused
+    room_is r d h = leb-true (widths_to ix apart x k) unused (sym (rest-fits unused (widths_to ix apart x k) r d) ∙ h)
+
+  pub short_is : (cap k' : ℕ) → cap ≡ standing_capacity p fs → k' ≡ k → cap < n + k' → left (Err StripRoom) p e s ≡ store_of ix apart x y n p e s fs
   short_is cap k' a b h = store_short (omega arith)
 
   pub fits_is : (cap k' : ℕ) → cap ≡ standing_capacity p fs → k' ≡ k → n + k' ≤ cap → n + k ≤ standing_capacity p fs
@@ -188,26 +206,6 @@ widths_up ix apart x j (suc d) =
     let s = widths_next ix apart x (j + d) (widths_to ix apart x (j + d)) (width_at ix (strip_at apart (j + d)) x) refl refl in
     rw e (omega arith)
 
--- what is left of a room, by its test
-pub rest-enough : (room n : ℕ) → leb n room ≡ true → rest_of room n ≡ Enough (room - n)
-unfolding rest_of
-rest-enough room n e = rw (e, rest_of)
-
-pub rest_short : (room n : ℕ) → leb n room ≡ false → rest_of room n ≡ Short
-unfolding rest_of
-rest_short room n e = rw (e, rest_of)
-
--- and the test by what is left
-abbrev pub enough : Rest → Bool
-enough (Enough r) = true
-enough Short = false
-
-pub rest-fits : (room n : ℕ) (q : Rest) → q ≡ rest_of room n → enough q ≡ leb n room
-rest-fits room n q e = elim (either (leb n room)) [
-  | inl t ↦ ap enough (e ∙ rest-enough room n t) ∙ sym t
-  | inr f ↦ ap enough (e ∙ rest_short room n f) ∙ sym f
-]
-
 -- what is left of the room after the first j strips
 pub record Counting (ix : Index) (apart : List Float) (x : Float) (room rest j : ℕ) : Type 0 where
   pub upto : j ≤ capacity apart
@@ -224,7 +222,7 @@ module _ (ix : Index) (apart : List Float) (x : Float) (room rest j c : ℕ) (g 
     pub counting_next : w ≤ rest → Counting ix apart x room (rest - w) (j + 1)
     counting_next l = record { upto = omega arith; same = (let a = g.same in let b = next in omega arith) }
 
-    pub counting_over : rest < w → Short ≡ rest_of room (widths_to ix apart x (capacity apart))
+    pub counting_over : rest < w → None ≡ rest_of room (widths_to ix apart x (capacity apart))
     counting_over l =
         let k : j + 1 + (capacity apart - (j + 1)) ≡ capacity apart = omega arith in
         let u : widths_to ix apart x (j + 1) ≤ widths_to ix apart x (capacity apart) = subst (λ (z : ℕ). widths_to ix apart x (j + 1) ≤ widths_to ix apart x z) k (widths_up ix apart x (j + 1) (capacity apart - (j + 1))) in
@@ -232,21 +230,14 @@ module _ (ix : Index) (apart : List Float) (x : Float) (room rest j c : ℕ) (g 
         let b = next in
         sym (rest_short room (widths_to ix apart x (capacity apart)) (lt-leb (widths_to ix apart x (capacity apart)) room (omega arith)))
 
-  pub counting_end : c ≤ j → Enough rest ≡ rest_of room (widths_to ix apart x (capacity apart))
+  pub counting_end : c ≤ j → Some rest ≡ rest_of room (widths_to ix apart x (capacity apart))
   counting_end h =
       let z : j ≡ capacity apart = (let u = g.upto in omega arith) in
       let a : room ≡ rest + widths_to ix apart x (capacity apart) = subst (λ (k : ℕ). room ≡ rest + widths_to ix apart x k) z g.same in
       let b : rest ≡ room - widths_to ix apart x (capacity apart) = omega arith in
-      ap Enough b ∙ sym (rest-enough room (widths_to ix apart x (capacity apart)) (le-leb (widths_to ix apart x (capacity apart)) room (omega arith)))
+      ap Some b ∙ sym (rest-enough room (widths_to ix apart x (capacity apart)) (le-leb (widths_to ix apart x (capacity apart)) room (omega arith)))
 
 -- ---- one strip's width
-pub width-none : (ix : Index) (q : Trapezoid) (x : Float) (l f : ℕ) → f ≡ bucket_in ix (q.x0 ⊕ x) → l ≡ bucket_in ix (q.x1 ⊕ x) → l < f → 0 ≡ width_at ix q x
-unfolding width_at
-width-none ix q x l f d e h = go (bucket_in ix (q.x1 ⊕ x)) (bucket_in ix (q.x0 ⊕ x)) e d
-  where
-    go : (a b : ℕ) → l ≡ a → f ≡ b → 0 ≡ a + 1 - b
-    go a b p r = omega arith
-
 pub width_some : (ix : Index) (q : Trapezoid) (x : Float) (l f : ℕ) → f ≡ bucket_in ix (q.x0 ⊕ x) → l ≡ bucket_in ix (q.x1 ⊕ x) → l + 1 - f ≡ width_at ix q x
 unfolding width_at
 width_some ix q x l f d e = go (bucket_in ix (q.x1 ⊕ x)) (bucket_in ix (q.x0 ⊕ x)) e d

@@ -2,29 +2,14 @@
 // buckets written; 20 and 21 are tested for the whole copy before the first write.
 #![tactic(auto)]
 
-ghost use Rattle.std.specs.Prelude.{◌≡◌, ◌+◌, ◌*◌, ◌≤◌, ◌<◌, length, leb};
+ghost use Rattle.std.specs.Prelude.{◌≡◌, ◌+◌, ◌*◌, ◌≤◌, ◌<◌, length};
 ghost use Rattle.trapezoid.specs.Strip.{capacity};
 ghost use Rattle.index.specs.Buckets.{buckets};
 ghost use Rattle.index.specs.inner.Listing.{Laid, FirstBuckets};
 ghost use Rattle.store.specs.inner.Storing.{moved_to, width_at, widths_to, rest_of, left, store_of, Entered, FirstsEntered};
 
-use index::{Bucket, Entry, Index};
+use index::{Bucket, Entry, Index, Overrun};
 use trapezoid::Trapezoid;
-
-// Refusal 20, refusal 21, or that the copy is stored.
-#[derive(Clone, Copy)]
-pub enum Stored {
-    NoStrips,
-    NoEntries,
-    Done,
-}
-
-// What is left of a room for entries, or that it is too short.
-#[derive(Clone, Copy)]
-pub enum Rest {
-    Enough(usize),
-    Short,
-}
 
 // The apart strips, moved, go into the room from number n on.
 pub fn store_moved(apart: &[f64], x: f64, y: f64, placed: &mut [f64], n: usize)
@@ -32,11 +17,9 @@ pub fn store_moved(apart: &[f64], x: f64, y: f64, placed: &mut [f64], n: usize)
     ensures { placed.new ≡ moved_to apart.now x y n placed.old (capacity apart.now) }
 {
     let count = trapezoid::capacity(apart);
-    let mut j = 0;
-    while j < count {
+    for j in 0..count {
         let q = trapezoid::load(apart, j);
         trapezoid::store(placed, n + j, q.moved(x, y));
-        j += 1;
     }
 }
 
@@ -46,39 +29,20 @@ fn width_at(ix: Index, q: Trapezoid, x: f64) -> usize
 {
     let first = ix.bucket(q.x0 + x);
     let last = ix.bucket(q.x1 + x);
-    if last < first {
-        return 0;
-    }
-    last + 1 - first
+    (last + 1).saturating_sub(first)
 }
 
 // What is left of the room for `left` entries after those of the apart strips, moved by x.
-pub fn entries_rest(ix: Index, apart: &[f64], x: f64, left: usize) -> Rest
+pub fn entries_rest(ix: Index, apart: &[f64], x: f64, left: usize) -> Option<usize>
     ensures { result ≡ rest_of left (widths_to ix apart.now x (capacity apart.now)) }
 {
     let count = trapezoid::capacity(apart);
     let mut rest = left;
-    let mut j = 0;
-    while j < count {
+    for j in 0..count {
         let q = trapezoid::load(apart, j);
-        let width = width_at(ix, q, x);
-        if rest < width {
-            return Rest::Short;
-        }
-        rest -= width;
-        j += 1;
+        rest = rest.checked_sub(width_at(ix, q, x))?;
     }
-    Rest::Enough(rest)
-}
-
-// Whether the apart strips, moved by x, have at most `left` entries.
-fn entries_fit(ix: Index, apart: &[f64], x: f64, left: usize) -> bool
-    ensures { result ≡ leb (widths_to ix apart.now x (capacity apart.now)) left }
-{
-    match entries_rest(ix, apart, x, left) {
-        Rest::Enough(_) => true,
-        Rest::Short => false,
-    }
+    Some(rest)
 }
 
 // A copy's strips, moved, go after the n placed strips, into the entries and into the first buckets.
@@ -95,7 +59,7 @@ pub fn store_copy(
     starts: &mut [usize],
     gains: &mut [usize],
     firsts: &mut [Bucket],
-) -> Stored
+) -> Result<(), Overrun>
     requires { Laid ix placed.old n entries.old starts.old × (length gains.old ≡ buckets) × FirstBuckets ix placed.old n firsts.old }
     ensures { (left result placed.new entries.new starts.new ≡ store_of ix apart.now x y n placed.old
         entries.old starts.old firsts.old) × Entered ix n (capacity apart.now) placed.new
@@ -104,13 +68,13 @@ pub fn store_copy(
 {
     let k = trapezoid::capacity(apart);
     if index::standing_capacity(placed, firsts) < n + k {
-        return Stored::NoStrips;
+        return Err(Overrun::StripRoom);
     }
-    let rest = entries.len() - starts[Index::BUCKETS];
-    if entries_fit(ix, apart, x, rest) {
-        store_moved(apart, x, y, placed, n);
-        enter::enter_copy(ix, placed, n, n + k, entries, starts, gains, firsts);
-        return Stored::Done;
+    let room = entries.len() - starts[Index::BUCKETS];
+    if entries_rest(ix, apart, x, room).is_none() {
+        return Err(Overrun::EntryRoom);
     }
-    Stored::NoEntries
+    store_moved(apart, x, y, placed, n);
+    enter::enter_copy(ix, placed, n, n + k, entries, starts, gains, firsts);
+    Ok(())
 }

@@ -1,4 +1,5 @@
 -- What a room holds and what is answered, once the count tells whether the strips fit. Assumes nothing.
+use Rattle.std.specs.Prelude.{Option, Some, None}
 use Prim.Native.Nat.{ℕ, ◌+◌, ◌-◌, ◌*◌, ◌/◌, ◌≤◌, ◌<◌}
 use native.Mathlib.Omega.{arith}
 use mathlib.Core.Path.{◌≡◌, refl, ap, ◌∙◌, subst}
@@ -12,8 +13,6 @@ use Rattle.trapezoid.specs.declared.Trapezoid.{Trapezoid}
 use Rattle.trapezoid.specs.Strip.{capacity}
 use Rattle.slabs.specs.inner.Tables.{Held, hold}
 use Rattle.slabs.proofs.Storing.{take_all, hold-fits, hold_over, hold-room}
-use Rattle.strips.specs.declared.Stored.{Stored}
-use Rattle.strips.specs.declared.Stored.TheVariants.{Count, NoRoom}
 use Rattle.strips.specs.inner.Tables.{strips_laid, strips_stored}
 
 module _ (ss : List Trapezoid) (r r' : List Float) (from count : ℕ) (h : 6 * from ≤ length r) (e : record { room = r'; count = count } ≡ hold (record { room = r; count = from }) ss) where
@@ -49,7 +48,7 @@ module _ (ss : List Trapezoid) (r r' : List Float) (from count : ℕ) (h : 6 * f
     pub from-count : count ≤ cap → from ≤ count
     from-count c = let y = cap_is in let z : count ≡ from + length ss = fitted (fits_yes (omega arith)) in omega arith
 
-    pub stored_yes : count ≤ cap → record { answer = Count (count - from); room = r' } ≡ strips_stored ss r from
+    pub stored_yes : count ≤ cap → record { answer = Some (count - from); room = r' } ≡ strips_stored ss r from
     unfolding strips_stored capacity
     stored_yes c =
         let y = cap_is in
@@ -57,7 +56,7 @@ module _ (ss : List Trapezoid) (r r' : List Float) (from count : ℕ) (h : 6 * f
         let z : count - from ≡ length ss = omega (arith, fitted f) in
         rw (z, ← room_is, le-ltb (length r / 6) (from + length ss) (omega arith))
 
-    pub stored_no : cap < count → record { answer = NoRoom; room = r' } ≡ strips_stored ss r from
+    pub stored_no : cap < count → record { answer = None; room = r' } ≡ strips_stored ss r from
     unfolding strips_stored capacity
     stored_no c =
         let y = cap_is in
@@ -65,27 +64,27 @@ module _ (ss : List Trapezoid) (r r' : List Float) (from count : ℕ) (h : 6 * f
         rw (← room_is, lt-ltb (length r / 6) (from + length ss) (omega arith))
 
 -- ---- what the answer tells
-pub stored-fits : (ss : List Trapezoid) (r : List Float) (from : ℕ) → 6 * (from + length ss) ≤ length r → strips_stored ss r from ≡ record { answer = Count (length ss); room = strips_laid ss r from }
+pub stored-fits : (ss : List Trapezoid) (r : List Float) (from : ℕ) → 6 * (from + length ss) ≤ length r → strips_stored ss r from ≡ record { answer = Some (length ss); room = strips_laid ss r from }
 unfolding strips_stored capacity
 stored-fits ss r from h = rw (le-ltb (length r / 6) (from + length ss) (omega arith), take_all ss (length r / 6 - from) (omega arith))
 
-pub stored_over : (ss : List Trapezoid) (r : List Float) (from : ℕ) → length r < 6 * (from + length ss) → (strips_stored ss r from).answer ≡ NoRoom
+pub stored_over : (ss : List Trapezoid) (r : List Float) (from : ℕ) → length r < 6 * (from + length ss) → (strips_stored ss r from).answer ≡ None
 unfolding strips_stored capacity
 stored_over ss r from h = rw (lt-ltb (length r / 6) (from + length ss) (omega arith))
 
-abbrev number : Stored → ℕ
-number (Count m) = m
-number NoRoom = 0
+abbrev number : Option ℕ → ℕ
+number (Some m) = m
+number None = 0
 
-abbrev counted : Stored → Bool
-counted (Count m) = true
-counted NoRoom = false
+abbrev counted : Option ℕ → Bool
+counted (Some m) = true
+counted None = false
 
 -- a count is the number of the strips, and they lie in the room
-pub stored-count : (ss : List Trapezoid) (r : List Float) (from m : ℕ) → Count m ≡ (strips_stored ss r from).answer → (m ≡ length ss) × (6 * (from + m) ≤ length r)
+pub stored-count : (ss : List Trapezoid) (r : List Float) (from m : ℕ) → Some m ≡ (strips_stored ss r from).answer → (m ≡ length ss) × (6 * (from + m) ≤ length r)
 unfolding strips_stored capacity
 stored-count ss r from m e = go (ltb (length r / 6) (from + length ss)) refl e
   where
-    go : (t : Bool) → ltb (length r / 6) (from + length ss) ≡ t → Count m ≡ cond t NoRoom (Count (length ss)) → (m ≡ length ss) × (6 * (from + m) ≤ length r)
+    go : (t : Bool) → ltb (length r / 6) (from + length ss) ≡ t → Some m ≡ cond t None (Some (length ss)) → (m ≡ length ss) × (6 * (from + m) ≤ length r)
     go true z f = absurd (subst T (ap counted f) tt)
     go false z f = let y : from + length ss ≤ length r / 6 = ltb-false (length r / 6) (from + length ss) z in let w : m ≡ length ss = ap number f in (w, omega arith)

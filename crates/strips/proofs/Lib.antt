@@ -6,4 +6,3 @@ pub mod SlabWalk
 pub mod Laying
 pub mod Sizes
 pub mod Cases
-pub mod Slots

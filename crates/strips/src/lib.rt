@@ -4,13 +4,14 @@
 // the tables are long enough and that the loops lie in the points.
 #![tactic(auto)]
 
-ghost use Rattle.std.specs.Prelude.{◌≡◌, not, ◌++◌, ℕ, ◌+◌, ◌-◌, ◌*◌, ◌≤◌, ◌<◌, length, get_or};
+ghost use Rattle.std.specs.Prelude.{◌≡◌, ◌++◌, ℕ, ◌+◌, ◌-◌, ◌*◌, ◌≤◌, ◌<◌, length, get_or};
 ghost use Rattle.std.specs.Float.{nan};
-ghost use Rattle.std.specs.Float.Ieee.{eq};
 ghost use Rattle.slabs.specs.Slab.{up};
 ghost use Rattle.slabs.specs.inner.Tables.{down, edge_at, set_edge, Held, hold};
 ghost use Rattle.strips.specs.inner.Tables.{slanted, Loops, Stowed, strips_stored};
 ghost use Rattle.strips.specs.Strips.{distinct, widened, bounds, edge, after, loop_edges, edges, strips_between, slabs, trapezoids};
+
+use slabs::Edge;
 
 // A bounding box, in nesting.rs's order: smallest x, smallest y, largest x, largest y.
 #[derive(Clone, Copy)]
@@ -21,25 +22,15 @@ pub struct Rect {
     pub top: f64,
 }
 
-// How many strips were stored, or that they do not fit (document 01's 20).
-#[derive(Clone, Copy)]
-pub enum Stored {
-    Count(usize),
-    NoRoom,
-}
-
+#[tactic(auto, unfolding(crate::specs::Strips::widened))]
 fn widened(b: Rect, x: f64, y: f64) -> Rect
     ensures { result ≡ widened b x y }
 {
-    let left = numbers::smaller(b.left, x);
-    let bottom = numbers::smaller(b.bottom, y);
-    let right = numbers::larger(b.right, x);
-    let top = numbers::larger(b.top, y);
     Rect {
-        left: left,
-        bottom: bottom,
-        right: right,
-        top: top,
+        left: numbers::smaller(b.left, x),
+        bottom: numbers::smaller(b.bottom, y),
+        right: numbers::larger(b.right, x),
+        top: numbers::larger(b.top, y),
     }
 }
 
@@ -56,33 +47,43 @@ pub fn bounds(points: &[f64], n: usize) -> Rect
         right: x,
         top: y,
     };
-    let mut i = 0;
-    while i < n {
-        let at = 2 * i;
-        let px = points[at];
-        let py = points[at + 1];
-        b = widened(b, px, py);
-        i += 1;
+    for i in 0..n {
+        b = widened(b, points[2 * i], points[2 * i + 1]);
     }
     b
 }
 
-// The edge from point i to point j, as edge number i of the table.
-fn put_edge(es: &mut [f64], points: &[f64], i: usize, j: usize)
-    requires { (6 * i + 6 ≤ length es.old) × (2 * i + 2 ≤ length points.now) × (2 * j + 2 ≤ length points.now) }
-    ensures { es.new ≡ set_edge es.old i (edge points.now i j) }
+// The edge from point i to point j.
+#[tactic(auto, unfolding(crate::specs::Strips::edge, crate::specs::Strips::x_of, crate::specs::Strips::y_of))]
+fn edge(points: &[f64], i: usize, j: usize) -> Edge
+    requires { (2 * i + 2 ≤ length points.now) × (2 * j + 2 ≤ length points.now) }
+    ensures { result ≡ edge points.now i j }
+{
+    let px = points[2 * i];
+    let qx = points[2 * j];
+    Edge {
+        px,
+        py: points[2 * i + 1],
+        qx,
+        qy: points[2 * j + 1],
+        lo: numbers::smaller(px, qx),
+        hi: numbers::larger(px, qx),
+    }
+}
+
+// The edge number i of the table becomes e.
+#[tactic(auto, unfolding(slabs::specs::inner::Tables::set_edge))]
+fn set_edge(es: &mut [f64], i: usize, e: Edge)
+    requires { 6 * i + 6 ≤ length es.old }
+    ensures { es.new ≡ set_edge es.old i e }
 {
     let at = 6 * i;
-    let p = 2 * i;
-    let q = 2 * j;
-    let px = points[p];
-    let qx = points[q];
-    es[at] = px;
-    es[at + 1] = points[p + 1];
-    es[at + 2] = qx;
-    es[at + 3] = points[q + 1];
-    es[at + 4] = numbers::smaller(px, qx);
-    es[at + 5] = numbers::larger(px, qx);
+    es[at] = e.px;
+    es[at + 1] = e.py;
+    es[at + 2] = e.qx;
+    es[at + 3] = e.qy;
+    es[at + 4] = e.lo;
+    es[at + 5] = e.hi;
 }
 
 // The point after i in a loop from `first` to before `end`.
@@ -98,11 +99,9 @@ fn loop_edges(points: &[f64], first: usize, end: usize, es: &mut [f64])
     requires { (first ≤ end) × (2 * end ≤ length points.now) × (6 * end ≤ length es.old) }
     ensures { up (edge_at es.new) 0 end ≡ up (edge_at es.old) 0 first ++ loop_edges points.now first first (end - first) }
 {
-    let mut i = first;
-    while i < end {
+    for i in first..end {
         let j = next(first, i, end);
-        put_edge(es, points, i, j);
-        i += 1;
+        set_edge(es, i, edge(points, i, j));
     }
 }
 
@@ -111,46 +110,12 @@ fn edges(points: &[f64], n: usize, ends: &[u16], es: &mut [f64])
     requires { (2 * n ≤ length points.now) × (6 * n ≤ length es.old) × Loops 0 ends.now n }
     ensures { up (edge_at es.new) 0 n ≡ edges points.now 0 ends.now }
 {
-    let mut first: usize = 0;
-    let mut i: usize = 0;
-    while i < ends.len() {
-        let end = ends[i] as usize;
+    let mut first = 0;
+    for e in ends {
+        let end = usize::from(*e);
         loop_edges(points, first, end, es);
         first = end;
-        i += 1;
     }
-}
-
-// Whether the edge number i is not vertical.
-fn slants(es: &[f64], i: usize) -> bool
-    requires { 6 * i + 6 ≤ length es.now }
-    ensures { result ≡ not (eq (edge_at es.now i).px (edge_at es.now i).qx) }
-{
-    let at = 6 * i;
-    let px = es[at];
-    let qx = es[at + 2];
-    apart(px, qx)
-}
-
-// The edge number i also as number j.
-fn move_edge(es: &mut [f64], i: usize, j: usize)
-    requires { (6 * i + 6 ≤ length es.old) × (6 * j + 6 ≤ length es.old) }
-    ensures { es.new ≡ set_edge es.old j (edge_at es.old i) }
-{
-    let from = 6 * i;
-    let to = 6 * j;
-    let px = es[from];
-    let py = es[from + 1];
-    let qx = es[from + 2];
-    let qy = es[from + 3];
-    let lo = es[from + 4];
-    let hi = es[from + 5];
-    es[to] = px;
-    es[to + 1] = py;
-    es[to + 2] = qx;
-    es[to + 3] = qy;
-    es[to + 4] = lo;
-    es[to + 5] = hi;
 }
 
 // Of the n edges those that are not vertical, moved together; how many.
@@ -158,27 +123,16 @@ fn drop_vertical(es: &mut [f64], n: usize) -> usize
     requires { 6 * n ≤ length es.old }
     ensures { (result ≤ n) × (up (edge_at es.new) 0 result ≡ slanted (up (edge_at es.old) 0 n)) }
 {
-    let mut i: usize = 0;
-    let mut m: usize = 0;
-    while i < n {
-        let at = i;
-        i += 1;
-        if slants(es, at) {
-            move_edge(es, at, m);
-            m += 1;
+    let mut m = 0;
+    for i in 0..n {
+        let e = slabs::edge_at(es, i);
+        if e.px == e.qx {
+            continue;
         }
+        set_edge(es, m, e);
+        m += 1;
     }
     m
-}
-
-// Whether two x's are not equal.
-fn apart(a: f64, b: f64) -> bool
-    ensures { result ≡ not (eq a b) }
-{
-    if a == b {
-        return false;
-    }
-    true
 }
 
 // The strips between two neighbouring x's go into the room from number n on.
@@ -222,13 +176,11 @@ fn slabs(
     ensures { record { room = room.exit.now; count = result } ≡ hold (record { room = room.entry.now; count = from })
         (slabs (up (edge_at es.now) 0 count) sheet bottom top (distinct (down (λ (i : ℕ). get_or line.now i nan) m))) }
 {
-    let mut k = m - 1;
-    let mut xa = line[k];
+    let mut xa = line[m - 1];
     let mut held = from;
-    while k > 0 {
-        k -= 1;
+    for k in (0..m - 1).rev() {
         let xb = line[k];
-        if apart(xa, xb) {
+        if xa != xb {
             held = between(es, count, sheet, bottom, top, xa, xb, rows, room, held);
             xa = xb;
         }
@@ -255,14 +207,10 @@ fn add_strips(
         (trapezoids points.now n ends.now sheet) }
 {
     let b = bounds(points, n);
-    let left = b.left;
-    let right = b.right;
-    let bottom = b.bottom;
-    let top = b.top;
-    let m = slabs::xs::sort_xs(points, n, sheet, left, right, line, rows);
+    let m = slabs::xs::sort_xs(points, n, sheet, b.left, b.right, line, rows);
     edges(points, n, ends, es);
     let count = drop_vertical(es, n);
-    slabs(line, m, es, count, sheet, bottom, top, rows, room, from)
+    slabs(line, m, es, count, sheet, b.bottom, b.top, rows, room, from)
 }
 
 // The strips of the set with the first n points, stored from strip number `from` on; or that they
@@ -277,7 +225,7 @@ pub fn trapezoids(
     line: &mut [f64],
     room: &mut [f64],
     from: usize,
-) -> Stored
+) -> Option<usize>
     requires { (0 < n) × (2 * n ≤ length points.now) × Loops 0 ends.now n × (6 * n ≤ length es.old) × (3 * n ≤ length rows.old)
         × (n + 2 ≤ length line.old) × (6 * from ≤ length room.old) }
     ensures { record { answer = result; room = room.new } ≡ strips_stored (trapezoids points.now n ends.now sheet)
@@ -285,8 +233,8 @@ pub fn trapezoids(
 {
     let count = add_strips(points, n, ends, sheet, es, rows, line, room, from);
     if trapezoid::capacity(room) < count {
-        Stored::NoRoom
+        None
     } else {
-        Stored::Count(count - from)
+        Some(count - from)
     }
 }

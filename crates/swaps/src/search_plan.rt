@@ -1,31 +1,28 @@
 // The swap search of a job's tables, and the plan of what it keeps (document 01, "Order and swaps").
 // It serves the whole plan and, with no rounds, a filling in a given order. Only crates of ours call
 // its functions: tables and rooms must be those of a job.
-ghost use Rattle.std.specs.Prelude.{true, List, ◌≡◌, ℕ, ◌*◌, ◌≤◌, ◌<◌, length, get_or, Float};
+ghost use Rattle.std.specs.Prelude.{Ok, IfOk, true, List, ◌≡◌, ℕ, ◌*◌, ◌≤◌, ◌<◌, length, get_or, Float};
 ghost use Rattle.numbers.specs.Numbers.{pos_zero};
 ghost use Rattle.job.specs.Jobs.{Job, frame_of};
-ghost use Rattle.filling.specs.declared.Verdict.TheVariants.{Accepted};
 ghost use Rattle.filling.specs.Shapes.{planner_of};
 ghost use Rattle.filling.specs.Rooms.{Lent, zeros};
 ghost use Rattle.filling.specs.Order.{rearranged};
-ghost use Rattle.filling.specs.Fill.{fill_order};
-ghost use Rattle.nesting.specs.Rounds.{rounds, first_kept};
+ghost use Rattle.nesting.specs.Rounds.{kept};
 ghost use Rattle.nesting.specs.Nest.{nested};
 ghost use Rattle.accounts.specs.tables.inner.Tabled.{Tabled};
 ghost use Rattle.rooms.specs.tracks.inner.Tracks.{track_numbers, spot_numbers};
 ghost use Rattle.filling_laws.specs.fill_laws.inner.Prepared.{Prepared, SheetFirsts};
 ghost use Rattle.report.specs.offcut.inner.Reaching.{Parted};
 ghost use Rattle.report.specs.inner.Replies.{reply, reply_of};
-ghost use Rattle.better.specs.inner.Keeping.{swaps_in};
-ghost use Rattle.swaps.specs.inner.Turns.{rounds_for};
+ghost use Rattle.better.specs.inner.Keeping.{kept_in, swaps_in};
+ghost use Rattle.swaps.specs.inner.Turns.{searched};
 ghost use Rattle.swaps.specs.search_plan.inner.Tabled.{given_by};
 
-use better::Round;
-use filling::Tables;
+use better::Best;
+use filling::{Plan, Refusal, Tables};
 use frames::Frame;
 use index::{Bucket, Entry};
 use job::Header;
-use report::NestResult;
 
 // Two halves for tracks.
 pub fn two_tracks() -> [usize; 12288]
@@ -39,24 +36,6 @@ pub fn two_spots() -> [f64; 24576]
     ensures { length result ≡ 24576 }
 {
     [0.0; 24576]
-}
-
-fn slot_numbers() -> [usize; 1024]
-    ensures { length result ≡ 1024 }
-{
-    [0; 1024]
-}
-
-fn copy_numbers() -> [usize; 4096]
-    ensures { length result ≡ 4096 }
-{
-    [0; 4096]
-}
-
-fn copy_doubles() -> [f64; 4096]
-    ensures { length result ≡ 4096 }
-{
-    [0.0; 4096]
 }
 
 // The swap search over the copies in the given order: n rounds, draws from the seed on. The order and
@@ -79,7 +58,7 @@ pub fn search(
     spots: &mut [f64],
     sheet_firsts: &[Bucket],
     placed_firsts: &mut [Bucket],
-) -> Round
+) -> Result<Best, Refusal>
     requires { ((j : Job) × Prepared j (given_by tables rows.now areas.now shapes.now sheet.now sheet_entries.now sheet_starts.now)
         × (rearranged j order.old ≡ true))
         × (6 * tables.sheet_strips ≤ length sheet.now) × (6 * tables.apart_strips ≤ length shapes.now)
@@ -91,26 +70,22 @@ pub fn search(
         → (l : Lent) → length l.rooms.placed ≡ length placed.old → length l.rooms.placed_entries ≡ length placed_entries.old
         → length l.intervals ≡ length intervals.old → length l.rooms.placed_firsts ≡ length placed_firsts.old
         → j.header.seed ≡ seed
-        → swaps_in result.verdict result.best (planner_of j) order.new tracks.new spots.new
-        ≡ rounds j l (rounds_for (length order.old) n) (first_kept j order.old (fill_order j l order.old)))
+        → swaps_in result (planner_of j) order.new tracks.new spots.new
+        ≡ searched j l order.old n)
         × ((j : Job) → rearranged j order.old ≡ true → rearranged j order.new ≡ true)
-        × (result.best.kept ≤ 1) }
+        × IfOk result (λ best. best.kept ≤ 1) }
 {
-    let g = choose::grid_of(tables);
-    let inset_bounds = tables.inset_bounds;
-    let parts = tables.parts;
-    let end = 6 * tables.sheet_strips;
     crate::rounds(
-        g,
+        choose::grid_of(tables),
         seed,
         n,
         order,
         rows,
         areas,
-        &inset_bounds,
-        &parts,
+        &tables.inset_bounds,
+        &tables.parts,
         shapes,
-        &sheet[..end],
+        &sheet[..6 * tables.sheet_strips],
         sheet_entries,
         sheet_starts,
         placed,
@@ -125,7 +100,7 @@ pub fn search(
 
 // The plan of what a swap search keeps.
 fn report_kept(
-    r: Round,
+    best: Best,
     kinds: usize,
     sheet_right: f64,
     order: &[usize],
@@ -136,37 +111,33 @@ fn report_kept(
     spots: &[f64],
     positions: &mut [f64],
     f: Frame,
-) -> NestResult
+) -> Plan
     requires { (kinds ≤ 64) × (256 ≤ length rows.now) × (4096 ≤ length parts.now)
-        × (r.verdict ≡ Accepted → (i : ℕ) → i < length order.now → get_or order.now i 0 < kinds)
+        × ((i : ℕ) → i < length order.now → get_or order.now i 0 < kinds)
         × (length order.now ≤ 4096) × (6 * length order.now ≤ length positions.old)
-        × (r.best.kept ≤ 1) × (2 * track_numbers ≤ length tracks.now) × (2 * spot_numbers ≤ length spots.now) }
+        × (best.kept ≤ 1) × (2 * track_numbers ≤ length tracks.now) × (2 * spot_numbers ≤ length spots.now) }
     ensures { (j : Job) (areas : List Float) (l : Lent) → Tabled j rows.now areas → length j.kinds ≡ kinds
         → (planner_of j).bounds.right ≡ sheet_right → Parted (planner_of j) parts.now shapes.now
         → positions.old ≡ zeros pos_zero l.positions → frame_of j.header ≡ f
-        → reply result positions.new ≡ reply_of (nested j l
-        (swaps_in r.verdict r.best (planner_of j) order.now tracks.now spots.now)) }
+        → reply (Ok result) positions.new ≡ reply_of (nested j l
+        (kept (kept_in best (planner_of j) order.now tracks.now spots.now))) }
 {
-    let verdict = r.verdict;
-    let best = r.best;
-    let totals = best.totals;
     let track = 6144 * best.kept;
-    let track_end = track + 6144;
     let spot = 12288 * best.kept;
-    let spot_end = spot + 12288;
-    let mut look_counts = slot_numbers();
-    let mut orientation = copy_numbers();
-    let mut x = copy_doubles();
-    let mut y = copy_doubles();
-    let mut gap = copy_doubles();
-    rooms::tracks::read_numbers(&tracks[track..track_end], 2, 1, &mut look_counts);
-    rooms::tracks::read_numbers(&tracks[track..track_end], 1, 2048, &mut orientation);
-    rooms::tracks::read_doubles(&spots[spot..spot_end], 3, 0, &mut x);
-    rooms::tracks::read_doubles(&spots[spot..spot_end], 3, 1, &mut y);
-    rooms::tracks::read_doubles(&spots[spot..spot_end], 3, 2, &mut gap);
+    let tracks = &tracks[track..track + 6144];
+    let spots = &spots[spot..spot + 12288];
+    let mut look_counts = [0; 1024];
+    let mut orientation = [0; 4096];
+    let mut x = [0.0; 4096];
+    let mut y = [0.0; 4096];
+    let mut gap = [0.0; 4096];
+    rooms::tracks::read(tracks, 2, 1, &mut look_counts);
+    rooms::tracks::read(tracks, 1, 2048, &mut orientation);
+    rooms::tracks::read(spots, 3, 0, &mut x);
+    rooms::tracks::read(spots, 3, 1, &mut y);
+    rooms::tracks::read(spots, 3, 2, &mut gap);
     report::report(
-        verdict,
-        totals,
+        best.totals,
         rows,
         kinds,
         order,
@@ -203,7 +174,7 @@ pub fn search_plan(
     positions: &mut [f64],
     sheet_firsts: &[Bucket],
     placed_firsts: &mut [Bucket],
-) -> NestResult
+) -> Result<Plan, Refusal>
     requires { ((j : Job) × Prepared j (given_by tables rows.now areas.now shapes.now sheet.now sheet_entries.now sheet_starts.now)
         × (rearranged j order.old ≡ true) × (length j.kinds ≡ h.kinds))
         × (6 * tables.sheet_strips ≤ length sheet.now) × (6 * tables.apart_strips ≤ length shapes.now)
@@ -215,14 +186,11 @@ pub fn search_plan(
         → length l.rooms.placed ≡ length placed.old → length l.rooms.placed_entries ≡ length placed_entries.old
         → length l.intervals ≡ length intervals.old → length l.rooms.placed_firsts ≡ length placed_firsts.old
         → positions.old ≡ zeros pos_zero l.positions
-        → reply result positions.new ≡ reply_of (nested j l
-        (rounds j l (rounds_for (length order.old) n) (first_kept j order.old (fill_order j l order.old)))) }
+        → reply result positions.new ≡ reply_of (nested j l (searched j l order.old n)) }
 {
     let mut tracks = two_tracks();
     let mut spots = two_spots();
-    let parts = tables.parts;
-    let bounds = tables.sheet_bounds;
-    let r = search(
+    let best = search(
         tables,
         h.seed,
         n,
@@ -240,19 +208,18 @@ pub fn search_plan(
         &mut spots,
         sheet_firsts,
         placed_firsts,
-    );
-    let f = job::frame_of(h);
-    report_kept(
-        r,
+    )?;
+    Ok(report_kept(
+        best,
         h.kinds as usize,
-        bounds.right,
+        tables.sheet_bounds.right,
         order,
         rows,
-        &parts,
+        &tables.parts,
         shapes,
         &tracks,
         &spots,
         positions,
-        f,
-    )
+        job::frame_of(h),
+    ))
 }

@@ -1,4 +1,6 @@
 -- One turn more, and the end of the turns. Assumes nothing.
+use Rattle.std.specs.Prelude.{Result, Ok, Err}
+use Rattle.filling.specs.declared.Refusal.{Refusal}
 use Prim.Native.Nat.{ℕ, suc, ◌+◌, ◌-◌, ◌<◌, ◌≤◌}
 use native.Mathlib.Omega.{arith}
 use native.Mathlib.Nat.{le_of_eq}
@@ -12,8 +14,6 @@ use Rattle.index.specs.inner.Listing.{Laid, FirstBuckets}
 use Rattle.job.specs.Jobs.{Job}
 use Rattle.filling.specs.declared.State.{State}
 use Rattle.filling.specs.declared.Tables.{Tables}
-use Rattle.filling.specs.declared.Verdict.{Verdict}
-use Rattle.filling.specs.declared.Verdict.TheVariants.{Accepted, Refused}
 use Rattle.filling.specs.Rooms.{Rooms, zeros}
 use Rattle.filling.proofs.Reading.{length-zeros}
 use Rattle.filling.specs.Consistent.{consistent}
@@ -35,30 +35,30 @@ use Rattle.take_copies.proofs.Running.{Fixed, Arrays, state_of, rooms_of, BegunB
 
 -- ---- where the turns go on
 module _ (took end most : ℕ) (h : took < end) (m : end ≤ most) where
-  on_after : (v : Verdict) (fits : Bool) → taken_after v took < end_after v fits (taken_after v took) end → (v ≡ Accepted) × (fits ≡ true)
-  on_after Accepted true l = (refl, refl)
-  on_after Accepted false l = absurd (omega arith)
-  on_after (Refused k) fits l = absurd (omega arith)
+  on_after : (v : Result (Unit {0}) Refusal) (fits : Bool) → taken_after v took < end_after v fits (taken_after v took) end → (v ≡ (Ok tt)) × (fits ≡ true)
+  on_after (Ok tt) true l = (refl, refl)
+  on_after (Ok tt) false l = absurd (omega arith)
+  on_after (Err k) fits l = absurd (omega arith)
 
-  before-after : (v : Verdict) (fits : Bool) → taken_after v took ≤ end_after v fits (taken_after v took) end
-  before-after Accepted true = omega arith
-  before-after Accepted false = le_of_eq refl
-  before-after (Refused k) fits = le_of_eq refl
+  before-after : (v : Result (Unit {0}) Refusal) (fits : Bool) → taken_after v took ≤ end_after v fits (taken_after v took) end
+  before-after (Ok tt) true = omega arith
+  before-after (Ok tt) false = le_of_eq refl
+  before-after (Err k) fits = le_of_eq refl
 
-  within-after : (v : Verdict) (fits : Bool) → end_after v fits (taken_after v took) end ≤ most
-  within-after Accepted true = m
-  within-after Accepted false = omega arith
-  within-after (Refused k) fits = omega arith
+  within-after : (v : Result (Unit {0}) Refusal) (fits : Bool) → end_after v fits (taken_after v took) end ≤ most
+  within-after (Ok tt) true = m
+  within-after (Ok tt) false = omega arith
+  within-after (Err k) fits = omega arith
 
-  whole-after : end ≡ most → (v : Verdict) (fits : Bool) → v ≡ Accepted → fits ≡ true → end_after v fits (taken_after v took) end ≡ most
-  whole-after e Accepted true a b = e
-  whole-after e Accepted false a b = absurd (true≢false (sym b))
-  whole-after e (Refused k) fits a b = absurd (refused≢accepted a)
+  whole-after : end ≡ most → (v : Result (Unit {0}) Refusal) (fits : Bool) → v ≡ (Ok tt) → fits ≡ true → end_after v fits (taken_after v took) end ≡ most
+  whole-after e (Ok tt) true a b = e
+  whole-after e (Ok tt) false a b = absurd (true≢false (sym b))
+  whole-after e (Err k) fits a b = absurd (refused≢accepted a)
 
-  pub less_after : (v : Verdict) (fits : Bool) (took' end' : ℕ) → took' ≡ taken_after v took → end' ≡ end_after v fits took' end → end' - took' < end - took
-  less_after Accepted true took' end' a b = omega arith
-  less_after Accepted false took' end' a b = omega arith
-  less_after (Refused k) fits took' end' a b = omega arith
+  pub less_after : (v : Result (Unit {0}) Refusal) (fits : Bool) (took' end' : ℕ) → took' ≡ taken_after v took → end' ≡ end_after v fits took' end → end' - took' < end - took
+  less_after (Ok tt) true took' end' a b = omega arith
+  less_after (Ok tt) false took' end' a b = omega arith
+  less_after (Err k) fits took' end' a b = omega arith
 
 -- ---- a turn
 module _ (f : Fixed) (a c d : Arrays) (last turn : Turn) (took end : ℕ) (R : Running f a c last took end) (h : took < end)
@@ -76,7 +76,7 @@ module _ (f : Fixed) (a c d : Arrays) (last turn : Turn) (took end : ℕ) (R : R
       → (step_in turn.verdict (state_in b order (taken_after turn.verdict at) d.tracks turn.totals d.orientation d.x d.y d.gap)
       (rooms_of f whole d) intervals ≡ core_step j (state_in b order at c.tracks last.totals c.orientation c.x c.y c.gap) (rooms_of f whole c)
       intervals)
-      × (turn.verdict ≡ Accepted → turn.fits ≡ copy_fits j at last.totals.placed_strips (state_in b order (at + 1) d.tracks turn.totals
+      × (turn.verdict ≡ (Ok tt) → turn.fits ≡ copy_fits j at last.totals.placed_strips (state_in b order (at + 1) d.tracks turn.totals
       d.orientation d.x d.y d.gap) (rooms_of f whole d))
 
   module _ (q : Copy) (q-is : q ≡ copy_of f.order f.rows f.areas at) (E : Turned q)
@@ -113,19 +113,19 @@ module _ (f : Fixed) (a c d : Arrays) (last turn : Turn) (took end : ℕ) (R : R
         abbrev E₀ : step_in turn.verdict (S' (taken_after turn.verdict at)) W' intervals ≡ core_step j S W intervals
         E₀ = (E j b f.order f.rows f.areas whole intervals B.tabling G q-is l).0
 
-        fits_is : turn.verdict ≡ Accepted → turn.fits ≡ copy_fits j at last.totals.placed_strips (S' (at + 1)) W'
+        fits_is : turn.verdict ≡ (Ok tt) → turn.fits ≡ copy_fits j at last.totals.placed_strips (S' (at + 1)) W'
         fits_is = (E j b f.order f.rows f.areas whole intervals B.tabling G q-is l).1
 
         -- 31 after the turn
-        passes : turn.verdict ≡ Accepted → turn.fits ≡ true → consistent j (S' (at + 1)) W' ≡ true
+        passes : turn.verdict ≡ (Ok tt) → turn.fits ≡ true → consistent j (S' (at + 1)) W' ≡ true
         passes v t =
-            let e : core_step j S W intervals ≡ step_in Accepted (S' (at + 1)) W' intervals =
-            sym E₀ ∙ ap (λ (v : Verdict). step_in v (S' (taken_after v at)) W' intervals) v in
+            let e : core_step j S W intervals ≡ step_in (Ok tt) (S' (at + 1)) W' intervals =
+            sym E₀ ∙ ap (λ (v : Result (Unit {0}) Refusal). step_in v (S' (taken_after v at)) W' intervals) v in
             ap (λ (r : Step). consistent j r.state r.rooms) (sym e)
             ∙ (step-31 j B.sized S W shaped G.passes intervals (ap (λ (r : Step). r.verdict) e)
             ∙ (ap (λ (r : Step). copy_fits j at last.totals.placed_strips r.state r.rooms) e ∙ (sym (fits_is v) ∙ t)))
 
-      going_next : (length c.room ≡ length a.room) → turn.verdict ≡ Accepted → turn.fits ≡ true → f.taken + (took + 1) < j.copies
+      going_next : (length c.room ≡ length a.room) → turn.verdict ≡ (Ok tt) → turn.fits ≡ true → f.taken + (took + 1) < j.copies
           → GoingBy f j b whole (f.taken + (took + 1)) turn.totals d
       going_next r v t left =
           let e : f.taken + (took + 1) ≡ at + 1 = omega arith in
@@ -146,7 +146,7 @@ module _ (f : Fixed) (a c d : Arrays) (last turn : Turn) (took end : ℕ) (R : R
         abbrev Z : List Float
         Z = zeros pos_zero intervals
 
-        abbrev now : Verdict → ℕ → ℕ → Batch
+        abbrev now : Result (Unit {0}) Refusal → ℕ → ℕ → Batch
         now v k u = rest_of j v k (S' u) W' Z turn.fits
 
         long : length Z ≡ length c.room
@@ -156,18 +156,18 @@ module _ (f : Fixed) (a c d : Arrays) (last turn : Turn) (took end : ℕ) (R : R
             → more_taken took (tested_from j (suc k) S W Z true) ≡ tested_from j n (state_of f b f.taken f.totals a) (rooms_of f whole a) Z true
         here k e =
             let o = R.on h in
-            sym (ap₂ (λ (v : Verdict) (t : Bool). more_taken took (rest_of j v (n - took) S W Z t)) o.0 o.1
+            sym (ap₂ (λ (v : Result (Unit {0}) Refusal) (t : Bool). more_taken took (rest_of j v (n - took) S W Z t)) o.0 o.1
             ∙ ap (λ (i : ℕ). more_taken took (tested_from j i S W Z true)) e) ∙ R.equal j b whole intervals n B G₀ l m
 
         stepped : step_tested j S W Z true ≡ step_in turn.verdict (S' (taken_after turn.verdict at)) W' Z
         unfolding step_tested
         stepped = sym (E₀ Z long)
 
-        by_verdict : (k : ℕ) (v : Verdict) → turn.verdict ≡ v → more_taken (taken_after v took) (now v (suc k - (taken_after v took - took)) (taken_after v at))
+        by_verdict : (k : ℕ) (v : Result (Unit {0}) Refusal) → turn.verdict ≡ v → more_taken (taken_after v took) (now v (suc k - (taken_after v took - took)) (taken_after v at))
             ≡ more_taken took (tested_from j (suc k) S W Z true)
-        by_verdict k Accepted v =
-            let e : step_tested j S W Z true ≡ step_in Accepted (S' (at + 1)) W' Z =
-            stepped ∙ ap (λ (v : Verdict). step_in v (S' (taken_after v at)) W' Z) v in
+        by_verdict k (Ok tt) v =
+            let e : step_tested j S W Z true ≡ step_in (Ok tt) (S' (at + 1)) W' Z =
+            stepped ∙ ap (λ (v : Result (Unit {0}) Refusal). step_in v (S' (taken_after v at)) W' Z) v in
             let i : suc k - (took + 1 - took) ≡ k = omega arith in
             let s : took + 1 ≡ suc took = omega arith in
             ap₂ (λ (i u : ℕ). more_taken u (tested_from j i (S' (at + 1)) W' Z turn.fits)) i s
@@ -176,20 +176,20 @@ module _ (f : Fixed) (a c d : Arrays) (last turn : Turn) (took end : ℕ) (R : R
             ∙ (ap (λ (r : Step). one_more (tested_from j k r.state r.rooms r.intervals (copy_fits j at last.totals.placed_strips r.state
             r.rooms))) e
             ∙ ap₂ (λ (y : List Float) (t : Bool). one_more (tested_from j k (S' (at + 1)) W' y t)) (zeros_again intervals) (sym (fits_is Z long v))))))
-        by_verdict k (Refused why) v =
-            let e : step_tested j S W Z true ≡ step_in (Refused why) (S' at) W' Z =
-            stepped ∙ ap (λ (v : Verdict). step_in v (S' (taken_after v at)) W' Z) v in
+        by_verdict k (Err why) v =
+            let e : step_tested j S W Z true ≡ step_in (Err why) (S' at) W' Z =
+            stepped ∙ ap (λ (v : Result (Unit {0}) Refusal). step_in v (S' (taken_after v at)) W' Z) v in
             ap (more_taken took) (sym (tested_stop j k S W Z true why (ap (λ (r : Step). r.verdict) e)
-            ∙ (ap (λ (r : Step). none_taken (Refused why) r.state r.rooms r.intervals) e
-            ∙ ap (none_taken (Refused why) (S' at) W') (zeros_again intervals))))
+            ∙ (ap (λ (r : Step). none_taken (Err why) r.state r.rooms r.intervals) e
+            ∙ ap (none_taken (Err why) (S' at) W') (zeros_again intervals))))
 
-        rest : (v : Verdict) (k : ℕ) → n - took ≡ suc k → suc k - (taken_after v took - took) ≡ n - taken_after v took
-        rest Accepted k e = omega arith
-        rest (Refused why) k e = omega arith
+        rest : (v : Result (Unit {0}) Refusal) (k : ℕ) → n - took ≡ suc k → suc k - (taken_after v took - took) ≡ n - taken_after v took
+        rest (Ok tt) k e = omega arith
+        rest (Err why) k e = omega arith
 
-        place : (v : Verdict) → taken_after v at ≡ f.taken + taken_after v took
-        place Accepted = omega arith
-        place (Refused why) = refl
+        place : (v : Result (Unit {0}) Refusal) → taken_after v at ≡ f.taken + taken_after v took
+        place (Ok tt) = omega arith
+        place (Err why) = refl
 
         equal_next : more_taken (taken_after turn.verdict took) (now turn.verdict (n - taken_after turn.verdict took)
             (f.taken + taken_after turn.verdict took)) ≡ tested_from j n (state_of f b f.taken f.totals a) (rooms_of f whole a) Z true
@@ -216,14 +216,14 @@ module _ (f : Fixed) (a c d : Arrays) (last turn : Turn) (took end : ℕ) (R : R
           equal = λ j b whole intervals n B G₀ l m. equal_next j b whole B G₀ intervals n l m;
         }))
       where
-        v : Verdict
+        v : Result (Unit {0}) Refusal
         v = turn.verdict
 
         on_going : (j : Job) (b : Tables) (whole : List Float) → BegunBy f j b whole → (0 < f.most → GoingBy f j b whole f.taken f.totals a)
-            → taken_after v took < end_after v turn.fits (taken_after v took) end → (v ≡ Accepted) × (turn.fits ≡ true)
+            → taken_after v took < end_after v turn.fits (taken_after v took) end → (v ≡ (Ok tt)) × (turn.fits ≡ true)
             → GoingBy f j b whole (f.taken + taken_after v took) turn.totals d
         on_going j b whole B G₀ l o =
-            let t : taken_after v took ≡ took + 1 = ap (λ (v : Verdict). taken_after v took) o.0 in
+            let t : taken_after v took ≡ took + 1 = ap (λ (v : Result (Unit {0}) Refusal). taken_after v took) o.0 in
             let w = within-after took end f.most h R.within v turn.fits in
             let y = B.left in
             subst⁻¹ (λ (n : ℕ). GoingBy f j b whole (f.taken + n) turn.totals d) t
@@ -234,5 +234,5 @@ module _ (f : Fixed) (a c : Arrays) (last : Turn) (took end : ℕ) (R : Running 
   pub run_few : took ≤ f.most
   run_few = let b = R.before in let w = R.within in omega arith
 
-  pub run_whole : last.verdict ≡ Accepted → last.fits ≡ true → took ≡ f.most
+  pub run_whole : last.verdict ≡ (Ok tt) → last.fits ≡ true → took ≡ f.most
   run_whole v t = let e = R.whole v t in let b = R.before in omega arith

@@ -1,4 +1,5 @@
 -- What holds between two turns, and what a turn makes of it. Assumes nothing.
+use Rattle.std.specs.Prelude.{Ok}
 use Prim.Native.Nat.{ℕ, ◌+◌, ◌-◌, ◌<◌, ◌≤◌}
 use native.Mathlib.Omega.{arith}
 use native.Mathlib.Nat.{le_of_eq}
@@ -11,7 +12,6 @@ use Rattle.numbers.specs.Numbers.{pos_zero}
 use Rattle.job.specs.Jobs.{Job}
 use Rattle.filling.specs.declared.State.{State}
 use Rattle.filling.specs.declared.Tables.{Tables}
-use Rattle.filling.specs.declared.Verdict.TheVariants.{Accepted}
 use Rattle.filling.specs.Rooms.{Rooms, zeros}
 use Rattle.choose.specs.declared.Grid.{Grid}
 use Rattle.place.specs.declared.Totals.{Totals}
@@ -113,8 +113,8 @@ pub record Running (f : Fixed) (a c : Arrays) (last : Turn) (took end : ℕ) : T
   pub alike : Alike a c
   pub before : took ≤ end
   pub within : end ≤ f.most
-  pub on : took < end → (last.verdict ≡ Accepted) × (last.fits ≡ true)
-  pub whole : last.verdict ≡ Accepted → last.fits ≡ true → end ≡ f.most
+  pub on : took < end → (last.verdict ≡ (Ok tt)) × (last.fits ≡ true)
+  pub whole : last.verdict ≡ (Ok tt) → last.fits ≡ true → end ≡ f.most
   pub going : (j : Job) (b : Tables) (whole : List Float) → BegunBy f j b whole → (0 < f.most → GoingBy f j b whole f.taken f.totals a) → took < end
       → GoingBy f j b whole (f.taken + took) last.totals c
   pub equal : (j : Job) (b : Tables) (whole intervals : List Float) (n : ℕ) → BegunBy f j b whole
@@ -124,7 +124,7 @@ pub record Running (f : Fixed) (a c : Arrays) (last : Turn) (took end : ℕ) : T
 
 -- ---- before the first turn
 
-pub run_first : (f : Fixed) (a : Arrays) (last : Turn) → last ≡ record { verdict = Accepted; totals = f.totals; fits = true } → Running f a a last 0 f.most
+pub run_first : (f : Fixed) (a : Arrays) (last : Turn) → last ≡ record { verdict = Ok tt; totals = f.totals; fits = true } → Running f a a last 0 f.most
 run_first f a last e =
     subst⁻¹ (λ (last : Turn). Running f a a last 0 f.most) e
     (record {

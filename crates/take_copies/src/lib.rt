@@ -2,12 +2,11 @@
 // these functions.
 #![tactic(auto)]
 
-ghost use Rattle.std.specs.Prelude.{◌≡◌, true, List, ℕ, ◌+◌, ◌-◌, ◌≤◌, ◌<◌, length, Float};
+ghost use Rattle.std.specs.Prelude.{Ok, ◌≡◌, true, List, ℕ, ◌+◌, ◌-◌, ◌≤◌, ◌<◌, length, Float};
 ghost use Rattle.numbers.specs.Numbers.{pos_zero};
 ghost use Rattle.index.specs.Buckets.{buckets};
 ghost use Rattle.job.specs.Jobs.{Job};
 ghost use Rattle.filling.specs.declared.Tables.{Tables};
-ghost use Rattle.filling.specs.declared.Verdict.TheVariants as Verdicts;
 ghost use Rattle.filling.specs.Rooms.{zeros};
 ghost use Rattle.rooms.specs.tracks.inner.Tracks.{slot_numbers};
 ghost use Rattle.step.specs.inner.Going.{rooms, Going};
@@ -16,7 +15,6 @@ ghost use Rattle.take_copy.specs.turn.inner.Turning.{state_in, taken_after, Size
 ghost use Rattle.take_copies.specs.inner.Run.{end_after, rest_of, Begun};
 
 use choose::Grid;
-use filling::Verdict;
 use index::{Bucket, Entry};
 use place::Totals;
 use take_copy::turn::Turn;
@@ -35,8 +33,8 @@ fn took_after(turn: Turn, took: usize) -> usize
 {
     let v = turn.verdict;
     match v {
-        Verdict::Accepted => took + 1,
-        Verdict::Refused(_) => took,
+        Ok(()) => took + 1,
+        Err(_) => took,
     }
 }
 
@@ -46,13 +44,13 @@ fn end_after(turn: Turn, took: usize, end: usize) -> usize
 {
     let v = turn.verdict;
     match v {
-        Verdict::Accepted => {
+        Ok(()) => {
             if turn.fits {
                 return end;
             }
             took
         }
-        Verdict::Refused(_) => took,
+        Err(_) => took,
     }
 }
 
@@ -101,11 +99,11 @@ pub fn take_copies(
         (zeros pos_zero intervals) result.last.fits) ≡ tested_from j n (state_in b order.now taken tracks.old t
         orientation.old x.old y.old gap.old) (rooms shapes.now whole placed.old
         sheet_entries.now entries.old sheet_firsts.now firsts.old) (zeros pos_zero intervals) true)
-        × (result.took ≤ most) × (result.last.verdict ≡ Verdicts.Accepted → result.last.fits ≡ true → result.took ≡ most)
+        × (result.took ≤ most) × (result.last.verdict ≡ (Ok tt) → result.last.fits ≡ true → result.took ≡ most)
         × Sizes orientation.new x.new y.new gap.new }
 {
     let mut last = Turn {
-        verdict: Verdict::Accepted,
+        verdict: Ok(()),
         totals: t,
         fits: true,
     };

@@ -46,38 +46,26 @@ fn tracks_fit(
     ensures { result ≡ tracks_test bounds resolution taken slot n inset_bounds.now (next_columns tracks.now)
         (look_counts_from tracks.now) }
 {
-    let mut o = 0;
-    while o < n {
-        if slot_fits(bounds, resolution, taken, slot + o, inset_bounds, tracks) {
-            o += 1;
-        } else {
-            return false;
-        }
-    }
-    true
+    (0..n).all(|o| slot_fits(bounds, resolution, taken, slot + o, inset_bounds, tracks))
 }
 
 // Position and gap.
+#[tactic(auto, unfolding(crate::specs::copy_tests::inner::CopyTest::choice_test))]
 fn choice_fits(p: Choice) -> bool
     ensures { result ≡ choice_test p }
 {
-    if !strip_tests::bounded(p.x) {
-        return false;
-    }
-    if !strip_tests::bounded(p.y) {
-        return false;
-    }
-    strip_tests::gap_fits(p.gap)
+    strip_tests::bounded(p.x) && strip_tests::bounded(p.y) && strip_tests::gap_fits(p.gap)
 }
 
 // A copy without a place has neither.
+#[tactic(auto, unfolding(crate::specs::copy_tests::inner::CopyTest::outcome_test))]
 fn outcome_fits(o: Outcome) -> bool
     ensures { result ≡ outcome_test o }
 {
     match o {
-        Outcome::At(p) => choice_fits(p),
-        Outcome::Nowhere => true,
-        Outcome::Refused(_) => true,
+        Ok(Some(p)) => choice_fits(p),
+        Ok(None) => true,
+        Err(_) => true,
     }
 }
 

@@ -9,10 +9,8 @@ pub fn keep(tracks: &[usize], slot: usize, kept: &mut [usize])
     requires { (slot + 16 ≤ 1024) × (slot_numbers ≤ length tracks.now) × (length kept.old ≡ 32) }
     ensures { Kept slot 32 tracks.now kept.new }
 {
-    let mut i = 0;
-    while i < 32 {
+    for i in 0..32 {
         kept[i] = tracks[2 * slot + i];
-        i += 1;
     }
 }
 
@@ -21,9 +19,7 @@ pub fn put_back(kept: &[usize], slot: usize, tracks: &mut [usize])
     requires { (slot + 16 ≤ 1024) × (slot_numbers ≤ length tracks.old) × (length kept.now ≡ 32) }
     ensures { PutBack slot 32 kept.now tracks.old tracks.new }
 {
-    let mut n = 0;
-    while n < 32 {
+    for n in 0..32 {
         tracks[2 * slot + n] = kept[n];
-        n += 1;
     }
 }

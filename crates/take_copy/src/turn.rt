@@ -1,13 +1,12 @@
 // One copy more over a state's arrays (document 02, W5): it is placed, its place is written down, and
 // what it wrote is tested. Only crates of ours call these functions.
-ghost use Rattle.std.specs.Prelude.{◌≡◌, List, ℕ, ◌+◌, ◌*◌, ◌/◌, ◌≤◌, ◌<◌, ◌^◌, length, get_or, set, take, Float};
+ghost use Rattle.std.specs.Prelude.{Ok, Err, ◌≡◌, List, ℕ, ◌+◌, ◌*◌, ◌/◌, ◌≤◌, ◌<◌, ◌^◌, length, get_or, set, take, Float};
 ghost use Rattle.trapezoid.specs.Strip.{capacity};
 ghost use Rattle.index.specs.Buckets.{buckets};
 ghost use Rattle.index.specs.inner.Listing.{Laid, FirstBuckets};
 ghost use Rattle.job.specs.Jobs.{Job};
 ghost use Rattle.filling.specs.declared.Tables.{Tables};
 ghost use Rattle.filling.specs.declared.Refusal.{Refusal};
-ghost use Rattle.filling.specs.declared.Verdict.TheVariants as Verdicts;
 ghost use Rattle.filling.specs.NextCopy.{core_step};
 ghost use Rattle.rooms.specs.tracks.inner.Tracks.{next_columns, look_counts_from, slot_numbers};
 ghost use Rattle.choose.specs.inner.Choosing.{surroundings_in, bounds_at};
@@ -23,7 +22,6 @@ ghost use Rattle.take_copy.specs.turn.inner.Turning.{state_in, kept_of, written_
 
 use crate::{copy_tests, kept_tracks};
 use choose::Grid;
-use filling::Verdict;
 use index::{Bucket, Entry};
 use place::{Copy, Outcome, Step, Totals};
 
@@ -31,20 +29,25 @@ use place::{Copy, Outcome, Step, Totals};
 // lets the next one pass.
 #[derive(Clone, Copy)]
 pub struct Turn {
-    pub verdict: Verdict,
+    pub verdict: Result<(), filling::Refusal>,
     pub totals: Totals,
     pub fits: bool,
 }
 
 // The tracks that are kept are put back after a refusal.
-fn back_if_refused(v: Verdict, kept: &[usize], slot: usize, tracks: &mut [usize])
+fn back_if_refused(
+    v: Result<(), filling::Refusal>,
+    kept: &[usize],
+    slot: usize,
+    tracks: &mut [usize],
+)
     requires { (slot + 16 ≤ 1024) × (slot_numbers ≤ length tracks.old) × (length kept.now ≡ 32) }
-    ensures { (v ≡ Verdicts.Accepted → tracks.new ≡ tracks.old)
-        × ((k : Refusal) → v ≡ Verdicts.Refused k → PutBack slot 32 kept.now tracks.old tracks.new) }
+    ensures { (v ≡ (Ok tt) → tracks.new ≡ tracks.old)
+        × ((k : Refusal) → v ≡ Err k → PutBack slot 32 kept.now tracks.old tracks.new) }
 {
     match v {
-        Verdict::Accepted => {}
-        Verdict::Refused(_) => {
+        Ok(()) => {}
+        Err(_) => {
             kept_tracks::put_back(kept, slot, tracks);
         }
     }
@@ -130,10 +133,11 @@ fn write_place(
         × (x.new ≡ set x.old at (outcome_x o)) × (y.new ≡ set y.old at (y_of o))
         × (gap.new ≡ set gap.old at (gap_of o)) }
 {
-    orientation[at] = place::next::number_of(o, n);
-    x[at] = place::next::x_of(o);
-    y[at] = place::next::y_of(o);
-    gap[at] = place::next::gap_of(o);
+    let spot = place::next::spot_of(o, n);
+    orientation[at] = spot.number;
+    x[at] = spot.x;
+    y[at] = spot.y;
+    gap[at] = spot.gap;
 }
 
 // A copy that is taken has its place written down, and what it wrote is tested; before it `strips`
@@ -157,7 +161,7 @@ fn turned(
         × (slot_numbers ≤ length tracks.now) × ((o : ℕ) → o < copy.orientations → BoundedRect (bounds_at inset_bounds.now (copy.slot + o)))
         × Under copy.orientations step.outcome × Sizes orientation.old x.old y.old gap.old }
     ensures { (result.verdict ≡ verdict_of step.outcome) × (result.totals ≡ step.totals)
-        × (result.verdict ≡ Verdicts.Accepted → result.fits ≡ copy_test g copy (at + 1) strips step inset_bounds.now placed.now
+        × (result.verdict ≡ (Ok tt) → result.fits ≡ copy_test g copy (at + 1) strips step inset_bounds.now placed.now
         tracks.now)
         × (orientation.new ≡ written_at result.verdict orientation.old at (orientation_number step.outcome))
         × (x.new ≡ written_at result.verdict x.old at (outcome_x step.outcome))
@@ -167,7 +171,7 @@ fn turned(
     let o = step.outcome;
     let totals = step.totals;
     match place::verdict_of(o) {
-        Verdict::Accepted => {
+        Ok(()) => {
             write_place(o, copy.orientations, at, orientation, x, y, gap);
             let next = at + 1;
             let fits = copy_tests::copy_fits(
@@ -181,13 +185,13 @@ fn turned(
                 tracks,
             );
             Turn {
-                verdict: Verdict::Accepted,
+                verdict: Ok(()),
                 totals: totals,
                 fits: fits,
             }
         }
-        Verdict::Refused(k) => Turn {
-            verdict: Verdict::Refused(k),
+        Err(k) => Turn {
+            verdict: Err(k),
             totals: totals,
             fits: true,
         },
@@ -235,7 +239,7 @@ pub fn take_next(
         sheet_firsts.now firsts.new) intervals ≡ core_step j (state_in b order at tracks.old t orientation.old
         x.old y.old gap.old) (rooms shapes.now whole placed.old sheet_entries.now
         entries.old sheet_firsts.now firsts.old) intervals)
-        × (result.verdict ≡ Verdicts.Accepted → result.fits ≡ copy_fits j at t.placed_strips (state_in b order (at + 1) tracks.new result.totals
+        × (result.verdict ≡ (Ok tt) → result.fits ≡ copy_fits j at t.placed_strips (state_in b order (at + 1) tracks.new result.totals
         orientation.new x.new y.new gap.new) (rooms shapes.now whole placed.new
         sheet_entries.now entries.new sheet_firsts.now firsts.new)))
         × Laid g.index placed.new result.totals.placed_strips entries.new starts.new

@@ -1,12 +1,12 @@
 -- The lines that go by kind are those of the job's kinds, and the lines' lengths. Assumes nothing.
-use Prim.Native.Nat.{ℕ, suc, ◌+◌, ◌*◌, ◌≤◌, ◌<◌}
-use mathlib.Core.Path.{◌≡◌, refl, sym, ap, ap₂, ◌∙◌}
+use Prim.Native.Nat.{ℕ, zero, suc, ◌+◌, ◌*◌, ◌≤◌, ◌<◌}
+use mathlib.Core.Path.{◌≡◌, refl, sym, ap, ap₂, subst, ◌∙◌}
 use mathlib.Core.Logic.{inl, inr}
 use mathlib.Core.Bool.{Bool, true, false}
 use mathlib.Core.List.{List, [], ◌∷◌, ◌++◌, map, flat_map}
 use native.Mathlib.Omega.{arith}
 use native.Mathlib.Numerals.{add-one}
-use lib.ListN.{length, get_or, take, length-append}
+use lib.ListN.{length, get_or, length-append}
 use lib.Ieee.{Float}
 use borrow.Author.Tests.{eq-eqb, ne_eqb}
 use Rattle.numbers.proofs.Truth.{below_or_not}
@@ -15,99 +15,72 @@ use Rattle.index.proofs.Flat.{flat_snoc}
 use Rattle.kinds.specs.Kinds.{Kind}
 use Rattle.job.specs.Jobs.{Job}
 use Rattle.filling.specs.declared.Plan.{Plan}
+use Rattle.filling.specs.declared.Refusal.{Refusal}
+use Rattle.filling.specs.Refusals.{number_of}
 use Rattle.filling.specs.State.{orientation_counts}
 use Rattle.accounts.specs.tables.inner.Tabled.{Tabled}
 use Rattle.nesting.specs.CopyOrder.{numbered}
-use Rattle.nesting.specs.Text.{decimal, hex, line, put_word, left_word, fill_word, look_word, right_word, area_word, offcut_word, plan_line, put_line, position_at, put_lines, left_line, left_lines, fill_line, fill_lines, look_line, look_lines, last_lines, plan_text}
-use Rattle.lines.specs.inner.Writing.{Wrote}
-use Rattle.lines.proofs.Appending.{wrote_none, wrote-both, wrote-same}
-use Rattle.lines.proofs.Digits.{decimal-length, hex-length}
-use Rattle.lines.proofs.Lines.{line-one, line_two, line_three, line-six}
-use Rattle.text.specs.inner.Tables.{fill_at, puts_to, lefts_to, fills_to, look_at, looks_of, looks_to}
+use Rattle.nesting.specs.Text.{decimal, hex, line, put_word, plan_word, left_word, fill_word, look_word, right_word, area_word, offcut_word, no_word, refusal_text, plan_line, put_line, position_at, put_lines, left_line, left_lines, fill_line, fill_lines, look_line, look_lines, last_lines, plan_text}
+use Rattle.lines.specs.declared.Text.{Text}
+use Rattle.lines.specs.inner.Writing.{Put}
+use Rattle.lines.proofs.Appending.{put_none, put-both, put-same}
+use Rattle.lines.proofs.Lines.{line_most}
+use Rattle.text.specs.inner.Tables.{fill_at, puts_to, lefts_to, fills_to, look_at, looks_of, looks_to, plan_by}
 
 -- ---- one line more
 
-pub lines_none : (f : ℕ → List ℕ) (b : List ℕ) (at : ℕ) → Wrote b at (flat_map f (up_from 0 0)) b at
+pub lines_none : (f : ℕ → List ℕ) (t : Text) → Put t (flat_map f (up_from 0 0)) t
 unfolding flat_map up_from
-lines_none f b at = wrote_none b at
+lines_none f t = put_none t
 
-pub lines_next : (f : ℕ → List ℕ) {b m a : List ℕ} {at p e : ℕ} (i : ℕ) → Wrote b at (flat_map f (up_from i 0)) m p → Wrote m p (f i) a e → Wrote b at (flat_map f (up_from (i + 1) 0)) a e
-lines_next f i u v =
-    let z : 0 + i ≡ i = omega arith in
-    wrote-same (ap (λ (k : ℕ). flat_map f (up_from i 0) ++ f k) (sym z) ∙ (sym (flat_snoc f i 0) ∙ ap (λ (k : ℕ). flat_map f (up_from k 0)) (sym (add-one i)))) (wrote-both u v)
+line_on : (f : ℕ → List ℕ) (i : ℕ) → flat_map f (up_from i 0) ++ f i ≡ flat_map f (up_from (suc i) 0)
+line_on f i = let z : 0 + i ≡ i = omega arith in ap (λ (k : ℕ). flat_map f (up_from i 0) ++ f k) (sym z) ∙ sym (flat_snoc f i 0)
+
+pub lines_next : (f : ℕ → List ℕ) (i : ℕ) {t u v : Text} → Put t (flat_map f (up_from i 0)) u → Put u (f i) v → Put t (flat_map f (up_from (i + 1) 0)) v
+lines_next f i p q = rw (add-one i) (put-same (line_on f i) (put-both p q))
+
+pub lines_end : (f : ℕ → List ℕ) (i n : ℕ) {t u : Text} → i ≡ n → Put t (flat_map f (up_from i 0)) u → Put t (flat_map f (up_from n 0)) u
+lines_end f i n e p = put-same (ap (λ (k : ℕ). flat_map f (up_from k 0)) e) p
 
 -- ---- lengths
+
+pub lines-most : (f : ℕ → List ℕ) (m n : ℕ) → ((i : ℕ) → i < n → length (f i) ≤ m) → length (flat_map f (up_from n 0)) ≤ m * n
+unfolding flat_map up_from
+lines-most f m zero h = omega arith
+lines-most f m (suc n) h =
+    let a = lines-most f m n (λ i l. h i (omega arith)) in
+    let b = h n (omega arith) in
+    let e = length-append (flat_map f (up_from n 0)) (f n) in
+    subst (λ (l : List ℕ). length l ≤ m * suc n) (line_on f n) (omega arith)
 
 pub put-most : (room : List Float) (i : ℕ) → length (put_line (position_at room i)) ≤ 118
 unfolding put_line
 put-most room i =
     let q = position_at room i in
-    let a = decimal q.kind in
-    let b = decimal q.copy in
-    let c = decimal q.orientation in
-    let d = hex q.x in
-    let e = hex q.y in
-    let f = hex q.gap in
-    rw (sym (line-six put_word a b c d e f))
-    (let l5 = length-append f (10 ∷ []) in
-    let l4 = length-append e ((32 ∷ f) ++ (10 ∷ [])) in
-    let l3 = length-append d ((32 ∷ e) ++ ((32 ∷ f) ++ (10 ∷ []))) in
-    let l2 = length-append c ((32 ∷ d) ++ ((32 ∷ e) ++ ((32 ∷ f) ++ (10 ∷ [])))) in
-    let l1 = length-append b ((32 ∷ c) ++ ((32 ∷ d) ++ ((32 ∷ e) ++ ((32 ∷ f) ++ (10 ∷ []))))) in
-    let l0 = length-append a ((32 ∷ b) ++ ((32 ∷ c) ++ ((32 ∷ d) ++ ((32 ∷ e) ++ ((32 ∷ f) ++ (10 ∷ [])))))) in
-    omega (
-      arith,
-      decimal-length q.kind,
-      decimal-length q.copy,
-      decimal-length q.orientation,
-      hex-length q.x,
-      hex-length q.y,
-      hex-length q.gap,
-    ))
-
-pair_most : (w : List ℕ) (a b : ℕ) → length (line w (decimal a ∷ decimal b ∷ [])) ≤ length w + 43
-pair_most w a b =
-    rw (sym (line_two w (decimal a) (decimal b)))
-    (let l2 = length-append (decimal b) (10 ∷ []) in
-    let l1 = length-append (decimal a) ((32 ∷ decimal b) ++ (10 ∷ [])) in
-    let l0 = length-append w ((32 ∷ decimal a) ++ ((32 ∷ decimal b) ++ (10 ∷ []))) in
-    omega (arith, decimal-length a, decimal-length b))
-
-pub triple_most : (w : List ℕ) (a b c : ℕ) → length (line w (decimal a ∷ decimal b ∷ decimal c ∷ [])) ≤ length w + 64
-triple_most w a b c =
-    rw (sym (line_three w (decimal a) (decimal b) (decimal c)))
-    (let l3 = length-append (decimal c) (10 ∷ []) in
-    let l2 = length-append (decimal b) ((32 ∷ decimal c) ++ (10 ∷ [])) in
-    let l1 = length-append (decimal a) ((32 ∷ decimal b) ++ ((32 ∷ decimal c) ++ (10 ∷ []))) in
-    let l0 = length-append w ((32 ∷ decimal a) ++ ((32 ∷ decimal b) ++ ((32 ∷ decimal c) ++ (10 ∷ [])))) in
-    omega (arith, decimal-length a, decimal-length b, decimal-length c))
+    let l = line_most put_word (q.kind ∷ q.copy ∷ q.orientation ∷ []) (q.x ∷ q.y ∷ q.gap ∷ []) in
+    omega (arith, l)
 
 pub look_most : (looks : List ℕ) (k o : ℕ) → length (look_at looks k o) ≤ 68
 unfolding look_at
-look_most looks k o = triple_most look_word k o (get_or looks (16 * k + o) 0)
+look_most looks k o = let l = line_most look_word (k ∷ o ∷ get_or looks (16 * k + o) 0 ∷ []) [] in omega (arith, l)
 
-pub double-length : (w : List ℕ) (x : Float) → length (line w (hex x ∷ [])) ≡ length w + 18
-double-length w x =
-    rw (sym (line-one w (hex x)))
-    (let l1 = length-append (hex x) (10 ∷ []) in
-    let l0 = length-append w ((32 ∷ hex x) ++ (10 ∷ [])) in
-    omega (arith, hex-length x))
+pub plan-most : (p : Plan) → length (plan_line p) ≤ 68
+unfolding plan_line
+plan-most p = let l = line_most plan_word (p.placed ∷ p.unplaced ∷ p.improvements ∷ []) [] in omega (arith, l)
 
-pub count_most : (w : List ℕ) (a : ℕ) → length (line w (decimal a ∷ [])) ≤ length w + 22
-count_most w a =
-    rw (sym (line-one w (decimal a)))
-    (let l1 = length-append (decimal a) (10 ∷ []) in
-    let l0 = length-append w ((32 ∷ decimal a) ++ (10 ∷ [])) in
-    omega (arith, decimal-length a))
-
--- ---- the last lines
-
-pub last_is : (p : Plan) (r a o : Float) → p.right ≡ r → p.unplaced_area ≡ a → p.offcut ≡ o → line right_word (hex r ∷ []) ++ (line area_word (hex a ∷ []) ++ line offcut_word (hex o ∷ [])) ≡ last_lines p
+pub last-most : (p : Plan) → length (last_lines p) ≤ 69
 unfolding last_lines
-last_is p r a o e f g =
-    ap (λ (v : Float). line right_word (hex v ∷ []) ++ (line area_word (hex a ∷ []) ++ line offcut_word (hex o ∷ []))) (sym e)
-    ∙ (ap (λ (v : Float). line right_word (hex p.right ∷ []) ++ (line area_word (hex v ∷ []) ++ line offcut_word (hex o ∷ []))) (sym f)
-    ∙ ap (λ (v : Float). line right_word (hex p.right ∷ []) ++ (line area_word (hex p.unplaced_area ∷ []) ++ line offcut_word (hex v ∷ []))) (sym g))
+last-most p =
+    let a = line_most right_word [] (p.right ∷ []) in
+    let b = line_most area_word [] (p.unplaced_area ∷ []) in
+    let c = line_most offcut_word [] (p.offcut ∷ []) in
+    let d = length-append (line right_word (hex p.right ∷ [])) (line area_word (hex p.unplaced_area ∷ []) ++ line offcut_word (hex p.offcut ∷ [])) in
+    let e = length-append (line area_word (hex p.unplaced_area ∷ [])) (line offcut_word (hex p.offcut ∷ [])) in
+    omega (arith, a, b, c)
+
+pub refusal-most : (r : Refusal) → length (refusal_text r) ≤ 24
+unfolding refusal_text
+refusal-most r = let l = line_most no_word (number_of r ∷ []) [] in omega (arith, l)
 
 -- ---- left and fill
 
@@ -134,14 +107,60 @@ fill_no k n f e = rw e
 pub left-most : (k n : ℕ) (f : Bool) → length (left_line k f n) ≤ 47
 left-most k n true = rw (sym (left-fill k n true refl)) (omega arith)
 left-most k n false = elim (below_or_not 0 n) [
-  | inl l ↦ rw (sym (left-some k n false refl (λ z. omega arith))) (pair_most left_word k n)
+  | inl l ↦ rw (sym (left-some k n false refl (λ z. omega arith))) (let m = line_most left_word (k ∷ n ∷ []) [] in omega (arith, m))
   | inr l ↦ rw (sym (left-none k n false refl (omega arith))) (omega arith)
 ]
 
 pub fill-most : (k n : ℕ) (f : Bool) → length (fill_line k f n) ≤ 47
 unfolding fill_line
-fill-most k n true = pair_most fill_word k n
+fill-most k n true = let m = line_most fill_word (k ∷ n ∷ []) [] in omega (arith, m)
 fill-most k n false = omega arith
+
+-- ---- the lines of many
+
+pub puts-most : (room : List Float) (n : ℕ) → length (puts_to room n) ≤ 118 * n
+puts-most room n = lines-most (λ i. put_line (position_at room i)) 118 n (λ i l. put-most room i)
+
+pub lefts-most : (rows missing : List ℕ) (n : ℕ) → length (lefts_to rows missing n) ≤ 47 * n
+lefts-most rows missing n =
+    lines-most (λ k. left_line k (fill_at rows k) (get_or missing k 0)) 47 n (λ k l. left-most k (get_or missing k 0) (fill_at rows k))
+
+pub fills-most : (rows placed : List ℕ) (n : ℕ) → length (fills_to rows placed n) ≤ 47 * n
+fills-most rows placed n =
+    lines-most (λ k. fill_line k (fill_at rows k) (get_or placed k 0)) 47 n (λ k l. fill-most k (get_or placed k 0) (fill_at rows k))
+
+pub looks-of-most : (looks : List ℕ) (k n : ℕ) → length (looks_of looks k n) ≤ 68 * n
+looks-of-most looks k n = lines-most (look_at looks k) 68 n (λ o l. look_most looks k o)
+
+pub looks-most : (rows looks : List ℕ) (n : ℕ) → ((k : ℕ) → k < n → get_or rows (4 * k + 3) 0 ≤ 16) → length (looks_to rows looks n) ≤ 1088 * n
+looks-most rows looks n h =
+    lines-most (λ k. looks_of looks k (get_or rows (4 * k + 3) 0)) 1088 n
+    (λ k l. let m = looks-of-most looks k (get_or rows (4 * k + 3) 0) in let t = h k l in omega (arith, m, t))
+
+-- the most that a plan's lines take
+pub plan-by-most : (rows : List ℕ) (kinds : ℕ) (room : List Float) (p : Plan) → kinds ≤ 64 → p.placed ≤ 4096
+    → ((k : ℕ) → k < kinds → get_or rows (4 * k + 3) 0 ≤ 16) → length (plan_by rows kinds room p) ≤ 589824
+unfolding plan_by
+plan-by-most rows kinds room p h g t =
+    let s = puts_to room p.placed in
+    let u = lefts_to rows p.unplaced_of kinds in
+    let v = fills_to rows p.placed_of kinds in
+    let w = looks_to rows p.look_counts kinds in
+    let z = last_lines p in
+    let e1 = length-append (plan_line p) (s ++ (u ++ (v ++ (w ++ z)))) in
+    let e2 = length-append s (u ++ (v ++ (w ++ z))) in
+    let e3 = length-append u (v ++ (w ++ z)) in
+    let e4 = length-append v (w ++ z) in
+    let e5 = length-append w z in
+    omega (
+      arith,
+      plan-most p,
+      puts-most room p.placed,
+      lefts-most rows p.unplaced_of kinds,
+      fills-most rows p.placed_of kinds,
+      looks-most rows p.look_counts kinds t,
+      last-most p,
+    )
 
 -- ---- the kinds of a job
 
@@ -176,10 +195,9 @@ module _ (j : Job) (rows : List ℕ) (areas : List Float) (t : Tabled j rows are
       ∙ numbered_as (λ a. length a.orientations) (λ q n. looks_of p.look_counts q n) (λ q. looks_of p.look_counts q (get_or rows (4 * q + 3) 0)) 0 0 j.kinds (λ i l. rw (at_zero i) (ap (looks_of p.look_counts i) (sym (t.orientations i l))))
 
   -- the whole text
-  pub text_is : (p : Plan) (out after : List ℕ) (positions : List Float) (r : ℕ) → Wrote out 0 (plan_line p ++ (puts_to positions p.placed ++ (lefts_to rows p.unplaced_of kinds ++ (fills_to rows p.placed_of kinds ++ (looks_to rows p.look_counts kinds ++ last_lines p))))) after r → take r after ≡ plan_text j p positions
-  unfolding plan_text put_lines
-  text_is p out after positions r w =
-      w.written
-      ∙ (ap (λ (l : List ℕ). plan_line p ++ (puts_to positions p.placed ++ (l ++ (fills_to rows p.placed_of kinds ++ (looks_to rows p.look_counts kinds ++ last_lines p))))) (lefts_are p)
+  pub text_is : (p : Plan) (positions : List Float) → plan_by rows kinds positions p ≡ plan_text j p positions
+  unfolding plan_text put_lines plan_by
+  text_is p positions =
+      ap (λ (l : List ℕ). plan_line p ++ (puts_to positions p.placed ++ (l ++ (fills_to rows p.placed_of kinds ++ (looks_to rows p.look_counts kinds ++ last_lines p))))) (lefts_are p)
       ∙ (ap (λ (l : List ℕ). plan_line p ++ (puts_to positions p.placed ++ (left_lines j p ++ (l ++ (looks_to rows p.look_counts kinds ++ last_lines p))))) (fills_are p)
-      ∙ ap (λ (l : List ℕ). plan_line p ++ (puts_to positions p.placed ++ (left_lines j p ++ (fill_lines j p ++ (l ++ last_lines p))))) (looks_are p)))
+      ∙ ap (λ (l : List ℕ). plan_line p ++ (puts_to positions p.placed ++ (left_lines j p ++ (fill_lines j p ++ (l ++ last_lines p))))) (looks_are p))

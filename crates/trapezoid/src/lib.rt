@@ -8,7 +8,7 @@ ghost use Rattle.trapezoid.specs.inner.Writing.{set_strip};
 
 // A strip (document 01): between x0 and x1, from the low side to the high side, each given by its
 // height at x0 and at x1.
-#[derive(Clone, Copy)]
+#[derive(Clone, Copy, PartialEq)]
 pub struct Trapezoid {
     pub x0: f64,
     pub x1: f64,
@@ -26,6 +26,7 @@ pub struct Heights {
 }
 
 // How many strips a room holds.
+#[tactic(auto, unfolding(crate::specs::Strip::capacity))]
 pub fn capacity(room: &[f64]) -> usize
     ensures { result ≡ capacity room.now }
 {
@@ -33,6 +34,7 @@ pub fn capacity(room: &[f64]) -> usize
 }
 
 // The strip number i of a room. Only crates of ours call it: the strip must lie in the room.
+#[tactic(auto, unfolding(crate::specs::Strip::strip_at))]
 pub fn load(room: &[f64], i: usize) -> Trapezoid
     requires { 6 * i + 6 ≤ length room.now }
     ensures { result ≡ strip_at room.now i }
@@ -49,6 +51,7 @@ pub fn load(room: &[f64], i: usize) -> Trapezoid
 }
 
 // The strip s as number i of a room. Only crates of ours call it: the strip must lie in the room.
+#[tactic(auto, unfolding(crate::specs::inner::Writing::set_strip))]
 pub fn store(room: &mut [f64], i: usize, s: Trapezoid)
     requires { 6 * i + 6 ≤ length room.old }
     ensures { room.new ≡ set_strip room.old i s }
@@ -64,6 +67,7 @@ pub fn store(room: &mut [f64], i: usize, s: Trapezoid)
 
 impl Trapezoid {
     // The heights of both sides at x.
+    #[tactic(auto, unfolding(crate::specs::Strip::heights_at))]
     pub fn at(self, x: f64) -> Heights
         ensures { result ≡ heights_at self x }
     {
@@ -87,6 +91,7 @@ impl Trapezoid {
     }
 
     // The strip moved by x and y.
+    #[tactic(auto, unfolding(crate::specs::Strip::moved_by))]
     pub fn moved(self, x: f64, y: f64) -> Trapezoid
         ensures { result ≡ moved_by self x y }
     {
@@ -102,19 +107,16 @@ impl Trapezoid {
 }
 
 // Of a room, `count` strips from strip `from` on; an empty part where the room ends before.
+#[tactic(auto, unfolding(crate::specs::Strip::part_of, crate::specs::Strip::capacity))]
 pub fn part_of<'a>(room: &'a [f64], from: usize, count: usize) -> &'a [f64]
     ensures { result.now ≡ part_of room.now from count }
 {
-    let held = room.len() / 6;
-    if held < from {
-        return &room[0..0];
-    }
-    if held - from < count {
-        return &room[0..0];
+    let held = capacity(room);
+    if held < from || held - from < count {
+        return &[];
     }
     let start = 6 * from;
-    let end = start + 6 * count;
-    &room[start..end]
+    &room[start..start + 6 * count]
 }
 
 // The inset strips or the apart strips of one orientation: `count` of them from strip `from` on.
@@ -127,8 +129,5 @@ pub fn strips_of<'a>(
 ) -> &'a [f64]
     ensures { result.now ≡ part_of (cond is_inset inset.now apart.now) from count }
 {
-    if is_inset {
-        return part_of(inset, from, count);
-    }
-    part_of(apart, from, count)
+    part_of(if is_inset { inset } else { apart }, from, count)
 }

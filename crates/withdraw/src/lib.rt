@@ -12,7 +12,6 @@ ghost use Rattle.withdraw.specs.Replied.{replied};
 
 use filling::{Refusal, State};
 use index::{Bucket, Entry};
-use job::JobRead;
 use step::Stepped;
 
 // The copy at a place of the order goes, over a state that a start, a next copy or a withdrawal
@@ -39,7 +38,7 @@ pub fn withdraw(
     let rows = j.rows;
     let answer = j.answer;
     match answer {
-        JobRead::Good(h, _, c) => withdraw_job::withdraw_job(
+        Ok((h, _, c)) => withdraw_job::withdraw_job(
             &rows,
             h.kinds as usize,
             c as usize,
@@ -53,6 +52,6 @@ pub fn withdraw(
             sheet_firsts,
             placed_firsts,
         ),
-        JobRead::NoJob(k) => withdraw_job::refuse(Refusal::Job(k), state),
+        Err(k) => withdraw_job::refuse(Refusal::Job(k), state),
     }
 }

@@ -22,10 +22,8 @@ pub fn strips_to(parts: &[usize], order: &[usize], orientation: &[usize], n: usi
     ensures { result ≡ strips_to parts.now order.now orientation.now n }
 {
     let mut strips = 0;
-    let mut i = 0;
-    while i < n {
+    for i in 0..n {
         strips += strips_at(parts, order[i], orientation[i]);
-        i += 1;
     }
     strips
 }
@@ -57,10 +55,8 @@ pub fn right_over(
     ensures { result ≡ right_over inset_bounds.now order.now orientation.now x.now right from (to - from) }
 {
     let mut reach = right;
-    let mut i = from;
-    while i < to {
+    for i in from..to {
         reach = right_with(inset_bounds, reach, x[i], order[i], orientation[i]);
-        i += 1;
     }
     reach
 }

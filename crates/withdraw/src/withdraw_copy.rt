@@ -72,10 +72,10 @@ fn layout_without(layout: Layout, place: usize, taken: usize, right: f64) -> Lay
     let mut x = layout.x;
     let mut y = layout.y;
     let mut gap = layout.gap;
-    close_up::close_numbers(&mut orientation, place, taken, 0);
-    close_up::close_doubles(&mut x, place, taken, 0.0);
-    close_up::close_doubles(&mut y, place, taken, 0.0);
-    close_up::close_doubles(&mut gap, place, taken, 0.0);
+    close_up::close(&mut orientation, place, taken, 0);
+    close_up::close(&mut x, place, taken, 0.0);
+    close_up::close(&mut y, place, taken, 0.0);
+    close_up::close(&mut gap, place, taken, 0.0);
     Layout {
         orientation: orientation,
         x: x,
@@ -93,7 +93,7 @@ fn state_without(state: State, place: usize, copies: usize, gone: usize, right: 
 {
     let mut order = state.order;
     let kind = order[place];
-    close_up::close_numbers(&mut order, place, copies, kind);
+    close_up::close(&mut order, place, copies, kind);
     let old = state.layout;
     let layout = layout_without(old, place, state.taken, right);
     let tables = state.tables;

@@ -7,7 +7,7 @@ ghost use Rattle.filling.specs.Withdraw.{no_withdrawal, standing_here, withdraw_
 ghost use Rattle.step.specs.step_job.inner.Opened.{Opened};
 ghost use Rattle.withdraw.specs.Replied.{replied};
 
-use filling::{Refusal, State, Verdict};
+use filling::{Refusal, State};
 use index::{Bucket, Entry};
 use step::Stepped;
 
@@ -16,7 +16,7 @@ pub fn refuse(why: Refusal, state: State) -> Stepped
     ensures { (w : Rooms) → replied result w ≡ no_withdrawal why state w }
 {
     Stepped {
-        verdict: Verdict::Refused(why),
+        verdict: Err(why),
         state: state,
     }
 }
@@ -77,7 +77,7 @@ pub fn withdraw_job(
                 state, place, copies, placed, entries, firsts,
             );
             return Stepped {
-                verdict: Verdict::Accepted,
+                verdict: Ok(()),
                 state: after,
             };
         }

@@ -1,11 +1,11 @@
 -- Laws of a whole job, put and finished. Assumes nothing.
+use Rattle.std.specs.Prelude.{Result, Ok, Err}
 use mathlib.Core.Path.{◌≡◌, refl, sym, ap, ap₂, subst, ◌∙◌}
-use Prim.Native.Nat.{ℕ, ◌-◌, ◌*◌, ◌≤◌, ◌<◌}
+use Prim.Native.Nat.{ℕ, ◌*◌, ◌≤◌, ◌<◌}
 use native.Mathlib.Omega.{arith}
-use native.Mathlib.Nat.{sub-zero}
 use mathlib.Core.Bool.{Bool, true, false, cond}
-use mathlib.Core.List.{List, [], ◌++◌, flat_map}
-use lib.ListN.{length, take, replicate}
+use mathlib.Core.List.{List, [], flat_map}
+use lib.ListN.{length, replicate}
 use lib.Dec.{leb, lit≤}
 use borrow.Author.Tests.{le-leb, lt-leb}
 use lib.Ieee.{Float, lt}
@@ -25,22 +25,18 @@ use Rattle.bit_writer.specs.inner.BitWriting as writing
 use Rattle.bit_writer.specs.inner.BitWriting.{Sound, Wrote}
 use Rattle.bit_writer.proofs.Writing.{put_then}
 use Rattle.set_writer.specs.declared.Walk.{Walk}
-use Rattle.set_writer.specs.declared.Walked.{Walked}
-use Rattle.set_writer.specs.declared.Walked.TheVariants.{On, Not}
 use Rattle.set_writer.specs.inner.Walks.{Walks, Near, Ready}
-use Rattle.set_writer.proofs.Walking.{Went, so, went_on, stopped_at, near_at}
+use Rattle.set_writer.proofs.Walking.{Went, so, went_on, stopped_at, near_at, ready-next}
 use Rattle.job_bits.specs.JobBits.{header_bits, set_bits, kind_bits, job_bits, bytes_of}
 use Rattle.job_bits.specs.Given.{Taken, ok, bad, after, given_set, given_kinds, given_header, given_fields, sized, judged, given_job}
 use Rattle.job_bits.proofs.Takers.{bad-first, ok_then}
 use Rattle.job_bits.proofs.Headers.{TakenHeader, header_was}
-use Rattle.kind_writer.specs.declared.KindsPut.{KindsPut}
-use Rattle.kind_writer.specs.declared.KindsPut.TheVariants.{Kinds, NoKinds}
 use Rattle.kind_writer.specs.inner.WalksKinds.{WalksKinds}
 use Rattle.kind_writer.proofs.KindLaws.{WentKinds, so_kinds, kinds-went, kinds-stopped}
-use Rattle.write_job.specs.declared.JobPut.{JobPut}
-use Rattle.write_job.specs.declared.JobPut.TheVariants.{Fields, NoFields}
-use Rattle.write_job.specs.declared.Reply.{Reply}
-use Rattle.write_job.specs.declared.Reply.TheVariants.{Written, Refused, ShortRoom}
+use Rattle.job_bits.specs.declared.JobError.{JobError}
+use Rattle.job_bits.specs.declared.JobError.TheVariants.{Refused, ShortRoom}
+use Rattle.job_bits.specs.Replies.{or_zeros}
+use Rattle.job_bits.proofs.Doubles.{ok-value, err-value}
 use Rattle.write_job.specs.Written.{placed, written}
 use Rattle.write_job.specs.inner.PutJob.{value_of, Fielded, PutJob, went_job, stopped_job}
 use Rattle.write_job.proofs.HeaderLaws.{Puts, number_value}
@@ -61,7 +57,7 @@ module _ (g : Header) (rows : List ℕ) (areas : List Float) (cs : List ℕ) (xs
   unfolding given_fields
   fields_are = refl
 
-  abbrev PutFields : List ℕ → JobPut → List ℕ → Type 0
+  abbrev PutFields : List ℕ → Result (BitWriter × ℕ) Refusal → List ℕ → Type 0
   PutFields out r o = PutJob (given_fields g rows areas cs xs 0 0) g cs xs out r o
 
   -- kinds of the header that was given are those of the header that was taken
@@ -73,13 +69,13 @@ module _ (g : Header) (rows : List ℕ) (areas : List Float) (cs : List ℕ) (xs
     abbrev start : Walk
     start = record { counts = 0; coordinates = 0; writer = p }
 
-    abbrev Header-put : Walked → Type 0
+    abbrev Header-put : Result Walk Refusal → Type 0
     Header-put r = Puts (given_header g) header_bits start out r o₁ 154
 
-    abbrev Sheet-put : Walk → Walked → Type 0
+    abbrev Sheet-put : Walk → Result Walk Refusal → Type 0
     Sheet-put u r = Walks (given_set cs xs u.counts u.coordinates) set_bits u o₁ r o₂ × Near u r 65 65536 4194951
 
-    abbrev Kinds-put : Walk → KindsPut → Type 0
+    abbrev Kinds-put : Walk → Result (Walk × ℕ) Refusal → Type 0
     Kinds-put v r = WalksKinds (given_kinds rows areas g.kinds 0 cs xs v.counts v.coordinates) (flat_map kind_bits) v o₂ r o₃
 
     abbrev Header-went : Walk → Type 0
@@ -88,15 +84,15 @@ module _ (g : Header) (rows : List ℕ) (areas : List Float) (cs : List ℕ) (xs
     abbrev Sheet-went : Walk → Walk → Type 0
     Sheet-went u v = Went (given_set cs xs u.counts u.coordinates) set_bits u o₁ v o₂
 
-    pub fields_bad-header : (r : Walked) (k : Refusal) → Header-put r → r ≡ Not k → PutFields out (NoFields k) o₁
+    pub fields_bad-header : (r : Result Walk Refusal) (k : Refusal) → Header-put r → r ≡ Err k → PutFields out (Err k) o₁
     fields_bad-header r k F e =
         let s = stopped_at k (F.0 cs xs) e in
         stopped_job (fields_are ∙ bad-first (given_header g cs xs 0 0) (λ h c x. after_header h c x) k s.0) s.1
 
-    pub fields_bad-sheet : (u : Walk) (r r' : Walked) (k : Refusal) → Header-put r → r ≡ On u → Sheet-put u r' → r' ≡ Not k → PutFields out (NoFields k) o₂
+    pub fields_bad-sheet : (u : Walk) (r r' : Result Walk Refusal) (k : Refusal) → Header-put r → r ≡ Ok u → Sheet-put u r' → r' ≡ Err k → PutFields out (Err k) o₂
     fields_bad-sheet u r r' k F e G f = go (went_on u (F.0 cs xs) e) (stopped_at k G.0 f)
       where
-        go : Header-went u → (given_set cs xs u.counts u.coordinates ≡ bad k) × (length o₂ ≡ length o₁) → PutFields out (NoFields k) o₂
+        go : Header-went u → (given_set cs xs u.counts u.coordinates ≡ bad k) × (length o₂ ≡ length o₁) → PutFields out (Err k) o₂
         go (so h i q) s =
             stopped_job
             (fields_are
@@ -104,12 +100,12 @@ module _ (g : Header) (rows : List ℕ) (areas : List Float) (cs : List ℕ) (xs
             ∙ bad-first (given_set cs xs u.counts u.coordinates) (λ s c x. after_sheet h s c x) k s.0)
             (s.1 ∙ q.long)
 
-    pub fields_bad-kinds : (u v : Walk) (r r' : Walked) (r'' : KindsPut) (k : Refusal) → Header-put r → r ≡ On u → Sheet-put u r' → r' ≡ On v
-        → Kinds-put v r'' → r'' ≡ NoKinds k → PutFields out (NoFields k) o₃
+    pub fields_bad-kinds : (u v : Walk) (r r' : Result Walk Refusal) (r'' : Result (Walk × ℕ) Refusal) (k : Refusal) → Header-put r → r ≡ Ok u → Sheet-put u r' → r' ≡ Ok v
+        → Kinds-put v r'' → r'' ≡ Err k → PutFields out (Err k) o₃
     fields_bad-kinds u v r r' r'' k F e G f H i = go (went_on u (F.0 cs xs) e) (went_on v G.0 f) (kinds-stopped k H i)
       where
         go : Header-went u → Sheet-went u v → (given_kinds rows areas g.kinds 0 cs xs v.counts v.coordinates ≡ bad k) × (length o₃ ≡ length o₂)
-            → PutFields out (NoFields k) o₃
+            → PutFields out (Err k) o₃
         go (so h j q) (so s l m) z =
             stopped_job
             (fields_are
@@ -119,19 +115,19 @@ module _ (g : Header) (rows : List ℕ) (areas : List Float) (cs : List ℕ) (xs
             (kinds-given h _ _ (header_was g h cs xs _ _ _ _ j) z.0))
             (z.1 ∙ m.long ∙ q.long)
 
-    pub fields_put : (u v z : Walk) (copies : ℕ) (r r' : Walked) (r'' : KindsPut) → Header-put r → r ≡ On u → Sheet-put u r' → r' ≡ On v
-        → Kinds-put v r'' → r'' ≡ Kinds z copies → PutFields out (Fields z.writer copies) o₃
+    pub fields_put : (u v z : Walk) (copies : ℕ) (r r' : Result Walk Refusal) (r'' : Result (Walk × ℕ) Refusal) → Header-put r → r ≡ Ok u → Sheet-put u r' → r' ≡ Ok v
+        → Kinds-put v r'' → r'' ≡ Ok (z, copies) → PutFields out (Ok (z.writer, copies)) o₃
     unfolding job_bits
     fields_put u v z copies r r' r'' F e G f H i = go (went_on u (F.0 cs xs) e) (went_on v G.0 f) (kinds-went z copies H i)
       where
         first : u.counts ≡ 0
-        first = omega (arith, (near_at start (On u) 0 0 154 F.1 e).0)
+        first = omega (arith, (near_at start (Ok u) 0 0 154 F.1 e).0)
 
         second : u.coordinates ≡ 0
-        second = omega (arith, (near_at start (On u) 0 0 154 F.1 e).1)
+        second = omega (arith, (near_at start (Ok u) 0 0 154 F.1 e).1)
 
         go : Header-went u → Sheet-went u v → WentKinds (given_kinds rows areas g.kinds 0 cs xs v.counts v.coordinates) v o₂ z copies o₃
-            → PutFields out (Fields z.writer copies) o₃
+            → PutFields out (Ok (z.writer, copies)) o₃
         go (so h j q) (so s l m) (so_kinds ks a b d) =
             let T = header_was g h cs xs _ _ _ _ j in
             let puts = put_then _ _ _ _ _ _ _ _ q (put_then _ _ _ _ _ _ _ _ m b) in
@@ -152,22 +148,23 @@ module _ (g : Header) (rows : List ℕ) (areas : List Float) (cs : List ℕ) (xs
 
 -- ---- the reply
 module _ (g : Header) (rows : List ℕ) (areas : List Float) (cs : List ℕ) (xs : List Float) (out : List ℕ) where
-  -- a refusal, and zeros
-  pub said_refused : (k : Refusal) (r : Reply) (o : List ℕ) → given_job g rows areas cs xs ≡ refused k → r ≡ Refused k → o ≡ replicate (length out) 0
-      → record { reply = r; out = o } ≡ written (given_job g rows areas cs xs) (length out)
-  unfolding written
-  said_refused k r o e f h = (λ i. record { reply = f i; out = h i }) ∙ ap (λ (a : Answer). written a (length out)) (sym e)
+  -- a reply, and what is left in the room with it, where refusals leave zeros
+  abbrev Replied : Result ℕ JobError → List ℕ → Type 0
+  Replied r o = record { reply = r; out = or_zeros 0 r o } ≡ written (given_job g rows areas cs xs) (length out)
 
-  abbrev Put-job : JobPut → List ℕ → Type 0
+  -- a refusal, and zeros
+  pub said_refused : (k : Refusal) (o : List ℕ) → given_job g rows areas cs xs ≡ refused k → length o ≡ length out → Replied (Err (Refused k)) o
+  unfolding written
+  said_refused k o e h =
+      ap (λ (n : ℕ). record { reply = Err (Refused k); out = replicate n 0 }) h ∙ ap (λ (a : Answer). written a (length out)) (sym e)
+
+  abbrev Put-job : Result (BitWriter × ℕ) Refusal → List ℕ → Type 0
   Put-job r o = PutJob (given_fields g rows areas cs xs 0 0) g cs xs out r o
 
-  pub job-refused : (k : Refusal) {r : JobPut} {o : List ℕ} → Put-job r o → r ≡ NoFields k → (given_job g rows areas cs xs ≡ refused k) × (length o ≡ length out)
+  pub job-refused : (k : Refusal) {r : (Result (BitWriter × ℕ) Refusal)} {o : List ℕ} → Put-job r o → r ≡ Err k → (given_job g rows areas cs xs ≡ refused k) × (length o ≡ length out)
   unfolding given_job judged
   job-refused k (went_job j c x e F) h = absurd (zero-not-one (cc))
-  job-refused k (stopped_job {k = i} e l) h = (ap judged (e ∙ ap bad (z h)), l)
-    where
-      z : {i j : Refusal} → NoFields i ≡ NoFields j → i ≡ j
-      z e = cc
+  job-refused k (stopped_job {k = i} e l) h = (ap judged (e ∙ ap bad (err-value h)), l)
 
   -- what the fields say
   pub record Put_fields (p : BitWriter) (copies : ℕ) (o : List ℕ) : Type 0 where
@@ -175,17 +172,17 @@ module _ (g : Header) (rows : List ℕ) (areas : List Float) (cs : List ℕ) (xs
     pub is : given_job g rows areas cs xs ≡ sized job
     pub fields : Fielded g cs xs out p copies o job
 
-  pub job-put : (p : BitWriter) (copies : ℕ) {r : JobPut} {o : List ℕ} → Put-job r o → r ≡ Fields p copies → Put_fields p copies o
+  pub job-put : (p : BitWriter) (copies : ℕ) {r : (Result (BitWriter × ℕ) Refusal)} {o : List ℕ} → Put-job r o → r ≡ Ok (p, copies) → Put_fields p copies o
   unfolding given_job judged
   job-put p copies {r} {o} (went_job {p = q} {copies = m} j c x e F) h =
-      subst (λ (a : BitWriter). Put_fields a copies o) (first h) (subst (λ (b : ℕ). Put_fields q b o) (second h)
+      subst (λ (a : BitWriter). Put_fields a copies o) (first (ok-value h)) (subst (λ (b : ℕ). Put_fields q b o) (second (ok-value h))
       (record { job = j; is = ap judged e; fields = F }))
     where
-      first : {a b : BitWriter} {m n : ℕ} → Fields a m ≡ Fields b n → a ≡ b
-      first e = cc
+      first : {a b : BitWriter} {m n : ℕ} → ◌≡◌ {A = BitWriter × ℕ} (a, m) (b, n) → a ≡ b
+      first e = ap (λ (p : BitWriter × ℕ). p.0) e
 
-      second : {a b : BitWriter} {m n : ℕ} → Fields a m ≡ Fields b n → m ≡ n
-      second e = cc
+      second : {a b : BitWriter} {m n : ℕ} → ◌≡◌ {A = BitWriter × ℕ} (a, m) (b, n) → m ≡ n
+      second e = ap (λ (p : BitWriter × ℕ). p.1) e
   job-put p copies (stopped_job e l) h = absurd (zero-not-one (cc))
 
   module _ (p : BitWriter) (copies : ℕ) (o : List ℕ) (F : Put_fields p copies o) where
@@ -222,36 +219,39 @@ module _ (g : Header) (rows : List ℕ) (areas : List Float) (cs : List ℕ) (xs
 
     placed_as : (b : Bool) → given_job g rows areas cs xs ≡ accepted F.job → leb (length bytes) (length out) ≡ b
         → written (given_job g rows areas cs xs) (length out)
-        ≡ cond b (record { reply = Written (length bytes); out = in_room 0 bytes (length out) }) (record { reply = ShortRoom; out = replicate (length out) 0 })
+        ≡ cond b (record { reply = Ok (length bytes); out = in_room 0 bytes (length out) }) (record { reply = Err ShortRoom; out = replicate (length out) 0 })
     unfolding written placed bytes_of
     placed_as b e f =
         ap (λ (a : Answer). written a (length out)) e
-        ∙ ap (λ (b : Bool). cond b (record { reply = Written (length bytes); out = in_room 0 bytes (length out) })
-        (record { reply = ShortRoom; out = replicate (length out) 0 })) f
+        ∙ ap (λ (b : Bool). cond b (record { reply = Ok (length bytes); out = in_room 0 bytes (length out) })
+        (record { reply = Err ShortRoom; out = replicate (length out) 0 })) f
 
     -- the bytes fit, or they do not
-    pub said_written : (n : ℕ) (o' : List ℕ) → given_job g rows areas cs xs ≡ accepted F.job → Finished_as n o' → n ≤ length o'
-        → record { reply = Written n; out = o' } ≡ written (given_job g rows areas cs xs) (length out)
+    pub said_written : (n : ℕ) (o' : List ℕ) → given_job g rows areas cs xs ≡ accepted F.job → Finished_as n o' → n ≤ length o' → Replied (Ok n) o'
     said_written n o' e E h =
         let l : length o' ≡ length out = E.2 ∙ F.fields.long in
         let k : length bytes ≤ length out = omega (arith, E.0) in
         let s : n ≤ length o = omega (arith, E.2) in
-        (λ i. record { reply = Written (E.0 i); out = (E.1 s ∙ ap (in_room 0 bytes) F.fields.long) i }) ∙ sym (placed_as true e (le-leb _ _ k))
+        (λ i. record { reply = Ok (E.0 i); out = (E.1 s ∙ ap (in_room 0 bytes) F.fields.long) i }) ∙ sym (placed_as true e (le-leb _ _ k))
 
-    pub said_short : (n : ℕ) (o' o'' : List ℕ) → given_job g rows areas cs xs ≡ accepted F.job → Finished_as n o' → length o' < n → o'' ≡ replicate (length o')
-        0
-        → record { reply = ShortRoom; out = o'' } ≡ written (given_job g rows areas cs xs) (length out)
-    said_short n o' o'' e E h z =
+    pub said_short : (n : ℕ) (o' : List ℕ) → given_job g rows areas cs xs ≡ accepted F.job → Finished_as n o' → length o' < n → Replied (Err ShortRoom) o'
+    said_short n o' e E h =
         let l : length o' ≡ length out = E.2 ∙ F.fields.long in
         let k : length out < length bytes = omega (arith, E.0) in
-        (λ i. record { reply = ShortRoom; out = (z ∙ ap (λ (m : ℕ). replicate m 0) l) i }) ∙ sym (placed_as false e (lt-leb _ _ k))
+        ap (λ (m : ℕ). record { reply = Err ShortRoom; out = replicate m 0 }) l ∙ sym (placed_as false e (lt-leb _ _ k))
 
 -- ---- room for a whole job
 pub start-ready : (p : BitWriter) → Sound p → writing.written p ≡ 0 → Ready (record { counts = 0; coordinates = 0; writer = p }) 200000 200000000 10000000000
 start-ready p S e = record { sound = S; counts = lit≤ tt; coordinates = lit≤ tt; bits = omega (arith, e) }
 
-pub header-few : (g : Header) (cs : List ℕ) (xs : List Float) {w u : Walk} {out o : List ℕ} {r : Walked}
-    → Walks (given_header g cs xs w.counts w.coordinates) header_bits w out r o → r ≡ On u → g.kinds ≤ 64
+-- after the header
+pub header-ready : (g : Header) (u : Walk) {p : BitWriter} {out o : List ℕ} → Sound p → writing.written p ≡ 0
+    → Puts (given_header g) header_bits (record { counts = 0; coordinates = 0; writer = p }) out (Ok u) o 154 → Ready u 200000 200000000 9999999846
+header-ready g u S e F =
+    ready-next u 200000 200000000 10000000000 0 0 154 (start-ready _ S e) (F.0 [] []) F.1 refl 200000 200000000 9999999846 (omega arith) (omega arith) (omega arith)
+
+pub header-few : (g : Header) (cs : List ℕ) (xs : List Float) {w u : Walk} {out o : List ℕ} {r : (Result Walk Refusal)}
+    → Walks (given_header g cs xs w.counts w.coordinates) header_bits w out r o → r ≡ Ok u → g.kinds ≤ 64
 header-few g cs xs {w} {u} {out} {o} F e = go (went_on u F e)
   where
     go : Went (given_header g cs xs w.counts w.coordinates) header_bits w out u o → g.kinds ≤ 64
@@ -260,6 +260,3 @@ header-few g cs xs {w} {u} {out} {o} F e = go (went_on u F e)
 pub kinds-room : (v : Walk) (n : ℕ) → Ready v 133120 134217728 8591266944 → n ≤ 64 → Ready v (2080 * n) (2097152 * n) (134238546 * n)
 kinds-room v n R h =
     record { sound = R.sound; counts = omega (arith, R.counts); coordinates = omega (arith, R.coordinates); bits = omega (arith, R.bits) }
-
-pub all_zeros : (m o : List ℕ) → o ≡ take 0 m ++ replicate (length m - 0) 0 → o ≡ replicate (length m) 0
-all_zeros m o e = e ∙ ap (λ (n : ℕ). replicate n 0) (sub-zero (length m))

@@ -9,41 +9,10 @@
 // those of this code.
 #![tactic(auto)]
 
-ghost use Rattle.std.specs.Prelude.{◌≤◌};
-
 use job::Header;
-use replay::records::Part;
-use replay::{edit, hash, records, show};
-
-// Number i after the first so many.
-fn number_after(from: &[u8], first: usize, i: usize) -> u64 {
-    if i < 1000000 {
-        return records::eight_at(from, records::at_most(first, 1000000) + i);
-    }
-    0
-}
-
-// The double of its bits, one for every NaN.
-fn double_after(from: &[u8], first: usize, i: usize) -> f64 {
-    edit::double(number_after(from, first, i))
-}
-
-// A table after the first so many numbers.
-fn spread(from: &[u8], first: usize, to: &mut [u64]) {
-    let mut i: usize = 0;
-    while i < to.len() {
-        to[i] = number_after(from, first, i);
-        i += 1;
-    }
-}
-
-fn spread_doubles(from: &[u8], first: usize, to: &mut [f64]) {
-    let mut i: usize = 0;
-    while i < to.len() {
-        to[i] = double_after(from, first, i);
-        i += 1;
-    }
-}
+use job_bits::JobError;
+use replay::slot::Slot;
+use replay::{edit, hash, lend, records, show};
 
 // The header, after the six numbers of four bytes.
 fn header_of(from: &[u8]) -> Header {
@@ -54,92 +23,29 @@ fn header_of(from: &[u8]) -> Header {
         kinds: records::eight_at(from, 6),
         rounds: records::eight_at(from, 7),
         seed: records::eight_at(from, 8),
-        resolution: double_after(from, 9, 0),
+        resolution: f64::of_bits(records::eight_at(from, 9)),
     }
 }
 
 // What a refused job has for a header.
-fn no_header() -> Header {
-    Header {
-        version: 0,
-        corner: 0,
-        axis: 0,
-        kinds: 0,
-        rounds: 0,
-        seed: 0,
-        resolution: 0.0,
-    }
-}
-
-// One more number of a hash.
-fn mix(h: u64, w: u64) -> u64 {
-    let mut state = h ^ w;
-    random::next_random(&mut state)
-}
+const NO_HEADER: Header = Header {
+    version: 0,
+    corner: 0,
+    axis: 0,
+    kinds: 0,
+    rounds: 0,
+    seed: 0,
+    resolution: 0.0,
+};
 
 fn hash_header(start: u64, header: Header) -> u64 {
-    let mut h = mix(start, header.version);
-    h = mix(h, header.corner);
-    h = mix(h, header.axis);
-    h = mix(h, header.kinds);
-    h = mix(h, header.rounds);
-    h = mix(h, header.seed);
-    mix(h, numbers::bits_of(header.resolution))
-}
-
-fn hash_numbers(start: u64, room: &[u64]) -> u64 {
-    let mut h = start;
-    let mut i: usize = 0;
-    while i < room.len() {
-        h = mix(h, room[i]);
-        i += 1;
-    }
-    h
-}
-
-fn wide(x: u8) -> u64 {
-    x as u64
-}
-
-// The hash of a room of bytes, which begins with its length.
-fn hash_bytes(room: &[u8]) -> u64 {
-    let mut h = room.len() as u64;
-    let mut i: usize = 0;
-    while i < room.len() {
-        h = mix(h, wide(room[i]));
-        i += 1;
-    }
-    h
-}
-
-fn spoil_numbers(room: &mut [u64], n: u64) {
-    let mut i: usize = 0;
-    while i < room.len() {
-        room[i] = n;
-        i += 1;
-    }
-}
-
-fn spoil_bytes(room: &mut [u8]) {
-    let mut i: usize = 0;
-    while i < room.len() {
-        room[i] = 165;
-        i += 1;
-    }
-}
-
-fn word(w: u64) {
-    io::write_all(1, b" ");
-    io::print_hex(1, w, 16);
-}
-
-// The bytes of a job that was written.
-fn bytes_of(r: write_job::Reply) -> usize {
-    match r {
-        write_job::Reply::Written(n) => n,
-        write_job::Reply::Refused(_) => 0,
-        write_job::Reply::ShortRoom => 0,
-    }
+    let h = hash::mix(start, header.version);
+    let h = hash::mix(h, header.corner);
+    let h = hash::mix(h, header.axis);
+    let h = hash::mix(h, header.kinds);
+    let h = hash::mix(h, header.rounds);
+    let h = hash::mix(h, header.seed);
+    hash::mix(h, header.resolution)
 }
 
 // Writes a job into a room of garbage, and prints the answer.
@@ -151,12 +57,12 @@ fn write(
     coordinates: &[f64],
     out: &mut [u8],
 ) {
-    spoil_bytes(out);
+    out.fill(165);
     let r = write_job::write_job(header, rows, areas, counts, coordinates, out);
     io::write_all(1, b"wrote ");
-    io::print_decimal(1, write_job::reply_number(r));
-    show::number(bytes_of(r));
-    word(hash_bytes(out));
+    io::print_decimal(1, job_bits::reply_number(r));
+    show::number(r.unwrap_or(0));
+    show::hash_of(out);
     show::end();
 }
 
@@ -169,13 +75,13 @@ fn write_given(
     coordinates: &mut [f64],
     out: &mut [u8],
 ) {
-    let a = 10 + records::at_most(rows.len(), 100000);
-    let b = a + records::at_most(areas.len(), 100000);
-    let c = b + records::at_most(counts.len(), 100000);
-    spread(record, 10, rows);
-    spread_doubles(record, a, areas);
-    spread(record, b, counts);
-    spread_doubles(record, c, coordinates);
+    let a = 10 + rows.len();
+    let b = a + areas.len();
+    let c = b + counts.len();
+    records::spread(record, 10, rows);
+    records::spread(record, a, areas);
+    records::spread(record, b, counts);
+    records::spread(record, c, coordinates);
     write(header_of(record), rows, areas, counts, coordinates, out);
 }
 
@@ -190,25 +96,23 @@ fn tell(
     counts: &[u64],
     coordinates: &[f64],
 ) {
-    let a = records::at_most(rows.len(), 100000) + records::at_most(areas.len(), 100000);
-    let b = records::at_most(counts.len(), 100000) + records::at_most(coordinates.len(), 100000);
-    let n = 7 + a + b;
-    let mut h = hash_header(n as u64, header);
-    h = hash_numbers(h, rows);
-    h = hash::doubles(h, areas);
-    h = hash_numbers(h, counts);
-    h = hash::doubles(h, coordinates);
+    let n = 7 + rows.len() + areas.len() + counts.len() + coordinates.len();
+    let h = hash_header(n as u64, header);
+    let h = hash::slots(h, rows);
+    let h = hash::slots(h, areas);
+    let h = hash::slots(h, counts);
+    let h = hash::slots(h, coordinates);
     io::write_all(1, b"read ");
     io::print_decimal(1, number);
     show::number(counted);
     show::number(measured);
-    word(h);
+    show::word(h);
     show::end();
 }
 
 // Prints what was read, and writes the job again.
 fn write_read(
-    r: read_tables::Reply,
+    r: Result<(Header, usize, usize), JobError>,
     rows: &[u64],
     areas: &[f64],
     counts: &[u64],
@@ -216,25 +120,28 @@ fn write_read(
     out: &mut [u8],
 ) {
     match r {
-        read_tables::Reply::Tables(header, n, m) => {
+        Ok((header, n, m)) => {
             tell(0, header, n, m, rows, areas, counts, coordinates);
             write(header, rows, areas, counts, coordinates, out);
         }
-        read_tables::Reply::Refused(k) => {
-            let number = bits::refusal_number(k);
-            tell(number, no_header(), 0, 0, rows, areas, counts, coordinates);
-        }
-        read_tables::Reply::ShortRoom => {
-            tell(28, no_header(), 0, 0, rows, areas, counts, coordinates);
-        }
+        Err(_) => tell(
+            job_bits::reply_number(r),
+            NO_HEADER,
+            0,
+            0,
+            rows,
+            areas,
+            counts,
+            coordinates,
+        ),
     }
 }
 
 // Garbage in the rooms for tables.
 fn spoil_tables(rows: &mut [u64], areas: &mut [f64], counts: &mut [u64], coordinates: &mut [f64]) {
-    spoil_numbers(rows, 1);
+    rows.fill(1);
     edit::spoil(areas, 0, 2);
-    spoil_numbers(counts, 3);
+    counts.fill(3);
     edit::spoil(coordinates, 0, 4);
 }
 
@@ -270,77 +177,23 @@ fn answer_in(
     }
 }
 
-// How many of a room's slots are lent: number a of the record, at most all.
-fn lent(record: &[u8], a: usize, most: usize) -> usize
-    ensures { result ≤ most }
-{
-    records::at_most(records::four_at(record, a), most)
-}
-
-// Prints the answer to the record that the first n bytes are.
+// Prints the answer to a record, in the rooms that are lent.
 fn answer(
-    room: &[u8],
-    n: usize,
-    rows: &mut [u64],
-    areas: &mut [f64],
-    counts: &mut [u64],
-    coordinates: &mut [f64],
-    out: &mut [u8],
-) -> bool {
-    if room.len() < n {
-        return false;
-    }
-    let a = lent(room, 1, rows.len());
-    let b = lent(room, 2, areas.len());
-    let c = lent(room, 3, counts.len());
-    let d = lent(room, 4, coordinates.len());
-    let e = lent(room, 5, out.len());
-    answer_in(
-        &room[..n],
-        &mut rows[..a],
-        &mut areas[..b],
-        &mut counts[..c],
-        &mut coordinates[..d],
-        &mut out[..e],
-    );
-    true
-}
-
-// Whether there was one more record; its answer is printed.
-fn replay(
-    room: &mut [u8],
-    rows: &mut [u64],
-    areas: &mut [f64],
-    counts: &mut [u64],
-    coordinates: &mut [f64],
-    out: &mut [u8],
-) -> bool {
-    let Part::Bytes(n) = records::read_label(room) else {
-        return false;
-    };
-    records::print_label(room, n);
-    let Part::Bytes(m) = records::read_job(room) else {
-        return false;
-    };
-    answer(room, m, rows, areas, counts, coordinates, out)
-}
-
-fn replay_all(
-    room: &mut [u8],
+    record: &[u8],
     rows: &mut [u64],
     areas: &mut [f64],
     counts: &mut [u64],
     coordinates: &mut [f64],
     out: &mut [u8],
 ) {
-    let mut turns: usize = 0;
-    while turns < 1000000 {
-        if replay(room, rows, areas, counts, coordinates, out) {
-            turns += 1;
-        } else {
-            return;
-        }
-    }
+    answer_in(
+        record,
+        lend::lent_mut(rows, records::four_at(record, 1)),
+        lend::lent_mut(areas, records::four_at(record, 2)),
+        lend::lent_mut(counts, records::four_at(record, 3)),
+        lend::lent_mut(coordinates, records::four_at(record, 4)),
+        lend::lent_mut(out, records::four_at(record, 5)),
+    );
 }
 
 // Rooms for a job of 64 kinds with 16 orientations each.
@@ -351,12 +204,14 @@ fn main() {
     let mut counts = [0u64; 4300];
     let mut coordinates = [0.0; 16400];
     let mut out = [0u8; 140000];
-    replay_all(
-        &mut room,
-        &mut rows,
-        &mut areas,
-        &mut counts,
-        &mut coordinates,
-        &mut out,
-    );
+    records::answer_all(&mut room, |record| {
+        answer(
+            record,
+            &mut rows,
+            &mut areas,
+            &mut counts,
+            &mut coordinates,
+            &mut out,
+        );
+    });
 }

@@ -14,72 +14,36 @@ loop-i-init c = let a = c.args in (
   refl,
 )
 
-pub offset_bounds-placed_of-k : goal.offset_bounds-placed_of-k
-offset_bounds-placed_of-k c = let l = c.loop-i in
-    let b = c.requires.2 l.i c.loop-i-test.true in
-    let u = l.invariant.1.long in
-    omega arith
-
-pub bounds-placed_of-k : goal.bounds-placed_of-k
-bounds-placed_of-k c = let l = c.loop-i in
-    let b = c.requires.2 l.i c.loop-i-test.true in
-    let u = l.invariant.1.long in
-    omega arith
-
 pub overflow_add-placed_of : goal.overflow_add-placed_of
 overflow_add-placed_of c = let l = c.loop-i in
     let a = c.args in
-    let b = c.requires.2 l.i c.loop-i-test.true in
+    let b = c.requires.2 l.i (omega arith) in
     let e = c.stands-s.ensures in
     let m = stands-most (get_or a.orientation.now l.i 0) in
     let g = counted-most (stands_in a.orientation.now) a.order.now l.placed_of l.i l.invariant.1 (λ i. stands-most (get_or a.orientation.now i 0)) (get_or a.order.now l.i 0) b in
     omega arith
 
-pub bounds-placed_of-k-in-loop-i : goal.bounds-placed_of-k-in-loop-i
-bounds-placed_of-k-in-loop-i c = let l = c.loop-i in
-    let b = c.requires.2 l.i c.loop-i-test.true in
-    let u = l.invariant.1.long in
-    omega arith
-
 pub overflow_sub-unplaced_of : goal.overflow_sub-unplaced_of
 overflow_sub-unplaced_of c = let l = c.loop-i in
     let a = c.args in
-    let b = c.requires.2 l.i c.loop-i-test.true in
+    let b = c.requires.2 l.i (omega arith) in
     let e = c.stands-s.ensures in
     let m = stands-most (get_or a.orientation.now l.i 0) in
-    omega arith
-
-pub offset_bounds-unplaced_of-k : goal.offset_bounds-unplaced_of-k
-offset_bounds-unplaced_of-k c = let l = c.loop-i in
-    let b = c.requires.2 l.i c.loop-i-test.true in
-    let u = l.invariant.2.long in
-    omega arith
-
-pub bounds-unplaced_of-k : goal.bounds-unplaced_of-k
-bounds-unplaced_of-k c = let l = c.loop-i in
-    let b = c.requires.2 l.i c.loop-i-test.true in
-    let u = l.invariant.2.long in
     omega arith
 
 pub overflow_add-unplaced_of : goal.overflow_add-unplaced_of
 overflow_add-unplaced_of c = let l = c.loop-i in
     let a = c.args in
-    let b = c.requires.2 l.i c.loop-i-test.true in
+    let b = c.requires.2 l.i (omega arith) in
     let e = c.stands-s.ensures in
     let m = stands-most (get_or a.orientation.now l.i 0) in
     let g = counted-most (misses_in a.orientation.now) a.order.now l.unplaced_of l.i l.invariant.2 (λ i. misses-most (get_or a.orientation.now i 0)) (get_or a.order.now l.i 0) b in
     omega arith
 
-pub bounds-unplaced_of-k-in-loop-i : goal.bounds-unplaced_of-k-in-loop-i
-bounds-unplaced_of-k-in-loop-i c = let l = c.loop-i in
-    let b = c.requires.2 l.i c.loop-i-test.true in
-    let u = l.invariant.2.long in
-    omega arith
-
 pub overflow_add-placed : goal.overflow_add-placed
 overflow_add-placed c = let l = c.loop-i in
     let a = c.args in
-    let b = c.requires.2 l.i c.loop-i-test.true in
+    let b = c.requires.2 l.i (omega arith) in
     let e = c.stands-s.ensures in
     let m = stands-most (get_or a.orientation.now l.i 0) in
     let y = l.invariant.3 in
@@ -87,24 +51,18 @@ overflow_add-placed c = let l = c.loop-i in
     omega arith
 
 pub loop-i-preserved : goal.loop-i-preserved
-loop-i-preserved c = let l = c.loop-i in let p = c.requires in let a = c.args in let t = c.loop-i-test.true in let e = c.stands-s.ensures in (
+loop-i-preserved c = let l = c.loop-i in let p = c.requires in let a = c.args in let e = c.stands-s.ensures in (
   omega arith,
-  counted_next (stands_in a.orientation.now) a.order.now l.placed_of l.i c.stands-s.result l.invariant.1 (p.2 l.i t) e,
-  counted_next (misses_in a.orientation.now) a.order.now l.unplaced_of l.i (1 - c.stands-s.result) l.invariant.2 (p.2 l.i t) (ap (λ (n : ℕ). 1 - n) e ∙ misses-rest (get_or a.orientation.now l.i 0)),
+  counted_next (stands_in a.orientation.now) a.order.now l.placed_of l.i c.stands-s.result l.invariant.1 (p.2 l.i (omega arith)) e,
+  counted_next (misses_in a.orientation.now) a.order.now l.unplaced_of l.i (1 - c.stands-s.result) l.invariant.2 (p.2 l.i (omega arith)) (ap (λ (n : ℕ). 1 - n) e ∙ misses-rest (get_or a.orientation.now l.i 0)),
   ap₂ ◌+◌ l.invariant.3 e ∙ sym (sum-next (stands_in a.orientation.now) l.i),
   simp length-set l.invariant.4,
   simp length-set l.invariant.5,
 )
 
-pub shape_of-placed_of : goal.shape_of-placed_of
-shape_of-placed_of c = c.loop-i.invariant.4
-
-pub shape_of-unplaced_of : goal.shape_of-unplaced_of
-shape_of-unplaced_of c = c.loop-i.invariant.5
-
 pub returns : goal.returns
 returns c = let l = c.loop-i in let a = c.args in
-    let e : l.i ≡ a.n = let t = c.loop-i-test.false in let g = l.invariant.0 in omega arith in (
+    let e : l.i ≡ a.n = let g = l.invariant.0 in omega arith in (
       l.invariant.3 ∙ ap (sum_to (stands_in a.orientation.now)) e,
       counted-table (stands_in a.orientation.now) a.order.now l.placed_of l.i l.invariant.1 ∙ ap (λ (n : ℕ). by_kind (λ k. kind_to (stands_in a.orientation.now) a.order.now k n)) e,
       counted-table (misses_in a.orientation.now) a.order.now l.unplaced_of l.i l.invariant.2 ∙ ap (λ (n : ℕ). by_kind (λ k. kind_to (misses_in a.orientation.now) a.order.now k n)) e,

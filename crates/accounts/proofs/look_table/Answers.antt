@@ -1,5 +1,5 @@
 -- `accounts::look_table` meets its contract: the slots before i are filled. Assumes nothing.
-use Rattle.std.proofs.Common.{sym, ◌∙◌, arith, length-set}
+use Rattle.std.proofs.Common.{arith, length-set}
 use Rattle.numbers.proofs.Truth.{not-below-zero}
 use Rattle.accounts.specs.inner.Counting.{look_in}
 use Rattle.accounts.proofs.Looks.{table-next, table-end}
@@ -9,21 +9,15 @@ pub loop-i-init : goal.loop-i-init
 loop-i-init c = (omega arith, c.requires.3, λ q h. absurd (not-below-zero q h))
 
 pub look_count-requires : goal.look_count-requires
-look_count-requires c = let l = c.loop-i in let p = c.requires in (p.0, p.1, let t = c.loop-i-test.true in omega arith)
-
-pub bounds-table-i : goal.bounds-table-i
-bounds-table-i c = let l = c.loop-i in let u = l.invariant.1 in let t = c.loop-i-test.true in omega arith
+look_count-requires c = let l = c.loop-i in let p = c.requires in (p.0, p.1, omega arith)
 
 pub loop-i-preserved : goal.loop-i-preserved
-loop-i-preserved c = let l = c.loop-i in let a = c.args in let t = c.loop-i-test.true in (
+loop-i-preserved c = let l = c.loop-i in let a = c.args in (
   omega arith,
   simp length-set l.invariant.1,
   table-next (look_in a.rows.now a.kinds a.look_counts.now) l.table l.i c.look_count.result (let u = l.invariant.1 in omega arith) c.look_count.ensures l.invariant.2,
 )
 
-pub shape_of-table : goal.shape_of-table
-shape_of-table c = c.loop-i.invariant.1 ∙ sym c.requires.3
-
 pub returns : goal.returns
-returns c = let l = c.loop-i in let a = c.args in let t = c.loop-i-test.false in
+returns c = let l = c.loop-i in let a = c.args in
     table-end (look_in a.rows.now a.kinds a.look_counts.now) l.table l.invariant.1 (λ q h. l.invariant.2 q (omega arith))

@@ -76,8 +76,14 @@ counted-end order m i counts h c k l =
     none (a ∷ ls) z = absurd (omega arith)
 
 -- a count has room for one more
-pub counted-small : (order : List ℕ) (m i : ℕ) (counts : List ℕ) → CountedTo order m i counts → (k : ℕ) → k < m → get_or counts k 0 ≤ length order
+counted-small : (order : List ℕ) (m i : ℕ) (counts : List ℕ) → CountedTo order m i counts → (k : ℕ) → k < m → get_or counts k 0 ≤ length order
 counted-small order m i counts c k l = let a = c.all k l in let b = count_most k order in omega arith
+
+pub counted-room : (order : List ℕ) (m i : ℕ) (counts : List ℕ) (x : ℕ) → get_or order i 0 ≡ x → i < length order → x < m → CountedTo order m i counts → get_or counts x 0 + 1 ≤ length order
+counted-room order m i counts x r h l c =
+    let n = counted-small order m (i + 1) (set counts x (get_or counts x 0 + 1)) (counted_in_lem order m i counts x r h l c) x l in
+    let s = get_or-set_same counts x (get_or counts x 0 + 1) 0 (let z = c.size in omega arith) in
+    omega arith
 
 -- ---- the counts against the quantities
 

@@ -12,13 +12,11 @@ returns-then-number-eq0 c = let a = c.args in (
 )
 
 pub store_position-requires : goal.store_position-requires
-store_position-requires c = let c7 = c in
-    let a = c7.args in let e = stands-some a.number c.if-number-eq0.false in let p = c7.requires.2 in omega arith
+store_position-requires c = let a = c.args in let e = stands-some a.number c.if-number-eq0.false in let p = c.requires.2 in omega arith
 
 pub returns : goal.returns
-returns c = let c10 = c in
-    let a = c10.args in let h = c.if-number-eq0.false in (
-      put_some a.copies.now a.k a.number h,
-      c.store_position.ensures ∙ put-some-room a.room.now (get_or a.starts.now a.k 0 + get_or a.copies.now a.k 0) a.k
-          (get_or a.copies.now a.k 0) a.number a.x a.y a.gap h,
-    )
+returns c = let a = c.args in let h = c.if-number-eq0.false in (
+  put_some a.copies.now a.k a.number h,
+  c.store_position.ensures ∙ put-some-room a.room.now (get_or a.starts.now a.k 0 + get_or a.copies.now a.k 0) a.k
+      (get_or a.copies.now a.k 0) a.number a.x a.y a.gap h,
+)

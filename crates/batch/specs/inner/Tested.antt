@@ -1,10 +1,9 @@
 -- For inner functions' contracts only: 31 is tested in full before the first copy, and after each copy of what it wrote. That this is n single
 -- calls is proved in proofs/. Definitions only. Assumes nothing.
-use Rattle.std.specs.Prelude.{ℕ, zero, suc, ◌+◌, ◌*◌, ◌≡◌, Bool, true, false, ◌&&◌, List, [], length, get_or, drop, Float}
+use Rattle.std.specs.Prelude.{Ok, Err, ℕ, zero, suc, ◌+◌, ◌*◌, ◌≡◌, Bool, true, false, ◌&&◌, List, [], length, get_or, drop, Float}
 use Rattle.job.specs.Jobs.{Job}
 use Rattle.filling.specs.declared.State.{State}
 use Rattle.filling.specs.declared.Refusal.TheVariants as Why
-use Rattle.filling.specs.declared.Verdict.TheVariants.{Accepted, Refused}
 use Rattle.filling.specs.Shapes.{Standing}
 use Rattle.filling.specs.Rooms.{Rooms}
 use Rattle.filling.specs.State.{planner_at, stands_at, tracks_of}
@@ -33,12 +32,12 @@ step_tested j s w intervals true = core_step j s w intervals
 
 -- n steps so
 unfoldable pub tested_from : Job → ℕ → State → Rooms → List Float → Bool → Batch
-tested_from j zero s w intervals fits = none_taken Accepted s w intervals
+tested_from j zero s w intervals fits = none_taken (Ok tt) s w intervals
 tested_from j (suc n) s w intervals fits =
     let r = step_tested j s w intervals fits in
     elim r.verdict [
-      | Accepted ↦ one_more (tested_from j n r.state r.rooms r.intervals (copy_fits j s.taken s.placed_strips r.state r.rooms))
-      | Refused k ↦ none_taken (Refused k) r.state r.rooms r.intervals
+      | Ok tt ↦ one_more (tested_from j n r.state r.rooms r.intervals (copy_fits j s.taken s.placed_strips r.state r.rooms))
+      | Err k ↦ none_taken (Err k) r.state r.rooms r.intervals
     ]
 
 -- m copies more, before those

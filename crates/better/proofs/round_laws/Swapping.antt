@@ -9,6 +9,8 @@ use lib.ListN.{length, get_or, set, length-set}
 use lib.Seq.{get_or-set_same, get_or-set_other, ext_get_or}
 use lib.Dec.{eqb}
 use borrow.Author.Tests.{eqb-true, eqb-false}
+use Rattle.std.specs.List.{swap}
+use Rattle.std.proofs.lemmas.List.Edits.{swap_is}
 use Rattle.job.specs.Jobs.{Job}
 use Rattle.filling.specs.Order.{rearranged}
 use Rattle.nesting.specs.Rounds.{swapped}
@@ -19,6 +21,11 @@ fits e f h = omega arith
 
 pub few-enough : {b m n : ℕ} → b ≡ 0 → m ≤ n → n < 2 ^ 64 → b + m < 2 ^ 64
 few-enough e h g = omega arith
+
+-- what std's swap leaves
+pub swapped_is : (order now : List ℕ) (a b : ℕ) → a < length order → b < length order → now ≡ swap order a b → now ≡ swapped a b order
+unfolding swapped
+swapped_is order now a b h g e = e ∙ sym (swap_is order a b 0 h g)
 
 module _ (a b : ℕ) where
   at_second : (l : List ℕ) → b < length l → get_or (swapped a b l) b 0 ≡ get_or l a 0

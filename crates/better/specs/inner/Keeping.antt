@@ -1,7 +1,6 @@
 -- For inner functions' contracts only: the filling that is kept, as it lies in two tables. Definitions only. Assumes nothing.
-use Rattle.std.specs.Prelude.{ℕ, ◌*◌, List, length, take, drop, Float}
-use Rattle.filling.specs.declared.Verdict.{Verdict}
-use Rattle.filling.specs.declared.Verdict.TheVariants.{Accepted, Refused}
+use Rattle.std.specs.Prelude.{Result, Ok, Err, ℕ, ◌*◌, List, length, take, drop, Float}
+use Rattle.filling.specs.declared.Refusal.{Refusal}
 use Rattle.filling.specs.Shapes.{Planner}
 use Rattle.rooms.specs.tracks.inner.Tracks.{next_columns, look_counts_from, orientations, xs, ys, gaps, track_numbers, spot_numbers}
 use Rattle.filling_laws.specs.fill_laws.inner.Prepared.{state_by}
@@ -17,11 +16,6 @@ kept_by b p order next looks orientation x y gap =
       state = state_by p order (length order) next looks b.totals orientation x y gap;
       improvements = b.improvements;
     }
-
--- what is kept, or the refusal that ends the rounds
-abbrev pub swaps_by : Verdict → Best → Planner → List ℕ → List ℕ → List ℕ → List ℕ → List Float → List Float → List Float → Swaps
-swaps_by Accepted b p order next looks orientation x y gap = kept (kept_by b p order next looks orientation x y gap)
-swaps_by (Refused k) b p order next looks orientation x y gap = ended k
 
 -- half h of a table with w numbers to a half
 unfoldable pub half : {A : Type 0} → ℕ → ℕ → List A → List A
@@ -40,7 +34,7 @@ kept_in b p order tracks spots =
     kept_by b p order (next_columns (kept_tracks b tracks)) (look_counts_from (kept_tracks b tracks)) (orientations (kept_tracks b tracks))
     (xs (kept_spots b spots)) (ys (kept_spots b spots)) (gaps (kept_spots b spots))
 
-abbrev pub swaps_in : Verdict → Best → Planner → List ℕ → List ℕ → List Float → Swaps
-swaps_in v b p order tracks spots =
-    swaps_by v b p order (next_columns (kept_tracks b tracks)) (look_counts_from (kept_tracks b tracks)) (orientations (kept_tracks b tracks))
-    (xs (kept_spots b spots)) (ys (kept_spots b spots)) (gaps (kept_spots b spots))
+-- what is kept, or the refusal that ends the rounds
+abbrev pub swaps_in : Result Best Refusal → Planner → List ℕ → List ℕ → List Float → Swaps
+swaps_in (Ok b) p order tracks spots = kept (kept_in b p order tracks spots)
+swaps_in (Err k) p order tracks spots = ended k

@@ -14,12 +14,12 @@ pub loop-left-preserved : goal.loop-left-preserved
 loop-left-preserved c = (
   omega (arith, c.loop-left.invariant.0),
   c.put_some-q.ensures.sound,
-  bits_on _ _ _ _ _ _ _ _ _ _ c.loop-left.invariant.2 c.put_some-q.ensures c.loop-left.invariant.0 (omega (arith, c.least-k.ensures)),
+  bits_on _ _ _ _ _ _ _ _ _ _ c.loop-left.invariant.2 c.put_some-q.ensures c.loop-left.invariant.0 (omega (arith, c.min-k.ensures)),
   omega (
     arith,
     c.put_some-q.ensures.count,
     c.loop-left.invariant.3,
-    c.least-k.ensures,
-    binary-length c.least-k.result (c.args.n / 2 ^ (c.loop-left.left - c.least-k.result)),
+    c.min-k.ensures,
+    binary-length c.min-k.result (c.args.n / 2 ^ (c.loop-left.left - c.min-k.result)),
   ),
 )

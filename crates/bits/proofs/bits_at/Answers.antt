@@ -6,23 +6,18 @@ use Rattle.bits.proofs.Taking.{going_start, going_on, field-zero, room_now}
 use Rattle.bits.proofs.bits_at.Goals as goal
 
 pub loop-left-init : goal.loop-left-init
-loop-left-init c = let c1 = c in
-    going_start c1.args.bytes.now c1.args.at c1.args.n (omega arith)
+loop-left-init c = going_start c.args.bytes.now c.args.at c.args.n (omega arith)
 
 pub joined-acc-requires : goal.joined-acc-requires
-joined-acc-requires c = let c4 = c in
-    (omega arith, omega arith, room_now c4.loop-left.acc c4.loop-left.left c.least-k.result (2 ^ 64) c4.loop-left.invariant.room (omega arith))
+joined-acc-requires c = (omega arith, omega arith, room_now c.loop-left.acc c.loop-left.left c.min-k.result (2 ^ 64) c.loop-left.invariant.room (omega arith))
 
 pub loop-left-preserved : goal.loop-left-preserved
-loop-left-preserved c = let c3 = c in
-    let c5 = c3 in
-    going_on c3.least-k.result (8 - c5.loop-left.p % 8 - c3.least-k.result) c.joined-acc.result c5.loop-left.invariant (omega arith) (omega arith)
-    (c.joined-acc.ensures ∙ ap (λ (b : ℕ). c5.loop-left.acc * 2 ^ c3.least-k.result + b / 2 ^ (8 - c5.loop-left.p % 8 - c3.least-k.result) % 2 ^ c3.least-k.result)
-    c.wide.ensures)
+loop-left-preserved c =
+    going_on c.min-k.result (8 - c.loop-left.p % 8 - c.min-k.result) c.joined-acc.result c.loop-left.invariant (omega arith) (omega arith)
+    (c.joined-acc.ensures ∙ ap (λ (b : ℕ). c.loop-left.acc * 2 ^ c.min-k.result + b / 2 ^ (8 - c.loop-left.p % 8 - c.min-k.result) % 2 ^ c.min-k.result) c.from.ensures)
 
 pub returns : goal.returns
-returns c = let c1 = c in
-    let c3 = c1 in
-    let z : c1.loop-left.left ≡ 0 = omega arith in
-    sym (field-zero c3.args.bytes.now c1.loop-left.p c1.loop-left.acc) ∙ ap (λ (w : ℕ). field_at c3.args.bytes.now c1.loop-left.p w c1.loop-left.acc)
-    (sym z) ∙ c1.loop-left.invariant.same
+returns c =
+    let z : c.loop-left.left ≡ 0 = omega arith in
+    sym (field-zero c.args.bytes.now c.loop-left.p c.loop-left.acc) ∙ ap (λ (w : ℕ). field_at c.args.bytes.now c.loop-left.p w c.loop-left.acc) (sym z)
+    ∙ c.loop-left.invariant.same

@@ -9,4 +9,4 @@ pub returns : goal.returns
 unfolding sheet_index
 returns c = let t = c.args.tables in
     ap {B = Grid} (λ (i : Index). record { index = i; bounds = t.sheet_bounds; resolution = t.resolution; apart_strips = t.apart_strips })
-    c.new-index.ensures
+    c.new.ensures

@@ -1,26 +1,22 @@
 -- For inner functions' contracts only: the choice among orientations in the code's order, over the rooms and the tables by slot. That it is
 -- the choice of the definition of filling is proved in proofs/. Definitions only. Assumes nothing.
-use Rattle.std.specs.Prelude.{ℕ, zero, suc, ◌+◌, ◌*◌, ◌≤◌, Bool, true, false, ◌&&◌, ◌||◌, List, length, get_or, take, drop, Float}
+use Rattle.std.specs.Prelude.{Option, Some, None, Result, Ok, Err, ℕ, zero, suc, ◌+◌, ◌*◌, ◌≤◌, Bool, true, false, ◌&&◌, ◌||◌, List, length, get_or, take, drop, Float}
 use Rattle.std.specs.Float.{nan}
 use Rattle.std.specs.Float.Ieee.{lt, eq}
 use Rattle.numbers.specs.Numbers.{◌⊕◌}
 use Rattle.trapezoid.specs.Strip.{part_of}
 use Rattle.strips.specs.declared.Rect.{Rect}
 use Rattle.index.specs.declared.Index.{Index}
+use Rattle.index.specs.declared.Overrun.{Overrun}
 use Rattle.filling.specs.declared.Tables.{Tables}
 use Rattle.filling.specs.Consistent.{sheet_index}
-use Rattle.look.specs.declared.Answer.{Answer}
 use Rattle.look.specs.inner.Ready.{Lookable}
 use Rattle.search.specs.declared.columns.Columns.{Columns}
 use Rattle.search.specs.columns.inner.Stands.{columns_of, column_x, last_of}
-use Rattle.search.specs.declared.Found.{Found}
-use Rattle.search.specs.declared.Found.TheVariants as Founds
-use Rattle.search.specs.inner.Searching.{answer_at, Tracked, search_of}
+use Rattle.search.specs.inner.Searching.{Answer, Found, answer_at, Tracked, search_of}
 use Rattle.choose.specs.declared.Grid.{Grid}
 use Rattle.choose.specs.declared.Part.{Part}
 use Rattle.choose.specs.declared.Choice.{Choice}
-use Rattle.choose.specs.declared.Winner.{Winner}
-use Rattle.choose.specs.declared.Winner.TheVariants.{At, Nowhere, Overflow}
 
 -- ---- by slot, four numbers each
 unfoldable pub bounds_at : List Float → ℕ → Rect
@@ -42,27 +38,31 @@ apart_part p room = part_of room p.apart_start p.apart_count
 
 -- ---- which wins
 
+-- the choice that wins, or none; or that a look's intervals exceed the room
+abbrev pub Winner : Type 0
+Winner = Result (Option Choice) Overrun
+
 -- what orientation o found
 abbrev pub winner_of : Columns → Rect → ℕ → Found → Winner
-winner_of k b o (Founds.At c y g) = At (record { orientation = o; x = column_x k c; y = y; gap = g; right = column_x k c ⊕ b.right; top = y ⊕ b.top })
-winner_of k b o Founds.Nowhere = Nowhere
-winner_of k b o Founds.Overflow = Overflow
+winner_of k b o (Ok (Some (c, y, g))) = Ok (Some (record { orientation = o; x = column_x k c; y = y; gap = g; right = column_x k c ⊕ b.right; top = y ⊕ b.top }))
+winner_of k b o (Ok None) = Ok None
+winner_of k b o (Err r) = Err r
 
 unfoldable pub wins_of : Choice → Choice → Bool
 wins_of a b = lt a.right b.right || eq a.right b.right && lt a.top b.top
 
 unfoldable pub first_of : Choice → Choice → Winner
-first_of a b = elim (wins_of b a) [ true ↦ At b | false ↦ At a ]
+first_of a b = elim (wins_of b a) [ true ↦ Ok (Some b) | false ↦ Ok (Some a) ]
 
 abbrev pub against_of : Choice → Winner → Winner
-against_of a (At b) = first_of a b
-against_of a Nowhere = At a
-against_of a Overflow = Overflow
+against_of a (Ok (Some b)) = first_of a b
+against_of a (Ok None) = Ok (Some a)
+against_of a (Err r) = Err r
 
 abbrev pub better_of : Winner → Winner → Winner
-better_of (At a) next = against_of a next
-better_of Nowhere next = next
-better_of Overflow next = Overflow
+better_of (Ok (Some a)) next = against_of a next
+better_of (Ok None) next = next
+better_of (Err r) next = Err r
 
 -- ---- what a copy's search reads: the interval room's capacity, the sheet's bounds, the resolution, the tables by slot, the strips' rooms
 pub record Surroundings : Type 0 where

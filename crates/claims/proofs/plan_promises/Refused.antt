@@ -1,4 +1,6 @@
 -- A whole plan is refused exactly where a line of the tables holds, with the number first met. Assumes nothing.
+use Rattle.std.specs.Prelude.{Result, Ok, Err}
+use Rattle.filling.specs.declared.Refusal.{Refusal}
 use Prim.Native.Nat.{ℕ, zero, suc, ◌%◌}
 use mathlib.Core.Path.{◌≡◌, refl, sym, ap, ◌∙◌}
 use mathlib.Core.Bool.{Bool, true, false}
@@ -8,8 +10,6 @@ use lib.Dec.{leb, ltb}
 use Rattle.random.specs.SplitMix64.{next_state, mixed}
 use Rattle.job.specs.Jobs.{Job, Answer, accepted, refused, read_job}
 use Rattle.filling.specs.declared.Refusal.TheVariants as Why
-use Rattle.filling.specs.declared.Verdict.{Verdict}
-use Rattle.filling.specs.declared.Verdict.TheVariants.{Accepted, Refused}
 use Rattle.filling.specs.Refusals.{refuse_if}
 use Rattle.filling.specs.Shapes.{planner_of}
 use Rattle.filling.specs.Rooms.{Lent, position_capacity}
@@ -23,13 +23,13 @@ use Rattle.claims.proofs.plan_promises.Demand1.{nest_stops, nest_runs}
 use Rattle.nesting.specs.RefusalLines.{round_lines, rounds_lines, search_lines, nest_lines}
 
 -- what the swap search is refused with
-abbrev swaps_verdict : Swaps → Verdict
-swaps_verdict (kept q) = Accepted
-swaps_verdict (ended r) = Refused r
+abbrev swaps_verdict : Swaps → Result (Unit {0}) Refusal
+swaps_verdict (kept q) = Ok tt
+swaps_verdict (ended r) = Err r
 
-none_later : (v : Verdict) → v ≡ or_later v Accepted
-none_later Accepted = refl
-none_later (Refused k) = refl
+none_later : (v : Result (Unit {0}) Refusal) → v ≡ or_later v (Ok tt)
+none_later (Ok tt) = refl
+none_later (Err k) = refl
 
 judged-verdict : (random : ℕ) (order : List ℕ) (q : Kept) (f : Filling) → swaps_verdict (judged random order q f) ≡ filling_verdict f
 unfolding judged
@@ -40,7 +40,7 @@ judged-verdict random order q (filled s) = go (better_than s.layout q.state.layo
         → swaps_verdict (elim t [
           | true ↦ kept (record { random = random; order = order; state = s; improvements = suc q.improvements })
           | false ↦ kept (record { random = random; order = q.order; state = q.state; improvements = q.improvements })
-        ]) ≡ Accepted
+        ]) ≡ Ok tt
     go true = refl
     go false = refl
 
@@ -112,13 +112,13 @@ module _ (j : Job) (l : Lent) where
   unfolding nest_lines not_planned
   nest_met = go (nest_verdict j l) refl ∙ sym (met_append (position_line j l ∷ prepare_lines (planner_of j) l.rooms) (search_lines j l))
     where
-      later : Verdict
+      later : Result (Unit {0}) Refusal
       later = first_met (search_lines j l)
 
-      go : (v : Verdict) → nest_verdict j l ≡ v → (nest_job j l).verdict ≡ or_later (first_met (position_line j l ∷ prepare_lines (planner_of j) l.rooms)) later
-      go Accepted d =
+      go : (v : Result (Unit {0}) Refusal) → nest_verdict j l ≡ v → (nest_job j l).verdict ≡ or_later (first_met (position_line j l ∷ prepare_lines (planner_of j) l.rooms)) later
+      go (Ok tt) d =
           ap (λ r. r.verdict) (nest_runs j l d) ∙ nested-verdict (swap_search j l) ∙ search_met ∙ ap (λ v. or_later v later) (sym d ∙ before_met)
-      go (Refused k) d = ap (λ r. r.verdict) (nest_stops j l k d) ∙ ap (λ v. or_later v later) (sym d ∙ before_met)
+      go (Err k) d = ap (λ r. r.verdict) (nest_stops j l k d) ∙ ap (λ v. or_later v later) (sym d ∙ before_met)
 
 -- "A call is refused exactly where a line of the tables holds for it, with the number first met": a job that is refused has its own number
 pub nest_refused_where : (bytes : List ℕ) (l : Lent) → (nest_of bytes l).verdict ≡ first_met (given_lines (read_job bytes) (λ j. nest_lines j l))

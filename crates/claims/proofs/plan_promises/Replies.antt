@@ -1,4 +1,5 @@
 -- What a start, a filling and a whole plan reply and leave: the number alone and zeros, or the state, the filling, the plan that is kept. Assumes nothing.
+use Rattle.std.specs.Prelude.{Result, Ok, Err}
 use Prim.Native.Nat.{ℕ}
 use mathlib.Core.Path.{◌≡◌, refl, sym, ap, ◌∙◌}
 use mathlib.Core.List.{List}
@@ -6,8 +7,6 @@ use Rattle.job.specs.Jobs.{Job, Answer, accepted, refused, read_job}
 use Rattle.filling.specs.declared.State.{State}
 use Rattle.filling.specs.declared.Refusal.{Refusal}
 use Rattle.filling.specs.declared.Refusal.TheVariants as Why
-use Rattle.filling.specs.declared.Verdict.{Verdict}
-use Rattle.filling.specs.declared.Verdict.TheVariants.{Accepted, Refused}
 use Rattle.filling.specs.Shapes.{planner_of}
 use Rattle.filling.specs.Rooms.{Lent, zeros, zero_rooms}
 use Rattle.filling.specs.Start.{Start, start_verdict, no_start, good_start, start_job, start_given, start_of}
@@ -31,9 +30,9 @@ start_is : (bytes order : List ℕ) (l : Lent) → StartIs bytes order l (start_
 unfolding start_of
 start_is bytes order l = go (read_job bytes) refl
   where
-    of_job : (j : Job) → read_job bytes ≡ accepted j → (v : Verdict) → start_verdict j order l ≡ v → StartIs bytes order l (start_job j order l)
-    of_job j e Accepted d = start_yes j e (start-good j order l d)
-    of_job j e (Refused k) d = start_no k (start-refused j order l k d)
+    of_job : (j : Job) → read_job bytes ≡ accepted j → (v : Result (Unit {0}) Refusal) → start_verdict j order l ≡ v → StartIs bytes order l (start_job j order l)
+    of_job j e (Ok tt) d = start_yes j e (start-good j order l d)
+    of_job j e (Err k) d = start_no k (start-refused j order l k d)
 
     go : (a : Answer) → read_job bytes ≡ a → StartIs bytes order l (start_given a order l)
     go (refused k) e = start_no (Why.Job k) (unfold start_given in refl)
@@ -41,19 +40,19 @@ start_is bytes order l = go (read_job bytes) refl
 
 -- "A refused whole plan returns only the number and zeros every lent room"; "a start (it leaves strips and entries for single steps)"
 pub start_replies : (bytes order : List ℕ) (l : Lent)
-    → ((k : Refusal) → (start_of bytes order l).verdict ≡ Refused k → start_of bytes order l ≡ no_start k l)
-    × ((start_of bytes order l).verdict ≡ Accepted → (j : Job) × (read_job bytes ≡ accepted j) × (start_of bytes order l ≡ good_start (planner_of j) order l))
+    → ((k : Refusal) → (start_of bytes order l).verdict ≡ Err k → start_of bytes order l ≡ no_start k l)
+    × ((start_of bytes order l).verdict ≡ Ok tt → (j : Job) × (read_job bytes ≡ accepted j) × (start_of bytes order l ≡ good_start (planner_of j) order l))
 unfolding no_start good_start
 start_replies bytes order l = go (start_of bytes order l) (start_is bytes order l)
   where
     go : (r : Start) → StartIs bytes order l r
-        → ((k : Refusal) → r.verdict ≡ Refused k → r ≡ no_start k l)
-        × (r.verdict ≡ Accepted → (j : Job) × (read_job bytes ≡ accepted j) × (r ≡ good_start (planner_of j) order l))
+        → ((k : Refusal) → r.verdict ≡ Err k → r ≡ no_start k l)
+        × (r.verdict ≡ Ok tt → (j : Job) × (read_job bytes ≡ accepted j) × (r ≡ good_start (planner_of j) order l))
     go r (start_no i e) =
-        let d : r.verdict ≡ Refused i = ap (λ x. x.verdict) e in
+        let d : r.verdict ≡ Err i = ap (λ x. x.verdict) e in
         (λ k f. e ∙ ap (λ x. no_start x l) (same-refusal (sym d ∙ f)), λ f. absurd (refused≢accepted (sym d ∙ f)))
     go r (start_yes j g e) =
-        let d : r.verdict ≡ Accepted = ap (λ x. x.verdict) e in
+        let d : r.verdict ≡ Ok tt = ap (λ x. x.verdict) e in
         (λ k f. absurd (accepted≢refused (sym d ∙ f)), λ f. (j, g, e))
 
 -- ---- a filling and a whole plan
@@ -61,13 +60,13 @@ start_replies bytes order l = go (start_of bytes order l) (start_is bytes order 
 -- a reply is the number alone, or one for which P holds
 data PlanIs (l : Lent) (P : Planned → Type 0) (r : Planned) : Type 0 where
   plan_no : (k : Refusal) → r ≡ not_planned k l → PlanIs l P r
-  plan_yes : r.verdict ≡ Accepted → P r → PlanIs l P r
+  plan_yes : r.verdict ≡ Ok tt → P r → PlanIs l P r
 
 replies : (l : Lent) (P : Planned → Type 0) (r : Planned) → PlanIs l P r
-    → ((k : Refusal) → r.verdict ≡ Refused k → r ≡ not_planned k l) × (r.verdict ≡ Accepted → P r)
+    → ((k : Refusal) → r.verdict ≡ Err k → r ≡ not_planned k l) × (r.verdict ≡ Ok tt → P r)
 unfolding not_planned
 replies l P r (plan_no i e) =
-    let d : r.verdict ≡ Refused i = ap (λ x. x.verdict) e in
+    let d : r.verdict ≡ Err i = ap (λ x. x.verdict) e in
     (λ k f. e ∙ ap (λ x. not_planned x l) (same-refusal (sym d ∙ f)), λ f. absurd (refused≢accepted (sym d ∙ f)))
 replies l P r (plan_yes d h) = (λ k f. absurd (accepted≢refused (sym d ∙ f)), λ f. h)
 
@@ -88,9 +87,9 @@ fill_is bytes order l = go (read_job bytes) refl
     found j e (filled s) d = plan_yes (unfold planned_by in (unfold planned_with in refl)) (j, s, e, d, unfold planned_by in refl)
     found j e (stopped k) d = plan_no k (unfold planned_by in refl)
 
-    of_job : (j : Job) → read_job bytes ≡ accepted j → (v : Verdict) → start_verdict j order l ≡ v → PlanIs l (FilledAs bytes order l) (fill_job j order l)
-    of_job j e Accepted d = rw (fill-runs j order l d) (found j e (fill_order j l order) refl)
-    of_job j e (Refused k) d = plan_no k (fill-stopped j order l k d)
+    of_job : (j : Job) → read_job bytes ≡ accepted j → (v : Result (Unit {0}) Refusal) → start_verdict j order l ≡ v → PlanIs l (FilledAs bytes order l) (fill_job j order l)
+    of_job j e (Ok tt) d = rw (fill-runs j order l d) (found j e (fill_order j l order) refl)
+    of_job j e (Err k) d = plan_no k (fill-stopped j order l k d)
 
     go : (a : Answer) → read_job bytes ≡ a → PlanIs l (FilledAs bytes order l) (fill_given a order l)
     go (refused k) e = plan_no (Why.Job k) (unfold fill_given in refl)
@@ -104,9 +103,9 @@ nest_is bytes l = go (read_job bytes) refl
     found j e (kept q) d = plan_yes (unfold nested in (unfold planned_with in refl)) (j, q, e, d, unfold nested in refl)
     found j e (ended k) d = plan_no k (unfold nested in refl)
 
-    of_job : (j : Job) → read_job bytes ≡ accepted j → (v : Verdict) → nest_verdict j l ≡ v → PlanIs l (KeptAs bytes l) (nest_job j l)
-    of_job j e Accepted d = rw (nest_runs j l d) (found j e (swap_search j l) refl)
-    of_job j e (Refused k) d = plan_no k (nest_stops j l k d)
+    of_job : (j : Job) → read_job bytes ≡ accepted j → (v : Result (Unit {0}) Refusal) → nest_verdict j l ≡ v → PlanIs l (KeptAs bytes l) (nest_job j l)
+    of_job j e (Ok tt) d = rw (nest_runs j l d) (found j e (swap_search j l) refl)
+    of_job j e (Err k) d = plan_no k (nest_stops j l k d)
 
     go : (a : Answer) → read_job bytes ≡ a → PlanIs l (KeptAs bytes l) (nest_given a l)
     go (refused k) e = plan_no (Why.Job k) (unfold nest_given in refl)
@@ -115,13 +114,13 @@ nest_is bytes l = go (read_job bytes) refl
 -- "A refused whole plan returns only the number and zeros every lent room; an accepted one leaves its positions, with zeros after them and in the work
 -- rooms."
 pub fill_replies : (bytes order : List ℕ) (l : Lent)
-    → ((k : Refusal) → (fill_of bytes order l).verdict ≡ Refused k → fill_of bytes order l ≡ not_planned k l)
-    × ((fill_of bytes order l).verdict ≡ Accepted → FilledAs bytes order l (fill_of bytes order l))
+    → ((k : Refusal) → (fill_of bytes order l).verdict ≡ Err k → fill_of bytes order l ≡ not_planned k l)
+    × ((fill_of bytes order l).verdict ≡ Ok tt → FilledAs bytes order l (fill_of bytes order l))
 fill_replies bytes order l = replies l (FilledAs bytes order l) (fill_of bytes order l) (fill_is bytes order l)
 
 pub nest_replies : (bytes : List ℕ) (l : Lent)
-    → ((k : Refusal) → (nest_of bytes l).verdict ≡ Refused k → nest_of bytes l ≡ not_planned k l)
-    × ((nest_of bytes l).verdict ≡ Accepted → KeptAs bytes l (nest_of bytes l))
+    → ((k : Refusal) → (nest_of bytes l).verdict ≡ Err k → nest_of bytes l ≡ not_planned k l)
+    × ((nest_of bytes l).verdict ≡ Ok tt → KeptAs bytes l (nest_of bytes l))
 nest_replies bytes l = replies l (KeptAs bytes l) (nest_of bytes l) (nest_is bytes l)
 
 -- a whole plan leaves zeros in every work room, whatever it answers

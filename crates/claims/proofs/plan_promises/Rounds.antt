@@ -1,4 +1,5 @@
 -- What is kept along the rounds: a rearrangement of the job's copies and its filling, or the refusal for a room. Assumes nothing.
+use Rattle.std.specs.Prelude.{Result, Ok, Err}
 use Prim.Native.Nat.{ℕ, zero, suc, ◌+◌, ◌%◌, ◌≤◌, ◌<◌}
 use native.Mathlib.Nat.{mod-lt}
 use native.Mathlib.Omega.{arith}
@@ -14,8 +15,6 @@ use Rattle.job.specs.Jobs.{Job, accepted, read_job}
 use Rattle.filling.specs.declared.State.{State}
 use Rattle.filling.specs.declared.Refusal.{Refusal}
 use Rattle.filling.specs.declared.Refusal.TheVariants as Why
-use Rattle.filling.specs.declared.Verdict.{Verdict}
-use Rattle.filling.specs.declared.Verdict.TheVariants.{Accepted, Refused}
 use Rattle.filling.specs.Refusals.{refuse_if}
 use Rattle.filling.specs.Shapes.{Planner, planner_of, Shape}
 use Rattle.filling.specs.Search.{Found, Track, search_all}
@@ -43,36 +42,36 @@ pub data RoomRefusal : Refusal → Type 0 where
   intervals : RoomRefusal Why.IntervalRoom
 
 -- what a test refuses, or what comes later
-pub refused_by_lem : (Q : Refusal → Type 0) (t : Bool) (k : Refusal) (v : Verdict) (r : Refusal) → Q k → (v ≡ Refused r → Q r) → refuse_if t k v ≡ Refused r → Q r
+pub refused_by_lem : (Q : Refusal → Type 0) (t : Bool) (k : Refusal) (v : Result (Unit {0}) Refusal) (r : Refusal) → Q k → (v ≡ Err r → Q r) → refuse_if t k v ≡ Err r → Q r
 unfolding refuse_if
 refused_by_lem Q true k v r q f e = subst Q (let z : k ≡ r = cc in z) q
 refused_by_lem Q false k v r q f e = f e
 
-winner-refusal : (p : Planner) (w : Rooms) (k : ℕ) (st : List Float) (cs : List Choice) (r : Refusal) → winner_verdict p w k st cs ≡ Refused r → RoomRefusal r
+winner-refusal : (p : Planner) (w : Rooms) (k : ℕ) (st : List Float) (cs : List Choice) (r : Refusal) → winner_verdict p w k st cs ≡ Err r → RoomRefusal r
 unfolding winner_verdict store_verdict
 winner-refusal p w k st [] r e = absurd (accepted≢refused e)
-winner-refusal p w k st (c ∷ cs) r e = refused_by_lem RoomRefusal _ Why.StripRoom _ r strips (λ f. refused_by_lem RoomRefusal _ Why.EntryRoom Accepted r entries (λ g. absurd (accepted≢refused g)) f) e
+winner-refusal p w k st (c ∷ cs) r e = refused_by_lem RoomRefusal _ Why.StripRoom _ r strips (λ f. refused_by_lem RoomRefusal _ Why.EntryRoom (Ok tt) r entries (λ g. absurd (accepted≢refused g)) f) e
 
-copy-refusal : (p : Planner) (w : Rooms) (iv : List Float) (k : ℕ) (st : List Float) (ss : List Shape) (ts : List Track) (fs : List Found) (r : Refusal) → copy_verdict p w iv k st ss ts fs ≡ Refused r → RoomRefusal r
+copy-refusal : (p : Planner) (w : Rooms) (iv : List Float) (k : ℕ) (st : List Float) (ss : List Shape) (ts : List Track) (fs : List Found) (r : Refusal) → copy_verdict p w iv k st ss ts fs ≡ Err r → RoomRefusal r
 unfolding copy_verdict
 copy-refusal p w iv k st ss ts fs r e = refused_by_lem RoomRefusal _ Why.IntervalRoom _ r intervals (λ f. winner-refusal p w k st (choices p 0 ss fs) r f) e
 
-place-refusal : (p : Planner) (st : List Float) (ts : List Track) (k : ℕ) (s : State) (w : Rooms) (iv : List Float) (r : Refusal) → (place_copy p st ts k s w iv).verdict ≡ Refused r → RoomRefusal r
+place-refusal : (p : Planner) (st : List Float) (ts : List Track) (k : ℕ) (s : State) (w : Rooms) (iv : List Float) (r : Refusal) → (place_copy p st ts k s w iv).verdict ≡ Err r → RoomRefusal r
 unfolding no_step
 place-refusal p st ts k s w iv r e = go (copy_verdict p w iv k st (get_or p.shapes k []) ts (search_all p st (get_or p.shapes k []) ts)) refl
   where
-    go : (v : Verdict) → copy_verdict p w iv k st (get_or p.shapes k []) ts (search_all p st (get_or p.shapes k []) ts) ≡ v → RoomRefusal r
-    go Accepted d = absurd (accepted≢refused (sym (ap (λ x. x.verdict) (place-taken p st ts k s w iv d)) ∙ e))
-    go (Refused q) d = subst RoomRefusal (let f : Refused q ≡ Refused r = sym (ap (λ x. x.verdict) (place-refused p st ts k s w iv q d)) ∙ e in let z : q ≡ r = cc in z) (copy-refusal p w iv k st (get_or p.shapes k []) ts (search_all p st (get_or p.shapes k []) ts) q d)
+    go : (v : Result (Unit {0}) Refusal) → copy_verdict p w iv k st (get_or p.shapes k []) ts (search_all p st (get_or p.shapes k []) ts) ≡ v → RoomRefusal r
+    go (Ok tt) d = absurd (accepted≢refused (sym (ap (λ x. x.verdict) (place-taken p st ts k s w iv d)) ∙ e))
+    go (Err q) d = subst RoomRefusal (let f : Err q ≡ Err r = sym (ap (λ x. x.verdict) (place-refused p st ts k s w iv q d)) ∙ e in let z : q ≡ r = cc in z) (copy-refusal p w iv k st (get_or p.shapes k []) ts (search_all p st (get_or p.shapes k []) ts) q d)
 
-core_refusal : (j : Job) (s : State) (w : Rooms) (iv : List Float) (r : Refusal) → s.taken < length (order_of j s) → (core_step j s w iv).verdict ≡ Refused r → RoomRefusal r
+core_refusal : (j : Job) (s : State) (w : Rooms) (iv : List Float) (r : Refusal) → s.taken < length (order_of j s) → (core_step j s w iv).verdict ≡ Err r → RoomRefusal r
 unfolding core_step place_next
 core_refusal j s w iv r h e = let c = next_of (order_of j s) s.taken h in place-refusal _ _ _ c.0 s w iv r (rw c.2 at e)
 
 -- ---- a filling in a rearranged order
 
-module _ (bytes : List ℕ) (j : Job) (e : read_job bytes ≡ accepted j) (l : Lent) (pos : ltb (position_capacity l.positions) j.copies ≡ false) (prep : prepare_verdict (planner_of j) l.rooms ≡ Accepted) where
-  pub begins : (order : List ℕ) → rearranged j order ≡ true → start_verdict j order l ≡ Accepted
+module _ (bytes : List ℕ) (j : Job) (e : read_job bytes ≡ accepted j) (l : Lent) (pos : ltb (position_capacity l.positions) j.copies ≡ false) (prep : prepare_verdict (planner_of j) l.rooms ≡ Ok tt) where
+  pub begins : (order : List ℕ) → rearranged j order ≡ true → start_verdict j order l ≡ Ok tt
   unfolding start_verdict refuse_if
   begins order r = rw (pos, r, prep)
 
@@ -102,10 +101,10 @@ module _ (bytes : List ℕ) (j : Job) (e : read_job bytes ≡ accepted j) (l : L
       counts : Took j s w t → t.state.taken ≡ suc s.taken
       counts u = rw u.state_is (after-taken j s u.kind (TracksNow j s u.kind) (ChoicesNow j s u.kind))
 
-      go : (Took j s w t → t.state.taken ≡ suc s.taken → fill_from j l.intervals n t.state t.rooms ≡ stopped r → RoomRefusal r) → (v : Verdict) → t.verdict ≡ v → ◌≡◌ {A = Filling} (elim v [ Accepted ↦ fill_from j l.intervals n t.state t.rooms | Refused k ↦ stopped k ]) (stopped r) → Outcome j s w t → RoomRefusal r
-      go below Accepted d g (unchanged k v a c) = absurd (refused≢accepted (sym v ∙ d))
-      go below Accepted d g (took u) = below u (counts u) g
-      go below (Refused k) d g o = subst RoomRefusal (let z : k ≡ r = cc in z) (core_refusal j s w l.intervals k (subst (λ (m : List ℕ). s.taken < length m) (sym h.own.order_kept) (omega arith)) d)
+      go : (Took j s w t → t.state.taken ≡ suc s.taken → fill_from j l.intervals n t.state t.rooms ≡ stopped r → RoomRefusal r) → (v : Result (Unit {0}) Refusal) → t.verdict ≡ v → ◌≡◌ {A = Filling} (elim v [ Ok tt ↦ fill_from j l.intervals n t.state t.rooms | Err k ↦ stopped k ]) (stopped r) → Outcome j s w t → RoomRefusal r
+      go below (Ok tt) d g (unchanged k v a c) = absurd (refused≢accepted (sym v ∙ d))
+      go below (Ok tt) d g (took u) = below u (counts u) g
+      go below (Err k) d g o = subst RoomRefusal (let z : k ≡ r = cc in z) (core_refusal j s w l.intervals k (subst (λ (m : List ℕ). s.taken < length m) (sym h.own.order_kept) (omega arith)) d)
 
   pub stopped_is : (order : List ℕ) → rearranged j order ≡ true → (r : Refusal) → fill_order j l order ≡ stopped r → RoomRefusal r
   unfolding fill_order

@@ -21,7 +21,7 @@ use Rattle.filling.specs.Rooms.{Rooms}
 use Rattle.filling.specs.Shapes.{Shape, Planner, Standing, no_shape, shape_of, moved_strips, copy_strips, standing_strips}
 use Rattle.filling.specs.State as States
 use Rattle.filling.specs.State.{orientation_counts, apart_room, shape_at, planner_at, copy_at, stands_at, standing_to, standing_of}
-use Rattle.filling.specs.Consistent.{every, bounded, orientation_fits, position_fits, same_doubles, copies_fit}
+use Rattle.filling.specs.Consistent.{every, bounded, orientation_fits, position_fits, same, same_doubles, copies_fit}
 use Rattle.accounts.proofs.Looks.{row_at_lem}
 use Rattle.choose.specs.inner.Choosing.{part_at}
 use Rattle.consistent.specs.copy_tests.inner.Copies.{Held, held, same_strip, lies_test, turn_test, apart_of, copy_test, past_copy, onward, copies_test}
@@ -83,7 +83,7 @@ module _ (room : List Float) (whole : 6 * capacity room ≡ length room) where
 
     here : (i : ℕ) (l : List Float) → at + i < capacity room
         → same_doubles (drop (6 * (at + i)) room) (headed i l) ≡ test i && same_doubles (drop (6 * (at + suc i)) room) l
-    unfolding same_doubles same_strip
+    unfolding same same_strip
     here i l h =
         let p = strip_at room (at + i) in
         ap (λ (r : List Float). same_doubles r (headed i l)) (drop-strip (at + i) (at + suc i) (omega arith) h)
@@ -91,7 +91,7 @@ module _ (room : List Float) (whole : 6 * capacity room ≡ length room) where
         (eq p.high1 (g i).high1) (same_doubles (drop (6 * (at + suc i)) room) l)
 
     beyond : (i : ℕ) (l : List Float) → capacity room ≤ at + i → same_doubles (drop (6 * (at + i)) room) (headed i l) ≡ false
-    unfolding same_doubles
+    unfolding same
     beyond i l h = ap (λ (r : List Float). same_doubles r (headed i l)) (drop-none (at + i) h)
 
     -- that the n strips from i on lie there, then the rest
@@ -131,7 +131,7 @@ module _ (room : List Float) (whole : 6 * capacity room ≡ length room) where
       (up_from (capacity part) 0)) && same_doubles (drop (6 * (k + capacity part)) room) rest) e)
 
   none_left : (at : ℕ) → at ≤ capacity room → eqb at (capacity room) ≡ same_doubles (drop (6 * at) room) []
-  unfolding same_doubles
+  unfolding same
   none_left at h = go (below_or_not at (capacity room))
     where
       go : (at < capacity room) ⊎ (capacity room ≤ at) → eqb at (capacity room) ≡ same_doubles (drop (6 * at) room) []

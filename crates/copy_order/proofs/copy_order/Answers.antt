@@ -13,18 +13,13 @@ use Rattle.copy_order.proofs.Tabling.{line-length, line-order}
 use Rattle.copy_order.proofs.copy_order.Goals as goal
 
 pub put_kinds-requires : goal.put_kinds-requires
-put_kinds-requires c = let c3 = c in
-    let c8 = c3 in
-    let s = c3.sort_kinds in let e : length c3.sort_kinds.new.line ≡ 64 = s.auto.line in
-    let l : length (flat_map (copies_at c8.args.rows.now) (down (at c3.sort_kinds.new.line) c8.args.kinds)) ≡ copies_in
-    c8.args.rows.now c8.args.kinds = line-length c8.args.rows.now c8.args.areas.now c3.sort_kinds.new.line
-    c8.args.kinds s.ensures.0 in
+put_kinds-requires c = let s = c.sort_kinds in let e : length c.sort_kinds.new.line ≡ 64 = s.auto.line in
+    let l : length (flat_map (copies_at c.args.rows.now) (down (at c.sort_kinds.new.line) c.args.kinds)) ≡ copies_in
+    c.args.rows.now c.args.kinds = line-length c.args.rows.now c.args.areas.now c.sort_kinds.new.line
+    c.args.kinds s.ensures.0 in
     (omega arith, omega arith, s.ensures.1, omega arith)
 
 pub returns : goal.returns
-returns c = let c2 = c in
-    let c6 = c2 in
-    let c11 = c6 in
-    λ (j : Job) t l. let e = line-order c11.args.rows.now c11.args.areas.now j t c6.sort_kinds.new.line c11.args.kinds l
-    c6.sort_kinds.ensures.0 in
-    (c2.put_kinds.ensures.0 ∙ ap length e, c2.put_kinds.ensures.1 ∙ ap (λ (o : List ℕ). laid o c11.args.order.now) e)
+returns c = λ (j : Job) t l. let e = line-order c.args.rows.now c.args.areas.now j t c.sort_kinds.new.line c.args.kinds l
+    c.sort_kinds.ensures.0 in
+    (c.put_kinds.ensures.0 ∙ ap length e, c.put_kinds.ensures.1 ∙ ap (λ (o : List ℕ). laid o c.args.order.now) e)

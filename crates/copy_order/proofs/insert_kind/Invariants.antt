@@ -12,6 +12,3 @@ use Rattle.copy_order.proofs.insert_kind.Given as goal
 abbrev pub invariant-loop-i : goal.invariant-loop-i
 invariant-loop-i l = (l.i ≤ l.n) × (length l.line ≡ length l.initial.line) × ((q : ℕ) → q < l.n + 1 → (q ≡ l.i → ⊥) → at l.line q < 64)
     × (over (λ (q : ℕ). numbered_at l.rows l.areas (at l.line q)) l.i (l.n - l.i) (insert ahead (numbered_at l.rows l.areas l.k) (down (λ (q : ℕ). numbered_at l.rows l.areas (at l.line q)) l.i)) ≡ insert ahead (numbered_at l.rows l.areas l.k) (down (λ (q : ℕ). numbered_at l.rows l.areas (at l.initial.line q)) l.n))
-
-abbrev pub decreases-loop-i : goal.decreases-loop-i
-decreases-loop-i l = l.i

@@ -4,6 +4,3 @@ use Rattle.copy_order.proofs.put_kinds.Given as goal
 
 abbrev pub invariant-loop-i : goal.invariant-loop-i
 invariant-loop-i l = (l.i ≤ l.kinds) × Laid l.rows l.line l.kinds l.initial.order l.i l.at l.order
-
-abbrev pub decreases-loop-i : goal.decreases-loop-i
-decreases-loop-i l = l.i

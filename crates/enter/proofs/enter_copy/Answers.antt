@@ -6,33 +6,25 @@ use Rattle.enter.specs.inner.EntryRoom.{enter_of}
 use Rattle.enter.proofs.enter_copy.Goals as goal
 
 pub enter_strips-requires : goal.enter_strips-requires
-enter_strips-requires c = let c8 = c in
-    let p = c8.requires in (p.0, p.1, p.2, p.3, p.4)
+enter_strips-requires c = let p = c.requires in (p.0, p.1, p.2, p.3, p.4)
 
 pub keep_firsts-requires : goal.keep_firsts-requires
-keep_firsts-requires c = let c16 = c in
-    let c17 = c16 in
-    let p = c17.requires in (p.0, p.1, p.5)
+keep_firsts-requires c = let p = c.requires in (p.0, p.1, p.5)
 
 pub returns-then-enter_strips : goal.returns-then-enter_strips
-returns-then-enter_strips c = let c4 = c in
-    let c11 = c4 in
-    let c20 = c11 in
-    let g = c20.args in
-    let s = c11.enter_strips in
+returns-then-enter_strips c = let g = c.args in
+    let s = c.enter_strips in
     let l = s.new in (
-      subst (λ (b : Bool). entering b l.entries l.starts ≡ enter_of g.ix g.standing.now g.to (rooms g.entries.now g.starts.now)) c4.if-enter_strips.true
+      subst (λ (b : Bool). entering b l.entries l.starts ≡ enter_of g.ix g.standing.now g.to (rooms g.entries.now g.starts.now)) c.if-enter_strips.true
           s.ensures.0,
-      λ q. s.ensures.1 c4.if-enter_strips.true,
+      λ q. s.ensures.1 c.if-enter_strips.true,
       λ q. c.keep_firsts.ensures,
       λ q. absurd (true≢false q),
     )
 
 pub returns : goal.returns
-returns c = let c7 = c in
-    let c16 = c7 in
-    let g = c16.args in
-    let s = c7.enter_strips in
+returns c = let g = c.args in
+    let s = c.enter_strips in
     let l = s.new in (
       subst (λ (b : Bool). entering b l.entries l.starts ≡ enter_of g.ix g.standing.now g.to (rooms g.entries.now g.starts.now)) c.if-enter_strips.false
           s.ensures.0,
@@ -42,28 +34,22 @@ returns c = let c7 = c in
     )
 
 pub shape_of-entries-then-enter_strips : goal.shape_of-entries-then-enter_strips
-shape_of-entries-then-enter_strips c = let c11 = c in
-    c11.enter_strips.auto.entries
+shape_of-entries-then-enter_strips c = c.enter_strips.auto.entries
 
 pub shape_of-starts-then-enter_strips : goal.shape_of-starts-then-enter_strips
-shape_of-starts-then-enter_strips c = let c11 = c in
-    c11.enter_strips.auto.starts
+shape_of-starts-then-enter_strips c = c.enter_strips.auto.starts
 
 pub shape_of-gains-then-enter_strips : goal.shape_of-gains-then-enter_strips
-shape_of-gains-then-enter_strips c = let c11 = c in
-    c11.enter_strips.auto.gains
+shape_of-gains-then-enter_strips c = c.enter_strips.auto.gains
 
 pub shape_of-firsts-then-enter_strips : goal.shape_of-firsts-then-enter_strips
 shape_of-firsts-then-enter_strips c = c.keep_firsts.auto.firsts
 
 pub shape_of-entries : goal.shape_of-entries
-shape_of-entries c = let c7 = c in
-    c7.enter_strips.auto.entries
+shape_of-entries c = c.enter_strips.auto.entries
 
 pub shape_of-starts : goal.shape_of-starts
-shape_of-starts c = let c7 = c in
-    c7.enter_strips.auto.starts
+shape_of-starts c = c.enter_strips.auto.starts
 
 pub shape_of-gains : goal.shape_of-gains
-shape_of-gains c = let c7 = c in
-    c7.enter_strips.auto.gains
+shape_of-gains c = c.enter_strips.auto.gains

@@ -8,23 +8,17 @@ use Rattle.enter.specs.inner.EntryRoom.{enter_of}
 use Rattle.enter.proofs.enter_strips.Goals as goal
 
 pub enter_one-requires : goal.enter_one-requires
-enter_one-requires c = let c2 = c in
-    let c7 = c2 in
-    (omega (arith, c7.requires.1, c2.if-to-from-eq1.true), c7.requires.3, omega (arith, c7.requires.4, c2.if-to-from-eq1.true))
+enter_one-requires c = (omega (arith, c.requires.1, c.if-to-from-eq1.true), c.requires.3, omega (arith, c.requires.4, c.if-to-from-eq1.true))
 
 pub returns-then-to-from-eq1 : goal.returns-then-to-from-eq1
-returns-then-to-from-eq1 c = let c4 = c in
-    let c7 = c4 in
-    let c12 = c7 in
-    let g = c12.args in
-    let e : g.from + 1 ≡ g.to = omega (arith, c7.if-to-from-eq1.true) in
-    subst (λ (k : ℕ). (entering c4.enter_one.result c4.enter_one.new.entries c4.enter_one.new.starts ≡ enter_of g.ix
-    g.standing.now k (rooms g.entries.now g.starts.now)) × (c4.enter_one.result ≡ true → Laid g.ix g.standing.now k
-    c4.enter_one.new.entries c4.enter_one.new.starts)) e c4.enter_one.ensures
+returns-then-to-from-eq1 c = let g = c.args in
+    let e : g.from + 1 ≡ g.to = omega (arith, c.if-to-from-eq1.true) in
+    subst (λ (k : ℕ). (entering c.enter_one.result c.enter_one.new.entries c.enter_one.new.starts ≡ enter_of g.ix
+    g.standing.now k (rooms g.entries.now g.starts.now)) × (c.enter_one.result ≡ true → Laid g.ix g.standing.now k
+    c.enter_one.new.entries c.enter_one.new.starts)) e c.enter_one.ensures
 
 pub enter_many-requires : goal.enter_many-requires
-enter_many-requires c = let c8 = c in
-    c8.requires
+enter_many-requires c = c.requires
 
 pub returns : goal.returns
 returns c = c.enter_many.ensures

@@ -15,8 +15,7 @@ loop-i-init c = (omega arith, c.requires.0, refl, refl, c.requires.6, λ j a. re
 pub kept_span-s-requires : goal.kept_span-s-requires
 kept_span-s-requires c = let p = c.requires in
     let l = c.loop-i in
-    let t = c.loop-i-test.true in
-    (l.invariant.0, omega (arith, p.1, t), p.2, p.3, record { low = λ j a b. p.4.low j (omega (arith, t)) b; high = λ j a b. p.4.high j (omega (arith, t)) b })
+    (l.invariant.0, omega (arith, p.1), p.2, p.3, record { low = λ j a b. p.4.low j (omega arith) b; high = λ j a b. p.4.high j (omega arith) b })
 
 pub fill_strip-requires : goal.fill_strip-requires
 fill_strip-requires c = let l = c.loop-i in
@@ -24,21 +23,15 @@ fill_strip-requires c = let l = c.loop-i in
     let p = c.requires in
     let E = c.kept_span-s.ensures in
     let t = bucket_top g.ix (strip_at g.standing.now l.i).x1 in
-    (l.invariant.4.table, omega (arith, t, E.1), strip-room g.ix g.standing.now l.i g.to _ _ c.loop-i-test.true E.0 E.1 l.entries l.starts (let z = l.invariant.2 in let y = p.5 in omega arith) l.invariant.4, omega (arith, c.loop-i-test.true, p.7))
-
-pub overflow_add-i : goal.overflow_add-i
-overflow_add-i c = omega (arith, c.loop-i-test.true, c.requires.1)
-
-pub loop-i-smaller : goal.loop-i-smaller
-loop-i-smaller c = omega (arith, c.loop-i-test.true)
+    (l.invariant.4.table, omega (arith, t, E.1), strip-room g.ix g.standing.now l.i g.to _ _ (omega arith) E.0 E.1 l.entries l.starts (let z = l.invariant.2 in let y = p.5 in omega arith) l.invariant.4, omega (arith, p.7))
 
 pub loop-i-preserved : goal.loop-i-preserved
 loop-i-preserved c = let l = c.loop-i in
     let g = c.args in
     let p = c.requires in
     let E = c.kept_span-s.ensures in
-    let F = fill_turn g.ix g.standing.now l.i g.to _ _ c.loop-i-test.true E.0 E.1 l.entries l.starts _ _ (let z = l.invariant.2 in let y = p.5 in omega arith) l.invariant.4 c.fill_strip.ensures in
-    (omega (arith, l.invariant.0), omega (arith, c.loop-i-test.true), F.1 ∙ l.invariant.2, F.0.table ∙ sym p.6.table, F.0, λ j a. F.2 j a ∙ l.invariant.5 j a)
+    let F = fill_turn g.ix g.standing.now l.i g.to _ _ (omega arith) E.0 E.1 l.entries l.starts _ _ (let z = l.invariant.2 in let y = p.5 in omega arith) l.invariant.4 c.fill_strip.ensures in
+    (omega (arith, l.invariant.0), omega arith, F.1 ∙ l.invariant.2, F.0.table ∙ sym p.6.table, F.0, λ j a. F.2 j a ∙ l.invariant.5 j a)
 
 pub shape_of-entries : goal.shape_of-entries
 shape_of-entries c = c.loop-i.invariant.2

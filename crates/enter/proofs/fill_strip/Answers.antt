@@ -17,21 +17,21 @@ loop-b-init c = (omega arith, refl, refl, λ d h. refl, refl)
 pub set_entry-requires : goal.set_entry-requires
 set_entry-requires c = let l = c.loop-b in
     let p = c.requires in
-    let z = p.2 l.b l.invariant.0 c.loop-b-test.true in
+    let z = p.2 l.b l.invariant.0 (omega arith) in
     let y = l.invariant.3 l.b (native.Mathlib.Nat.le_refl l.b) in
     (omega (arith, l.invariant.2), p.3)
 
 pub overflow_add-starts : goal.overflow_add-starts
 overflow_add-starts c = let l = c.loop-b in
     let p = c.requires in
-    let z = p.2 l.b l.invariant.0 c.loop-b-test.true in
+    let z = p.2 l.b l.invariant.0 (omega arith) in
     let y = l.invariant.3 l.b (native.Mathlib.Nat.le_refl l.b) in
     omega arith
 
 pub overflow_add-starts-in-loop-b : goal.overflow_add-starts-in-loop-b
 overflow_add-starts-in-loop-b c = let l = c.loop-b in
     let p = c.requires in
-    let z = p.2 l.b l.invariant.0 c.loop-b-test.true in
+    let z = p.2 l.b l.invariant.0 (omega arith) in
     let y = l.invariant.3 l.b (native.Mathlib.Nat.le_refl l.b) in
     omega arith
 
@@ -43,7 +43,7 @@ loop-b-preserved c = let l = c.loop-b in
       length-set l.starts (l.b + 1) (get_or l.starts (l.b + 1) 0 + 1) ∙ l.invariant.1,
       c.set_entry.auto.entries ∙ l.invariant.2,
       λ d a. get_or-set_other l.starts (l.b + 1) (d + 1) (get_or l.starts (l.b + 1) 0 + 1) 0 (λ q. past l.b d a q) ∙ l.invariant.3 d (omega arith),
-      ap (λ (e : List ℕ). filled g.number (g.hi + 1 - (l.b + 1)) (l.b + 1) (rooms e (set l.starts (l.b + 1) (get_or l.starts (l.b + 1) 0 + 1)))) E ∙ (sym (filled_on g.number g.hi l.b l.entries l.starts c.loop-b-test.true) ∙ l.invariant.4),
+      ap (λ (e : List ℕ). filled g.number (g.hi + 1 - (l.b + 1)) (l.b + 1) (rooms e (set l.starts (l.b + 1) (get_or l.starts (l.b + 1) 0 + 1)))) E ∙ (sym (filled_on g.number g.hi l.b l.entries l.starts (omega arith)) ∙ l.invariant.4),
     )
 
 pub shape_of-entries : goal.shape_of-entries

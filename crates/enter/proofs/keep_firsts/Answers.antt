@@ -17,42 +17,28 @@ small : (ix : Index) (x : Float) (b : ℕ) → b ≡ bucket_in ix x → b < 512
 small ix x b e = let t = bucket_top ix x in omega arith
 
 pub loop-i-init : goal.loop-i-init
-loop-i-init c = let c2 = c in
-    let g = c2.args in (omega arith, c2.requires.0, refl, written_none g.ix g.standing.now g.from g.firsts.now)
+loop-i-init c = let g = c.args in (omega arith, c.requires.0, refl, written_none g.ix g.standing.now g.from g.firsts.now)
 
 pub load-p-requires : goal.load-p-requires
-load-p-requires c = omega (arith, c.requires.1, c.loop-i-test.true)
+load-p-requires c = omega (arith, c.requires.1)
 
 pub overflow_cast-firsts : goal.overflow_cast-firsts
 overflow_cast-firsts c = omega (arith, small _ _ _ c.bucket-first.ensures)
 
 pub bounds-firsts-i : goal.bounds-firsts-i
-bounds-firsts-i c = omega (
-  arith,
-  c.loop-i.invariant.2,
-  c.requires.2,
-  c.loop-i-test.true,
-)
-
-pub overflow_add-i : goal.overflow_add-i
-overflow_add-i c = omega (arith, c.loop-i-test.true, c.requires.1)
-
-pub loop-i-smaller : goal.loop-i-smaller
-loop-i-smaller c = omega (arith, c.loop-i-test.true)
+bounds-firsts-i c = omega (arith, c.loop-i.invariant.2, c.requires.2)
 
 pub loop-i-preserved : goal.loop-i-preserved
-loop-i-preserved c = let c2 = c in
-    let c6 = c2 in
-    let g = c6.args in
+loop-i-preserved c = let g = c.args in
     let l = c.loop-i in
     let f = c.bucket-first.result in
     let e : f ≡ bucket_in g.ix (strip_at g.standing.now l.i).x0 = c.bucket-first.ensures ∙ ap (λ (q : Trapezoid). bucket_in g.ix q.x0)
     c.load-p.ensures in (
       omega (arith, l.invariant.0),
-      omega (arith, c2.loop-i-test.true),
+      omega arith,
       length-set l.firsts l.i f ∙ l.invariant.2,
       written_next g.ix g.standing.now g.from l.i f g.firsts.now l.firsts l.invariant.3 l.invariant.0
-          (omega (arith, l.invariant.2, c6.requires.2, c2.loop-i-test.true)) e,
+          (omega (arith, l.invariant.2, c.requires.2)) e,
     )
 
 pub shape_of-firsts : goal.shape_of-firsts

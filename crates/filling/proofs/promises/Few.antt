@@ -1,4 +1,5 @@
 -- How many strips, entries and intervals there can be. Assumes nothing.
+use Rattle.std.specs.Prelude.{Option, Some, None}
 use Prim.Native.Nat.{ℕ, zero, suc, ◌+◌, ◌*◌, ◌≤◌, ◌<◌}
 use native.Mathlib.Nat.{le_trans}
 use native.Mathlib.Omega.{arith}
@@ -12,8 +13,6 @@ use lib.Ieee.{Float}
 use Rattle.trapezoid.specs.Strip.{strip_at, capacity, moved_by}
 use Rattle.index.specs.declared.Index.{Index}
 use Rattle.index.specs.declared.Interval.{Interval}
-use Rattle.index.specs.declared.Meeting.{Meeting}
-use Rattle.index.specs.declared.Meeting.TheVariants.{Apart, Forbidden}
 use Rattle.index.specs.Buckets.{up_from, keep, Span, span_of, numbers_in, by_bucket, entries_of}
 use Rattle.index.specs.Intervals.{interval_in, meeting_of, forbidden_of, counted_of}
 use Rattle.index.proofs.Flat.{length-up_from}
@@ -48,10 +47,10 @@ keep-few {A = A} t (a ∷ l) = go (t a) (keep-few t l)
     go true h = omega arith
     go false h = omega arith
 
-one-few : (m : Meeting) → length (interval_in m) ≤ 1
+one-few : (m : Option Interval) → length (interval_in m) ≤ 1
 unfolding interval_in
-one-few Apart = omega arith
-one-few (Forbidden i) = omega arith
+one-few None = omega arith
+one-few (Some i) = omega arith
 
 -- at most one interval for each pair of strips
 pairs-few : (standing moving : List Float) (x : Float) → length (forbidden_of standing moving x) ≤ capacity moving * capacity standing

@@ -1,4 +1,5 @@
 -- No number is left that is not finite, or minus zero: by a start, by every list of calls after it, by a filling. Assumes nothing.
+use Rattle.std.specs.Prelude.{Result, Ok, Err}
 use mathlib.Core.Path.{◌≡◌, refl, sym, ap, subst}
 use mathlib.Core.Bool.{Bool, true, false}
 use mathlib.Core.List.{List, [], ◌∷◌, map, flat_map}
@@ -23,8 +24,6 @@ use Rattle.filling.specs.declared.State.{State}
 use Rattle.filling.specs.declared.Plan.{Plan}
 use Rattle.filling.specs.declared.Refusal.{Refusal}
 use Rattle.filling.specs.declared.Refusal.TheVariants as Why
-use Rattle.filling.specs.declared.Verdict.{Verdict}
-use Rattle.filling.specs.declared.Verdict.TheVariants.{Accepted, Refused}
 use Rattle.filling.specs.Shapes.{planner_of, Standing, standing_strips}
 use Rattle.filling.specs.Rooms.{Rooms, Lent}
 use Rattle.filling.specs.State.{planner_at, stands_at, standing_to, standing_of}
@@ -48,10 +47,10 @@ use Rattle.filling.proofs.promises.Offcut.{Reaches, reaches, left-number, left-f
 
 -- ---- a start
 
-start_left : (bytes order : List ℕ) (l : Lent) (j : Job) → read_job bytes ≡ accepted j → (v : Verdict) → start_verdict j order l ≡ v → StateNumbers
+start_left : (bytes order : List ℕ) (l : Lent) (j : Job) → read_job bytes ≡ accepted j → (v : Result (Unit {0}) Refusal) → start_verdict j order l ≡ v → StateNumbers
     (start_job j order l).state × LentNumbers (start_job j order l).lent
 unfolding good_start no_start
-start_left bytes order l j e Accepted d =
+start_left bytes order l j e (Ok tt) d =
     let g = (job_good bytes j e).good in
     rw (start-good j order l d) (
       first-numbers j g order,
@@ -61,7 +60,7 @@ start_left bytes order l j e Accepted d =
         positions = all_zeros l.positions;
       },
     )
-start_left bytes order l j e (Refused k) d = rw (start-refused j order l k d) (zero-state, only_positions_lem l [] tt)
+start_left bytes order l j e (Err k) d = rw (start-refused j order l k d) (zero-state, only_positions_lem l [] tt)
 
 -- whatever the bytes, the order and the rooms
 pub start-numbers : (bytes order : List ℕ) (l : Lent) → StateNumbers (start_of bytes order l).state × LentNumbers (start_of bytes order l).lent
@@ -75,7 +74,7 @@ start-numbers bytes order l = go (read_job bytes) refl
 -- ---- calls
 
 -- after an accepted start, whatever the calls
-pub calls_held : (bytes order : List ℕ) (l : Lent) (j : Job) (e : read_job bytes ≡ accepted j) → (start_of bytes order l).verdict ≡ Accepted → (calls : List Call)
+pub calls_held : (bytes order : List ℕ) (l : Lent) (j : Job) (e : read_job bytes ≡ accepted j) → (start_of bytes order l).verdict ≡ Ok tt → (calls : List Call)
     → let r = after_calls bytes calls (start_of bytes order l).state (start_of bytes order l).lent.rooms in HeldSo bytes j e r.state r.rooms
     (plain_calls (planner_of j) (map request_of calls) (refusals r.verdicts) (plain_start (planner_of j) order))
 calls_held bytes order l j e v calls =
@@ -87,7 +86,7 @@ calls_held bytes order l j e v calls =
     (calls_keep j (HeldSo bytes j e) (λ s w q h. h.held.own.kept.linked) (so_took bytes j e) (so_back bytes j e) bytes e calls (first_state p order)
     (first_rooms p l.rooms) (plain_start p order) first)
 
-pub calls_numbers : (bytes order : List ℕ) (l : Lent) (j : Job) → read_job bytes ≡ accepted j → (start_of bytes order l).verdict ≡ Accepted → (calls : List Call)
+pub calls_numbers : (bytes order : List ℕ) (l : Lent) (j : Job) → read_job bytes ≡ accepted j → (start_of bytes order l).verdict ≡ Ok tt → (calls : List Call)
     → let r = after_calls bytes calls (start_of bytes order l).state (start_of bytes order l).lent.rooms in StateNumbers r.state × RoomNumbers r.rooms
 calls_numbers bytes order l j e v calls = let h = (calls_held bytes order l j e v calls).held.sound in (h.numbers, h.rooms)
 
@@ -264,7 +263,7 @@ module _ (bytes : List ℕ) (j : Job) (e : read_job bytes ≡ accepted j) (order
       )
 
 -- the state at the end of a filling, with its rooms
-pub fill-held : (bytes order : List ℕ) (l : Lent) (j : Job) (e : read_job bytes ≡ accepted j) → start_verdict j order l ≡ Accepted
+pub fill-held : (bytes order : List ℕ) (l : Lent) (j : Job) (e : read_job bytes ≡ accepted j) → start_verdict j order l ≡ Ok tt
     → (s : State) → fill_order j l order ≡ filled s → (w : Rooms) × Held bytes j e order s w
     (plain_calls (planner_of j) (replicate (length order) take_next) (replicate (length order) false) (plain_start (planner_of j) order))
 unfolding fill_order
@@ -273,11 +272,11 @@ fill-held bytes order l j e v s d =
     (first_state (planner_of j) order) s (first_rooms (planner_of j) l.rooms) (plain_start (planner_of j) order) (held_start bytes j e order l v) d
 
 -- the offcut of a filling that is not refused
-pub fill-offcut : (bytes order : List ℕ) (l : Lent) (j : Job) → read_job bytes ≡ accepted j → start_verdict j order l ≡ Accepted
+pub fill-offcut : (bytes order : List ℕ) (l : Lent) (j : Job) → read_job bytes ≡ accepted j → start_verdict j order l ≡ Ok tt
     → (s : State) → fill_order j l order ≡ filled s → OffcutBounds j s
 fill-offcut bytes order l j e v s d = let k = fill-held bytes order l j e v s d in offcut-bounds bytes j e order s k.0 _ k.1
 
-filling_left : (bytes order : List ℕ) (l : Lent) (j : Job) → read_job bytes ≡ accepted j → start_verdict j order l ≡ Accepted → (f : Filling) → fill_order j l
+filling_left : (bytes order : List ℕ) (l : Lent) (j : Job) → read_job bytes ≡ accepted j → start_verdict j order l ≡ Ok tt → (f : Filling) → fill_order j l
     order ≡ f → PlanNumbers (planned_by j l f).plan × LentNumbers (planned_by j l f).lent
 unfolding planned_by
 filling_left bytes order l j e v (stopped r) d = not_planned_lem r l
@@ -288,10 +287,10 @@ pub fill-numbers : (bytes order : List ℕ) (l : Lent) → PlanNumbers (fill_of 
 unfolding fill_of
 fill-numbers bytes order l = go (read_job bytes) refl
   where
-    made : (j : Job) → read_job bytes ≡ accepted j → (v : Verdict) → start_verdict j order l ≡ v → PlanNumbers (fill_job j order l).plan × LentNumbers
+    made : (j : Job) → read_job bytes ≡ accepted j → (v : Result (Unit {0}) Refusal) → start_verdict j order l ≡ v → PlanNumbers (fill_job j order l).plan × LentNumbers
         (fill_job j order l).lent
-    made j d Accepted a = unfold fill_job in rw (a, fill_job) (filling_left bytes order l j d a (fill_order j l order) refl)
-    made j d (Refused r) a = unfold fill_job in rw (a, fill_job) (not_planned_lem r l)
+    made j d (Ok tt) a = unfold fill_job in rw (a, fill_job) (filling_left bytes order l j d a (fill_order j l order) refl)
+    made j d (Err r) a = unfold fill_job in rw (a, fill_job) (not_planned_lem r l)
 
     go : (a : Answer) → read_job bytes ≡ a → PlanNumbers (fill_given a order l).plan × LentNumbers (fill_given a order l).lent
     go (refused k) d = unfold fill_given in not_planned_lem (Why.Job k) l

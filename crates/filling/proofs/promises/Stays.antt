@@ -1,4 +1,5 @@
 -- A start, every list of calls after it and a filling leave no number that is not finite, and no minus zero. Assumes nothing.
+use Rattle.std.specs.Prelude.{Ok}
 use Prim.Native.Nat.{ℕ, zero, suc, ◌*◌, ◌/◌, ◌%◌, ◌≤◌, ◌<◌}
 use native.Mathlib.Omega.{arith}
 use mathlib.Core.Path.{◌≡◌, sym, subst}
@@ -16,18 +17,14 @@ use Rattle.frames.specs.Frames as Frames
 use Rattle.job.specs.Jobs.{Job, frame_of, accepted, read_job}
 use Rattle.job.proofs.Accepted.{GoodJob, job_good}
 use Rattle.filling.specs.declared.State.{State}
-use Rattle.filling.specs.declared.Verdict.TheVariants.{Accepted}
-use Rattle.filling.specs.Shapes.{Planner, planner_of, Shape}
-use Rattle.filling.specs.Choice.{Choice, best}
+use Rattle.filling.specs.Shapes.{Planner, planner_of, Shape, Standing, standing_strips}
+use Rattle.filling.specs.Choice.{Choice, best, standing_at}
 use Rattle.filling.specs.Rooms.{Rooms, Lent, zeros}
-use Rattle.filling.specs.State.{by_slot, slot_shape, flat_bounds, empty_layout, standing_to, standing_of, without_of}
+use Rattle.filling.specs.State.{by_slot, slot_shape, flat_bounds, empty_layout, standing_to, standing_of, without_of, tracks_of}
 use Rattle.filling.specs.Start.{apart_strips_of, inset_strips, tables_of, first_state, first_rooms, start_verdict}
 use Rattle.filling.specs.NextCopy.{new_strips, entered, state_with, layout_after, state_after, stored, rooms_after, Step}
 use Rattle.filling.specs.Consistent.{placed_strips_of}
 use Rattle.filling.specs.Search.{search_all, Track}
-use Rattle.filling.specs.Choice.{standing_at}
-use Rattle.filling.specs.Shapes.{Standing, standing_strips}
-use Rattle.filling.specs.State.{tracks_of}
 use Rattle.filling.specs.Plain.{Plain, plain_start, plain_take}
 use Rattle.filling.proofs.Sizes.{Sized, sized}
 use Rattle.filling.proofs.Reading.{sixteen_get}
@@ -277,7 +274,7 @@ module _ (bytes : List ℕ) (j : Job) (e : read_job bytes ≡ accepted j) (order
               (row_good (planner_of j) k (standing_strips (planner_of j) (standing_of s)) (get_or (tracks_of j s) k [])) (under k));
         }
 
-  pub held_start : (l : Lent) → start_verdict j order l ≡ Accepted → Held (first_state (planner_of j) order) (first_rooms (planner_of j) l.rooms)
+  pub held_start : (l : Lent) → start_verdict j order l ≡ Ok tt → Held (first_state (planner_of j) order) (first_rooms (planner_of j) l.rooms)
       (plain_start (planner_of j) order)
   held_start l v =
       record {

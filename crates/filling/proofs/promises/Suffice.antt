@@ -1,4 +1,5 @@
 -- None is refused where the rooms suffice: a start, as many calls as the job has copies, and a filling. Assumes nothing.
+use Rattle.std.specs.Prelude.{Ok}
 use Prim.Native.Nat.{ℕ, zero, suc, ◌+◌, ◌*◌, ◌≤◌, ◌<◌}
 use native.Mathlib.Nat.{mul-le-mul_left, mul-le-mul_right, le_trans}
 use native.Mathlib.Omega.{arith}
@@ -13,7 +14,6 @@ use Rattle.trapezoid.specs.Strip.{capacity}
 use Rattle.index.specs.Buckets.{standing_capacity}
 use Rattle.job.specs.Jobs.{Job, accepted, read_job}
 use Rattle.filling.specs.declared.State.{State}
-use Rattle.filling.specs.declared.Verdict.TheVariants.{Accepted}
 use Rattle.filling.specs.Refusals.{refuse_if}
 use Rattle.filling.specs.Shapes.{Planner, planner_of, no_shape, shape_of, standing_strips}
 use Rattle.filling.specs.Search.{intervals_at, search_all}
@@ -84,7 +84,7 @@ module _ (j : Job) (z : Sized j) (s : State) (w : Rooms) (h : Linked j s w) (m n
       let g = a.placed_entries in
       le_trans b (le_trans d g)
 
-  winner-fits : (cs : List Choice) → winner_verdict P w k St cs ≡ Accepted
+  winner-fits : (cs : List Choice) → winner_verdict P w k St cs ≡ Ok tt
   unfolding winner_verdict store_verdict refuse_if
   winner-fits [] = refl
   winner-fits (c ∷ cs) = rw (
@@ -105,14 +105,14 @@ module _ (j : Job) (z : Sized j) (s : State) (w : Rooms) (h : Linked j s w) (m n
         omega arith
 
     copy-fits : copy_verdict P w iv k St (get_or P.shapes k []) (get_or (tracks_of j s) k []) (search_all P St (get_or P.shapes k []) (get_or (tracks_of j s) k [])) ≡
-        Accepted
+        (Ok tt)
     unfolding copy_verdict refuse_if
     copy-fits = rw (counts-below P St (interval_capacity iv) (get_or P.shapes k []) (get_or (tracks_of j s) k [])
         (search_all P St (get_or P.shapes k []) (get_or (tracks_of j s) k [])) look_below)
         (winner-fits (choices P 0 (get_or P.shapes k []) (search_all P St (get_or P.shapes k []) (get_or (tracks_of j s) k []))))
 
     -- the core step takes the copy
-    core_fits : (core_step j s w iv).verdict ≡ Accepted
+    core_fits : (core_step j s w iv).verdict ≡ Ok tt
     unfolding core_step place_next
     core_fits = rw (e, h.plan, h.stand, place-taken P St (get_or (tracks_of j s) k []) k s w iv copy-fits)
 
@@ -159,7 +159,7 @@ module _ (bytes : List ℕ) (j : Job) (e : read_job bytes ≡ accepted j) (order
     coming = next_of (order_of j s) s.taken (let f = rearranged-length j order r in rw h.own.order_kept
         (let g : s.taken < length order = omega arith in g))
 
-    core_takes : (core_step j s w iv).verdict ≡ Accepted
+    core_takes : (core_step j s w iv).verdict ≡ Ok tt
     core_takes = let c = coming in core_fits j z s w h.own.kept.linked m n h.ample c.0 c.1 c.2 iv a
 
     core_took : Took j s w (core_step j s w iv)
@@ -185,7 +185,7 @@ module _ (bytes : List ℕ) (j : Job) (e : read_job bytes ≡ accepted j) (order
     call_is = rw e (ap step_reply (step-consistent j s w iv (own_consistent j order s w q z b r h.own)))
 
   calls_take : {cs : List Call} → AmpleCalls j m n cs → (s : State) (w : Rooms) (q : Plain) → Ready s w q → s.taken + length cs ≤ j.copies → (after_calls bytes
-      cs s w).verdicts ≡ replicate (length cs) Accepted
+      cs s w).verdicts ≡ replicate (length cs) (Ok tt)
   unfolding after_calls step_reply
   calls_take no_call s w q h l = refl
   calls_take (and_call {iv = iv} {cs = cs} a as') s w q h l =
@@ -208,7 +208,7 @@ module _ (bytes : List ℕ) (j : Job) (e : read_job bytes ≡ accepted j) (order
       (core_ready s w q h (omega arith) iv a) (rw t (omega arith)) in
       (f.0, fill_on j iv n' s w (core_takes s w q h (omega arith) iv a) ∙ f.1)
 
-pub start_fits : (j : Job) (order : List ℕ) (l : Lent) → rearranged j order ≡ true → AmpleStart j l → start_verdict j order l ≡ Accepted
+pub start_fits : (j : Job) (order : List ℕ) (l : Lent) → rearranged j order ≡ true → AmpleStart j l → start_verdict j order l ≡ Ok tt
 unfolding start_verdict prepare_verdict refuse_if
 start_fits j order l r a =
     let p = planner_of j in
@@ -235,7 +235,7 @@ first-ample j m n w a =
 
 module _ (bytes : List ℕ) (j : Job) (e : read_job bytes ≡ accepted j) (order : List ℕ) (r : rearranged j order ≡ true) (m n : ℕ) (l : Lent) (f : AmpleStart j l)
     (a : Ample j m n l.rooms) where
-  begins : start_verdict j order l ≡ Accepted
+  begins : start_verdict j order l ≡ Ok tt
   begins = start_fits j order l r f
 
   start_takes : start_of bytes order l ≡ good_start (planner_of j) order l
@@ -245,12 +245,12 @@ module _ (bytes : List ℕ) (j : Job) (e : read_job bytes ≡ accepted j) (order
   start-ready : Ready bytes j e order r m n (first_state (planner_of j) order) (first_rooms (planner_of j) l.rooms) (plain_start (planner_of j) order)
   start-ready = record { own = own_start j (sized bytes j e) (jobs_within bytes j e) order l begins; ample = first-ample j m n l.rooms a }
 
-  start_is : (start_of bytes order l).verdict ≡ Accepted
+  start_is : (start_of bytes order l).verdict ≡ Ok tt
   unfolding good_start
   start_is = ap (λ s. s.verdict) start_takes
 
   calls_are : {cs : List Call} → AmpleCalls j m n cs → length cs ≤ j.copies → (after_calls bytes cs (start_of bytes order l).state
-      (start_of bytes order l).lent.rooms).verdicts ≡ replicate (length cs) Accepted
+      (start_of bytes order l).lent.rooms).verdicts ≡ replicate (length cs) (Ok tt)
   unfolding good_start
   calls_are cs h = rw start_takes (calls_take bytes j e order r m n cs (first_state (planner_of j) order) (first_rooms (planner_of j) l.rooms)
       (plain_start (planner_of j) order) start-ready (unfold first_state in (let q = h in omega arith)))
@@ -261,13 +261,13 @@ module _ (bytes : List ℕ) (j : Job) (e : read_job bytes ≡ accepted j) (order
   fill-ends i = fill_takes bytes j e order r m n l.intervals i (length order) (first_state (planner_of j) order) (first_rooms (planner_of j) l.rooms)
       (plain_start (planner_of j) order) start-ready (unfold first_state in (let q = rearranged-length j order r in omega arith))
 
-  fill_is : AmpleIntervals j m n l.intervals → (fill_of bytes order l).verdict ≡ Accepted
+  fill_is : AmpleIntervals j m n l.intervals → (fill_of bytes order l).verdict ≡ Ok tt
   unfolding fill_of fill_given fill_job planned_by
   fill_is i = let g = fill-ends i in rw (e, begins, fill_job) (rw (g.1, planned_by) (unfold planned_with in refl))
 
   -- an accepted job in a given order, with rooms that suffice: the start is accepted, so is every call up to the last copy, so is the filling
-  pub rooms_suffice : ((start_of bytes order l).verdict ≡ Accepted)
+  pub rooms_suffice : ((start_of bytes order l).verdict ≡ Ok tt)
       × ((cs : List Call) → AmpleCalls j m n cs → length cs ≤ j.copies → (after_calls bytes cs (start_of bytes order l).state
-      (start_of bytes order l).lent.rooms).verdicts ≡ replicate (length cs) Accepted)
-      × (AmpleIntervals j m n l.intervals → (fill_of bytes order l).verdict ≡ Accepted)
+      (start_of bytes order l).lent.rooms).verdicts ≡ replicate (length cs) (Ok tt))
+      × (AmpleIntervals j m n l.intervals → (fill_of bytes order l).verdict ≡ Ok tt)
   rooms_suffice = (start_is, λ cs a h. calls_are a h, fill_is)

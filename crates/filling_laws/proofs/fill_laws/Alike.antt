@@ -1,4 +1,5 @@
 -- A filling's answer depends on the lengths of the placed rooms, bucket numbers included, and of the interval room, not on what they hold. Assumes nothing.
+use Rattle.std.specs.Prelude.{Result, Ok, Err}
 use Prim.Native.Nat.{ℕ, zero, suc, ◌+◌, ◌-◌}
 use mathlib.Core.Path.{◌≡◌, refl, sym, ap, ap₂, ◌∙◌}
 use mathlib.Core.List.{List, [], ◌∷◌, ◌++◌}
@@ -9,8 +10,6 @@ use Rattle.job.specs.Jobs.{Job}
 use Rattle.filling.specs.declared.State.{State}
 use Rattle.filling.specs.declared.Refusal.{Refusal}
 use Rattle.filling.specs.declared.Refusal.TheVariants as Why
-use Rattle.filling.specs.declared.Verdict.{Verdict}
-use Rattle.filling.specs.declared.Verdict.TheVariants.{Accepted, Refused}
 use Rattle.filling.specs.Shapes.{Planner, Shape}
 use Rattle.filling.specs.Search.{Found, Track, search_all, searched_all}
 use Rattle.filling.specs.Choice.{Choice, choices, best}
@@ -76,7 +75,7 @@ next_is : (j : Job) (s : State) (w : Rooms) (iv : List Float) (k : ℕ) (ks : Li
 unfolding core_step place_next
 next_is j s w iv k ks e = ap (place_next j s w iv) e
 
-used_up : (j : Job) (s : State) (w : Rooms) (iv : List Float) → drop s.taken (order_of j s) ≡ [] → (core_step j s w iv).verdict ≡ Refused Why.OrderUsedUp
+used_up : (j : Job) (s : State) (w : Rooms) (iv : List Float) → drop s.taken (order_of j s) ≡ [] → (core_step j s w iv).verdict ≡ Err Why.OrderUsedUp
 unfolding core_step place_next no_step
 used_up j s w iv e = ap (λ l. (place_next j s w iv l).verdict) e
 
@@ -100,29 +99,29 @@ module _ (j : Job) (iv iv' : List Float) (wide : length iv ≡ length iv') (n : 
     other : core_step j s w' iv' ≡ place_copy p st ts k s w' iv'
     other = next_is j s w' iv' k ks e ∙ ap₂ (λ (q : Planner) (l : List Float). place_copy q l ts k s w' iv') (sym h.planner) (sym h.standing)
 
-    verdict' : (v : Verdict) → copy_verdict p w iv k st ss ts fs ≡ v → copy_verdict p w' iv' k st ss ts fs ≡ v
+    verdict' : (v : Result (Unit {0}) Refusal) → copy_verdict p w iv k st ss ts fs ≡ v → copy_verdict p w' iv' k st ss ts fs ≡ v
     verdict' v d = sym (verdict-same p w w' iv iv' k st ss ts fs h.placed h.entries h.firsts wide) ∙ d
 
-    refuses : (r : Refusal) → copy_verdict p w iv k st ss ts fs ≡ Refused r → fill_from j iv (suc n) s w ≡ fill_from j iv' (suc n) s w'
+    refuses : (r : Refusal) → copy_verdict p w iv k st ss ts fs ≡ Err r → fill_from j iv (suc n) s w ≡ fill_from j iv' (suc n) s w'
     refuses r d =
         let a = next_is j s w iv k ks e ∙ place-refused p st ts k s w iv r d in
-        let b = other ∙ place-refused p st ts k s w' iv' r (verdict' (Refused r) d) in
+        let b = other ∙ place-refused p st ts k s w' iv' r (verdict' (Err r) d) in
         fill_stops j iv n s w r (ap (λ q. q.verdict) a ∙ no_step-refused r s w iv)
         ∙ sym (fill_stops j iv' n s w' r (ap (λ q. q.verdict) b ∙ no_step-refused r s w' iv'))
 
-    takes : copy_verdict p w iv k st ss ts fs ≡ Accepted → fill_from j iv (suc n) s w ≡ fill_from j iv' (suc n) s w'
+    takes : copy_verdict p w iv k st ss ts fs ≡ (Ok tt) → fill_from j iv (suc n) s w ≡ fill_from j iv' (suc n) s w'
     takes d =
         let a = next_is j s w iv k ks e ∙ place-taken p st ts k s w iv d in
-        let b = other ∙ place-taken p st ts k s w' iv' (verdict' Accepted d) in
+        let b = other ∙ place-taken p st ts k s w' iv' (verdict' (Ok tt) d) in
         fill_on j iv n s w (ap (λ q. q.verdict) a)
         ∙ (ap₂ (fill_from j iv n) (ap (λ q. q.state) a) (ap (λ q. q.rooms) a)
         ∙ (more _ _ _ (after_alike j s w w' h p k (searched_all p ss ts fs) st (choices p 0 ss fs))
         ∙ sym (fill_on j iv' n s w' (ap (λ q. q.verdict) b)
         ∙ ap₂ (fill_from j iv' n) (ap (λ q. q.state) b) (ap (λ q. q.rooms) b))))
 
-    by_verdict : (v : Verdict) → copy_verdict p w iv k st ss ts fs ≡ v → fill_from j iv (suc n) s w ≡ fill_from j iv' (suc n) s w'
-    by_verdict Accepted d = takes d
-    by_verdict (Refused r) d = refuses r d
+    by_verdict : (v : Result (Unit {0}) Refusal) → copy_verdict p w iv k st ss ts fs ≡ v → fill_from j iv (suc n) s w ≡ fill_from j iv' (suc n) s w'
+    by_verdict (Ok tt) d = takes d
+    by_verdict (Err r) d = refuses r d
 
     placed_alike : fill_from j iv (suc n) s w ≡ fill_from j iv' (suc n) s w'
     placed_alike = by_verdict (copy_verdict p w iv k st ss ts fs) refl

@@ -1,4 +1,5 @@
 -- Before the first copy: what holds of any placed rooms, and that the filling is the definition's. Assumes nothing.
+use Rattle.std.specs.Prelude.{Result, Ok}
 use Prim.Native.Nat.{ℕ, ◌+◌, ◌*◌, ◌≤◌, ◌<◌, min}
 use native.Mathlib.Omega.{arith}
 use mathlib.Core.Path.{◌≡◌, refl, sym, ap, ap₂, ◌∙◌}
@@ -17,8 +18,6 @@ use Rattle.index.specs.inner.Listing.{Laid, entered_from}
 use Rattle.job.specs.Jobs.{Job, accepted, read_job}
 use Rattle.filling.specs.declared.State.{State}
 use Rattle.filling.specs.declared.Refusal.{Refusal}
-use Rattle.filling.specs.declared.Verdict.{Verdict}
-use Rattle.filling.specs.declared.Verdict.TheVariants.{Accepted}
 use Rattle.filling.specs.Refusals.{refuse_if}
 use Rattle.filling.specs.Shapes.{Planner, planner_of, standing_strips}
 use Rattle.filling.specs.Plain.{plain_start}
@@ -62,7 +61,7 @@ laid_none ix placed entries =
 not_below : (n : ℕ) → ltb n n ≡ false
 not_below n = le-ltb n n (omega arith)
 
-refuse_none : (t : Bool) (r : Refusal) (v : Verdict) → t ≡ false → v ≡ Accepted → refuse_if t r v ≡ Accepted
+refuse_none : (t : Bool) (r : Refusal) (v : Result (Unit {0}) Refusal) → t ≡ false → v ≡ (Ok tt) → refuse_if t r v ≡ (Ok tt)
 unfolding refuse_if
 refuse_none t r v e d = rw (e, refuse_if) d
 
@@ -78,11 +77,11 @@ module _ (j : Job) (few : capacity (planner_of j).sheet ≤ strip_numbers) (orde
         positions = replicate (6 * j.copies) pos_zero;
       }
 
-  prepared : prepare_verdict P enough.rooms ≡ Accepted
+  prepared : prepare_verdict P enough.rooms ≡ (Ok tt)
   unfolding prepare_verdict enough standing_capacity
   prepared = refuse_none _ _ _ (le-ltb (min (min (capacity P.sheet) (length {A = ℕ} (replicate (capacity P.sheet) 0))) strip_numbers) (capacity P.sheet) (let e = length-replicate {A = ℕ} (capacity P.sheet) 0 in omega (arith, few, e))) (refuse_none _ _ _ (not_below (length (entries_for P.bounds P.sheet))) (refuse_none _ _ _ (not_below (capacity (apart_strips_of P ++ inset_strips P))) refl))
 
-  started : start_verdict j order enough ≡ Accepted
+  started : start_verdict j order enough ≡ (Ok tt)
   unfolding start_verdict enough
   started = refuse_none _ _ _ (le-ltb (position_capacity (replicate (6 * j.copies) pos_zero)) j.copies (let e = length-replicate (6 * j.copies) pos_zero in omega arith)) (refuse_none _ _ _ (ap not r) prepared)
 

@@ -1,4 +1,5 @@
 -- Between the copies of a filling: what holds, and what a copy taken or refused leaves. Assumes nothing.
+use Rattle.std.specs.Prelude.{Ok, Err}
 use Prim.Native.Nat.{ℕ, suc, ◌+◌, ◌-◌, ◌*◌, ◌/◌, ◌≤◌, ◌<◌}
 use native.Mathlib.Omega.{arith}
 use mathlib.Core.Path.{◌≡◌, refl, sym, ap, ap₂, subst, subst₂, ◌∙◌}
@@ -16,7 +17,6 @@ use Rattle.job.proofs.Accepted.{job_good}
 use Rattle.filling.specs.declared.State.{State}
 use Rattle.filling.specs.declared.Tables.{Tables}
 use Rattle.filling.specs.declared.Refusal.{Refusal}
-use Rattle.filling.specs.declared.Verdict.TheVariants as Verdicts
 use Rattle.filling.specs.Shapes.{Planner, planner_of}
 use Rattle.filling.specs.Plain.{Plain, plain_start, plain_take}
 use Rattle.filling.specs.Rooms.{Rooms, Lent, laid}
@@ -36,8 +36,7 @@ use Rattle.filling.proofs.OwnKept.{own_took}
 use Rattle.choose.specs.inner.Choosing.{surroundings}
 use Rattle.store.specs.inner.Storing.{FirstsLaid}
 use Rattle.place.specs.declared.Totals.{Totals}
-use Rattle.place.specs.declared.Outcome.{Outcome}
-use Rattle.place.specs.declared.Outcome.TheVariants.{Refused}
+use Rattle.place.specs.inner.Placing.{Outcome}
 use Rattle.place.specs.declared.Step.{Step}
 use Rattle.place.specs.inner.Placing.{Placed, done, place_of, orientation_number, outcome_x, y_of, gap_of}
 use Rattle.filling_laws.proofs.SameCopy.{step_from, step_by, taken_with, code_of}
@@ -208,10 +207,10 @@ module _ (j : Job) (g : Given) (h : Prepared j g) (order : List ℕ) (r : rearra
         count = omega arith
 
         -- a refusal ends the filling
-        pub held_stops : (c : Refusal) → q.outcome ≡ Refused c → (l : Lent) → length l.rooms.placed ≡ length placed → length l.rooms.placed_entries ≡ length entries → length l.intervals ≡ wide → length l.rooms.placed_firsts ≡ length firsts → fill_order j l order ≡ stopped c
+        pub held_stops : (c : Refusal) → q.outcome ≡ Err c → (l : Lent) → length l.rooms.placed ≡ length placed → length l.rooms.placed_entries ≡ length entries → length l.intervals ≡ wide → length l.rooms.placed_firsts ≡ length firsts → fill_order j l order ≡ stopped c
         held_stops c o l u v w z =
             let iv = l.intervals in
-            let e : (core_step j S W iv).verdict ≡ Verdicts.Refused c = ap (λ (z : Next.Step). z.verdict) (sym (step_is iv w D d firsts' F)) ∙ (ap (λ (z : Outcome). (step_by z S W iv firsts' D).verdict) o ∙ no_step-refused c S W iv) in
+            let e : (core_step j S W iv).verdict ≡ Err c = ap (λ (z : Next.Step). z.verdict) (sym (step_is iv w D d firsts' F)) ∙ (ap (λ (z : Outcome). (step_by z S W iv firsts' D).verdict) o ∙ no_step-refused c S W iv) in
             sym (b.same l u v w z) ∙ (ap (λ (m : ℕ). fill_from j iv m S W) count ∙ fill_stops j iv (length order - suc i) S W c e)
 
         -- a copy taken
@@ -253,7 +252,7 @@ module _ (j : Job) (g : Given) (h : Prepared j g) (order : List ℕ) (r : rearra
             core_is : (iv : List Float) → length iv ≡ wide → core_step j S W iv ≡ taken_with S W iv firsts' D
             core_is iv e = sym (step_is iv e D d firsts' F) ∙ taken iv
 
-            accepted_is : (iv : List Float) → length iv ≡ wide → (core_step j S W iv).verdict ≡ Verdicts.Accepted
+            accepted_is : (iv : List Float) → length iv ≡ wide → (core_step j S W iv).verdict ≡ Ok tt
             accepted_is iv e = ap (λ (z : Next.Step). z.verdict) (core_is iv e)
 
             state_is : (iv : List Float) → length iv ≡ wide → (core_step j S W iv).state ≡ S'

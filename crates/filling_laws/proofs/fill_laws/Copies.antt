@@ -1,4 +1,6 @@
 -- The copies of a filling, one after another: what holds before, between and after them. Assumes nothing.
+use Rattle.std.specs.Prelude.{Result, Ok, Err, Some, None}
+use Rattle.filling.specs.declared.Refusal.{Refusal}
 use Prim.Native.Nat.{ℕ, ◌+◌, ◌-◌, ◌*◌, ◌/◌, ◌^◌, ◌≤◌, ◌<◌}
 use native.Mathlib.Omega.{arith}
 use native.Mathlib.Numerals.{add-one}
@@ -14,8 +16,6 @@ use Rattle.rooms.specs.tracks.inner.Tracks.{next_columns, look_counts_from, orie
 use Rattle.rooms.proofs.tracks.Fields.{length-field}
 use Rattle.job.specs.Jobs.{Job}
 use Rattle.filling.specs.declared.State.{State}
-use Rattle.filling.specs.declared.Verdict.{Verdict}
-use Rattle.filling.specs.declared.Verdict.TheVariants as Verdicts
 use Rattle.filling.specs.Shapes.{planner_of}
 use Rattle.filling.specs.Rooms.{Rooms, Lent}
 use Rattle.filling.specs.Order.{rearranged}
@@ -25,8 +25,7 @@ use Rattle.filling.proofs.Begin.{rearranged-length}
 use Rattle.choose.specs.inner.Choosing.{Surroundings, surroundings}
 use Rattle.store.specs.inner.Storing.{FirstsLaid}
 use Rattle.place.specs.declared.Totals.{Totals}
-use Rattle.place.specs.declared.Outcome.{Outcome}
-use Rattle.place.specs.declared.Outcome.TheVariants.{At, Nowhere, Refused}
+use Rattle.place.specs.inner.Placing.{Outcome}
 use Rattle.place.specs.declared.Step.{Step}
 use Rattle.place.specs.inner.Standing.{Standing, Fixed}
 use Rattle.place.specs.inner.Placing.{Placed, verdict_of, done, orientation_number, outcome_x, y_of, gap_of}
@@ -40,9 +39,9 @@ use Rattle.filling_laws.proofs.fill_laws.Between.{Held, held_first, code_with, s
 use Rattle.filling_laws.proofs.fill_laws.Ready.{Doubles, held_fixed, held-counts, held-standing}
 
 -- each copy brings the end nearer
-pub after_less : (v : Verdict) (i m n : ℕ) → i < n → m ≡ next_after v i n → n - m < n - i
-after_less Verdicts.Accepted i m n h e = omega arith
-after_less (Verdicts.Refused c) i m n h e = omega arith
+pub after_less : (v : Result (Unit {0}) Refusal) (i m n : ℕ) → i < n → m ≡ next_after v i n → n - m < n - i
+after_less (Ok tt) i m n h e = omega arith
+after_less (Err c) i m n h e = omega arith
 
 -- rooms of these lengths
 abbrev pub Long : Lent → List Float → List ℕ → List ℕ → ℕ → Type 0
@@ -51,11 +50,11 @@ Long l placed entries firsts wide =
     × (length l.rooms.placed_firsts ≡ length firsts)
 
 -- the filling goes on, or it has ended with a refusal
-abbrev pub Stage : Verdict → Job → Rooms → List ℕ → ℕ → ℕ → Totals → List Float → List ℕ → List ℕ → List ℕ → List ℕ → List ℕ → List Float → List Float → List Float
+abbrev pub Stage : Result (Unit {0}) Refusal → Job → Rooms → List ℕ → ℕ → ℕ → Totals → List Float → List ℕ → List ℕ → List ℕ → List ℕ → List ℕ → List Float → List Float → List Float
     → Type 0
-Stage Verdicts.Accepted j lent order wide i t placed entries firsts looks next orientation x y gap =
+Stage (Ok tt) j lent order wide i t placed entries firsts looks next orientation x y gap =
     Held j lent order wide i t placed entries firsts looks next orientation x y gap
-Stage (Verdicts.Refused c) j lent order wide i t placed entries firsts looks next orientation x y gap = (i ≡ length order) ×
+Stage (Err c) j lent order wide i t placed entries firsts looks next orientation x y gap = (i ≡ length order) ×
     ((l : Lent) → Long l placed entries firsts wide → fill_order j l order ≡ stopped c)
 
 -- the same in a filling's two tables
@@ -63,7 +62,7 @@ abbrev pub HeldIn : Job → Rooms → List ℕ → ℕ → ℕ → Totals → Li
 HeldIn j lent order wide i t placed entries firsts tracks spots =
     Held j lent order wide i t placed entries firsts (look_counts_from tracks) (next_columns tracks) (orientations tracks) (xs spots) (ys spots) (gaps spots)
 
-abbrev pub StageIn : Verdict → Job → Rooms → List ℕ → ℕ → ℕ → Totals → List Float → List ℕ → List ℕ → List ℕ → List Float → Type 0
+abbrev pub StageIn : Result (Unit {0}) Refusal → Job → Rooms → List ℕ → ℕ → ℕ → Totals → List Float → List ℕ → List ℕ → List ℕ → List Float → Type 0
 StageIn v j lent order wide i t placed entries firsts tracks spots =
     Stage v j lent order wide i t placed entries firsts (look_counts_from tracks) (next_columns tracks) (orientations tracks) (xs spots) (ys spots) (gaps spots)
 
@@ -81,7 +80,7 @@ code_in g capacity area slot n t placed entries starts firsts tracks =
 pub record Going (g : Given) (order : List ℕ) (placed₀ : List Float) (entries₀ starts₀ gains₀ : List ℕ) (room₀ : List Float) (tracks₀ : List ℕ)
     (spots₀ : List Float) (firsts₀ : List ℕ)
     (placed : List Float) (entries starts gains : List ℕ) (room : List Float) (tracks : List ℕ) (spots : List Float) (firsts : List ℕ)
-    (v : Verdict) (t : Totals) (i : ℕ) : Type 0 where
+    (v : Result (Unit {0}) Refusal) (t : Totals) (i : ℕ) : Type 0 where
   pub upto : i ≤ length order
   pub laid : Laid g.index placed t.placed_strips entries starts
   pub kept : FirstBuckets g.index placed t.placed_strips firsts
@@ -102,7 +101,7 @@ module _ (g : Given) (order : List ℕ) (placed₀ : List Float) (entries₀ sta
   pub going-first : (t : Totals) → t ≡ record { placed_strips = 0; right = g.bounds.left; unplaced_area = pos_zero }
       → look_counts_from tracks₀ ≡ replicate 1024 0 → next_columns tracks₀ ≡ replicate 1024 1 → starts₀ ≡ replicate 513 0 → AllFit placed₀
       → Going g order placed₀ entries₀ starts₀ gains₀ room₀ tracks₀ spots₀ firsts₀ placed₀ entries₀ starts₀ gains₀ room₀ tracks₀ spots₀ firsts₀
-      Verdicts.Accepted t 0
+      (Ok tt) t 0
   going-first t a b c d f =
       record {
         upto = omega arith;
@@ -124,17 +123,17 @@ module _ (g : Given) (order : List ℕ) (placed₀ : List Float) (entries₀ sta
       }
 
   module _ (placed : List Float) (entries starts gains : List ℕ) (room : List Float) (tracks : List ℕ) (spots : List Float) (firsts : List ℕ)
-      (v : Verdict) (t : Totals) (i : ℕ)
+      (v : Result (Unit {0}) Refusal) (t : Totals) (i : ℕ)
       (G : Going g order placed₀ entries₀ starts₀ gains₀ room₀ tracks₀ spots₀ firsts₀ placed entries starts gains room tracks spots firsts v t i) where
     -- a copy is left only while none was refused
     pub held_now : i < length order → (j : Job) (h : Prepared j g) → rearranged j order ≡ true → HeldIn j h.lent order (length room₀) i t placed entries
         firsts tracks spots
     held_now below j h r = go v (G.stage j h r)
       where
-        go : (v : Verdict) → StageIn v j h.lent order (length room₀) i t placed entries firsts tracks spots → HeldIn j h.lent order (length room₀) i t placed
+        go : (v : Result (Unit {0}) Refusal) → StageIn v j h.lent order (length room₀) i t placed entries firsts tracks spots → HeldIn j h.lent order (length room₀) i t placed
             entries firsts tracks spots
-        go Verdicts.Accepted s = s
-        go (Verdicts.Refused c) s = let e = s.0 in absurd (omega arith)
+        go (Ok tt) s = s
+        go (Err c) s = let e = s.0 in absurd (omega arith)
 
     below-4096 : i < length order → (j : Job) (h : Prepared j g) → rearranged j order ≡ true → i < 4096
     below-4096 below j h r = let a = rearranged-length j order r in let c = (sized h.bytes j h.read).few in omega arith
@@ -198,7 +197,7 @@ module _ (g : Given) (order : List ℕ) (placed₀ : List Float) (entries₀ sta
         long : Long l placed entries firsts (length room₀)
         long = (a ∙ sym G.placed_long, b ∙ sym G.entries_long, c, d ∙ sym G.firsts_long)
 
-        all : HeldIn j h.lent order (length room₀) i t placed entries firsts tracks spots → filling_in Verdicts.Accepted (planner_of j) order tracks t spots ≡
+        all : HeldIn j h.lent order (length room₀) i t placed entries firsts tracks spots → filling_in (Ok tt) (planner_of j) order tracks t spots ≡
             fill_order j l order
         all s =
             let n : length order - i ≡ 0 = let u = ended in omega arith in
@@ -207,10 +206,10 @@ module _ (g : Given) (order : List ℕ) (placed₀ : List Float) (entries₀ sta
             ∙ (ap (λ (m : ℕ). fill_from j l.intervals m (state_in j order i tracks t spots) (rooms_by (planner_of j) h.lent placed entries firsts)) (sym n)
             ∙ s.same l long.0 long.1 long.2 long.3))
 
-        go : (v : Verdict) → StageIn v j h.lent order (length room₀) i t placed entries firsts tracks spots → filling_in v (planner_of j) order tracks t spots ≡
+        go : (v : Result (Unit {0}) Refusal) → StageIn v j h.lent order (length room₀) i t placed entries firsts tracks spots → filling_in v (planner_of j) order tracks t spots ≡
             fill_order j l order
-        go Verdicts.Accepted s = all s
-        go (Verdicts.Refused c) s = sym (s.1 l long)
+        go (Ok tt) s = all s
+        go (Err c) s = sym (s.1 l long)
 
     -- one more
     module _ (below : i < length order) (q : Step) (area : Float) (slot n : ℕ) (placed' : List Float) (entries' starts' gains' : List ℕ) (room' : List Float)
@@ -263,22 +262,22 @@ module _ (g : Given) (order : List ℕ) (placed₀ : List Float) (entries₀ sta
 
           go : (o : Outcome) → q.outcome ≡ o → StageIn (verdict_of o) j h.lent order (length room₀) (next_after (verdict_of o) i (length order)) q.totals
               placed' entries' firsts' tracks' spots'
-          go (At c) e = on (λ iv. ap (λ (z : Outcome). step_by z (state_in j order i tracks t spots) (rooms_by (planner_of j) h.lent placed entries firsts) iv firsts'
+          go (Ok (Some c)) e = on (λ iv. ap (λ (z : Outcome). step_by z (state_in j order i tracks t spots) (rooms_by (planner_of j) h.lent placed entries firsts) iv firsts'
               (done_in q placed' entries' starts' tracks')) e)
-          go Nowhere e = on (λ iv. ap (λ (z : Outcome). step_by z (state_in j order i tracks t spots) (rooms_by (planner_of j) h.lent placed entries firsts) iv firsts'
+          go (Ok None) e = on (λ iv. ap (λ (z : Outcome). step_by z (state_in j order i tracks t spots) (rooms_by (planner_of j) h.lent placed entries firsts) iv firsts'
               (done_in q placed' entries' starts' tracks')) e)
-          go (Refused c) e = (
+          go (Err c) e = (
             refl,
             λ l a. held_stops j g h order r (length room₀) i t placed entries firsts (look_counts_from tracks) (next_columns tracks) (orientations tracks) (xs spots)
                 (ys spots) (gaps spots) b below starts G.laid G.kept q
                 placed' entries' starts' (look_counts_from tracks') (next_columns tracks') firsts' left_is F c e l (a.0 ∙ lp) (a.1 ∙ le) a.2 (a.3 ∙ lf),
           )
 
-      after_upto : (v : Verdict) → next_after v i (length order) ≤ length order
-      after_upto Verdicts.Accepted = omega arith
-      after_upto (Verdicts.Refused c) = omega arith
+      after_upto : (v : Result (Unit {0}) Refusal) → next_after v i (length order) ≤ length order
+      after_upto (Ok tt) = omega arith
+      after_upto (Err c) = omega arith
 
-      pub going_next : (v' : Verdict) (i' : ℕ) → v' ≡ verdict_of q.outcome → i' ≡ next_after v' i (length order)
+      pub going_next : (v' : Result (Unit {0}) Refusal) (i' : ℕ) → v' ≡ verdict_of q.outcome → i' ≡ next_after v' i (length order)
           → Going g order placed₀ entries₀ starts₀ gains₀ room₀ tracks₀ spots₀ firsts₀ placed' entries' starts' gains' room' tracks' spots' firsts'
           v' q.totals i'
       going_next v' i' ev ei =
@@ -287,8 +286,8 @@ module _ (g : Given) (order : List ℕ) (placed₀ : List Float) (entries₀ sta
             laid = L;
             kept = F.kept;
             stage = λ j h r.
-                subst₂ (λ (u : Verdict) (m : ℕ). StageIn u j h.lent order (length room₀) m q.totals placed' entries' firsts' tracks' spots') (sym ev)
-                (sym (ei ∙ ap (λ (u : Verdict). next_after u i (length order)) ev)) (stage_next j h r);
+                subst₂ (λ (u : Result (Unit {0}) Refusal) (m : ℕ). StageIn u j h.lent order (length room₀) m q.totals placed' entries' firsts' tracks' spots') (sym ev)
+                (sym (ei ∙ ap (λ (u : Result (Unit {0}) Refusal). next_after u i (length order)) ev)) (stage_next j h r);
             doubles = fit;
             placed_long = lp ∙ G.placed_long;
             entries_long = le ∙ G.entries_long;

@@ -1,4 +1,6 @@
 -- "No number is left non-finite": every number that a next copy writes is finite, whatever state and rooms it is given. Assumes nothing.
+use Rattle.std.specs.Prelude.{Result, Ok, Err}
+use Rattle.filling.specs.declared.Refusal.{Refusal}
 use Prim.Native.Nat.{ℕ, zero, suc, ◌+◌, ◌*◌, ◌≤◌, ◌<◌, ◌^◌}
 use native.Mathlib.Omega.{arith}
 use mathlib.Core.Path.{◌≡◌, refl, sym, ap, subst, ◌∙◌}
@@ -29,8 +31,6 @@ use Rattle.bits.proofs.Accepted.{UpFrom}
 use Rattle.job.specs.Jobs.{Job, Answer, accepted, refused, read_job}
 use Rattle.job.proofs.Accepted.{GoodJob, job_good}
 use Rattle.filling.specs.declared.State.{State}
-use Rattle.filling.specs.declared.Verdict.{Verdict}
-use Rattle.filling.specs.declared.Verdict.TheVariants.{Accepted, Refused}
 use Rattle.filling.specs.Columns.{ranges, column_at}
 use Rattle.filling.specs.Shapes.{Planner, planner_of, Shape, no_shape, shape_of, moved_strips}
 use Rattle.filling.specs.Search.{Track, ranges_of, look_at, intervals_at, search_all, searched_all}
@@ -313,7 +313,7 @@ module _ (bytes : List ℕ) (j : Job) (a : read_job bytes ≡ accepted j) (s : S
           z y u h = omega arith
 
   after_made : (kind : ℕ) → kind < length (orientation_counts j) → (ts : List Track) (iv : List Float) (cs : List Choice) → Goods (planner_at j s.tables w) kind cs → All (λ (d : Choice). d.orientation < get_or (orientation_counts j) kind 0) cs
-      → MadeBy s w (record { verdict = Accepted; state = state_after (planner_at j s.tables w) kind ts s (placed_strips_of s w) cs; rooms = rooms_after (planner_at j s.tables w) kind w (placed_strips_of s w) cs; intervals = iv })
+      → MadeBy s w (record { verdict = Ok tt; state = state_after (planner_at j s.tables w) kind ts s (placed_strips_of s w) cs; rooms = rooms_after (planner_at j s.tables w) kind w (placed_strips_of s w) cs; intervals = iv })
   unfolding state_after state_with layout_after entered rooms_after stored placed_strips_of
   after_made kind known ts iv [] G h =
       record {
@@ -349,9 +349,9 @@ module _ (bytes : List ℕ) (j : Job) (a : read_job bytes ≡ accepted j) (s : S
       P : Planner
       P = planner_at j s.tables w
 
-      go : (v : Verdict) → copy_verdict P w iv kind (placed_strips_of s w) (get_or P.shapes kind []) ts (search_all P (placed_strips_of s w) (get_or P.shapes kind []) ts) ≡ v → MadeBy s w (place_copy P (placed_strips_of s w) ts kind s w iv)
-      go (Refused r) d = nothing_made s w (place_copy P (placed_strips_of s w) ts kind s w iv) (ap (λ r. r.state) (place-refused P (placed_strips_of s w) ts kind s w iv r d)) (ap (λ r. r.rooms) (place-refused P (placed_strips_of s w) ts kind s w iv r d))
-      go Accepted d =
+      go : (v : Result (Unit {0}) Refusal) → copy_verdict P w iv kind (placed_strips_of s w) (get_or P.shapes kind []) ts (search_all P (placed_strips_of s w) (get_or P.shapes kind []) ts) ≡ v → MadeBy s w (place_copy P (placed_strips_of s w) ts kind s w iv)
+      go (Err r) d = nothing_made s w (place_copy P (placed_strips_of s w) ts kind s w iv) (ap (λ r. r.state) (place-refused P (placed_strips_of s w) ts kind s w iv r d)) (ap (λ r. r.rooms) (place-refused P (placed_strips_of s w) ts kind s w iv r d))
+      go (Ok tt) d =
           rw (place-taken P (placed_strips_of s w) ts kind s w iv d)
           (after_made kind known (searched_all P (get_or P.shapes kind []) ts (search_all P (placed_strips_of s w) (get_or P.shapes kind []) ts)) _ (choices P 0 (get_or P.shapes kind []) (search_all P (placed_strips_of s w) (get_or P.shapes kind []) ts))
           (row_good P kind (placed_strips_of s w) ts)

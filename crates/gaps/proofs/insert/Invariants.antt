@@ -4,6 +4,3 @@ use Rattle.gaps.proofs.insert.Given as goal
 
 abbrev pub invariant-loop-by : goal.invariant-loop-by
 invariant-loop-by l = (l.by ≤ l.width) × Inserted l.lo l.width l.number l.starts l.initial.entries l.by l.entries
-
-abbrev pub decreases-loop-by : goal.decreases-loop-by
-decreases-loop-by l = l.by

@@ -5,27 +5,22 @@ use Rattle.gaps.proofs.Tail.{tail_rise, tail_more, tail_fits, opened_tail}
 use Rattle.gaps.proofs.open_all.Goals as goal
 
 pub bounds-starts-end : goal.bounds-starts-end
-bounds-starts-end c = let c4 = c in
-    omega (arith, c4.requires.0, c4.requires.4)
+bounds-starts-end c = omega (arith, c.requires.0, c.requires.4)
 
 pub bounds-starts-512 : goal.bounds-starts-512
 bounds-starts-512 c = omega (arith, c.requires.0)
 
 pub move_block-requires : goal.move_block-requires
-move_block-requires c = let c6 = c in
-    let p = c6.requires in (p.1 c6.args.end buckets p.4 (omega arith), p.3)
+move_block-requires c = let p = c.requires in (p.1 c.args.end buckets p.4 (omega arith), p.3)
 
 pub shift-requires : goal.shift-requires
-shift-requires c = let c10 = c in
-    let p = c10.requires in
+shift-requires c = let p = c.requires in
     (omega (arith, p.0, p.4), λ d a h. (let y = p.1 d buckets (omega (arith, p.0)) (omega (arith, p.0)) in omega (arith, p.3)))
 
 pub open_gaps-requires : goal.open_gaps-requires
-open_gaps-requires c = let c8 = c in
-    let c15 = c8 in
-    let g = c15.args in
-    let p = c15.requires in
-    let M = c8.move_block.ensures in
+open_gaps-requires c = let g = c.args in
+    let p = c.requires in
+    let M = c.move_block.ensures in
     let S = c.shift.ensures in (
       S.size ∙ p.0,
       p.4,
@@ -44,21 +39,16 @@ open_gaps-requires c = let c8 = c in
     )
 
 pub shape_of-entries : goal.shape_of-entries
-shape_of-entries c = let c13 = c in
-    c.open_gaps.auto.entries ∙ c13.move_block.auto.s
+shape_of-entries c = c.open_gaps.auto.entries ∙ c.move_block.auto.s
 
 pub shape_of-starts : goal.shape_of-starts
-shape_of-starts c = let c9 = c in
-    c.open_gaps.auto.starts ∙ c9.shift.auto.starts
+shape_of-starts c = c.open_gaps.auto.starts ∙ c.shift.auto.starts
 
 pub returns : goal.returns
-returns c = let c9 = c in
-    let c13 = c9 in
-    let c20 = c13 in
-    let g = c20.args in
-    let p = c20.requires in
-    let M = c13.move_block.ensures in
-    let S = c9.shift.ensures in
+returns c = let g = c.args in
+    let p = c.requires in
+    let M = c.move_block.ensures in
+    let S = c.shift.ensures in
     λ G K e. opened_tail g.end g.more g.starts.now G g.entries.now _ _ p.1 p.0 p.4 e (λ d h a. K.late d h (omega arith)) M S _ _
     (c.open_gaps.ensures G K (tail_more g.end g.more g.starts.now G g.entries.now _ _ p.1 p.0 p.4 e
     (λ d h a. K.late d h (omega arith)) M S))

@@ -1,4 +1,5 @@
 -- The entries are compared strip by strip at each bucket's cursor. Assumes nothing.
+use Rattle.std.specs.Prelude.{Option, Some, None}
 use Prim.Native.Nat.{ℕ, zero, suc, ◌+◌, ◌-◌, ◌*◌, ◌<◌, ◌≤◌}
 use native.Mathlib.Omega.{arith}
 use native.Mathlib.Nat.{eq-or-lt_of_le}
@@ -13,8 +14,6 @@ use Rattle.trapezoid.specs.Strip.{strip_at}
 use Rattle.index.specs.declared.Index.{Index}
 use Rattle.index.specs.Buckets.{buckets, up_from, bucket_in, entries_of}
 use Rattle.index.specs.inner.Listing.{entered_from, Laid}
-use Rattle.index.specs.declared.entries.Walked.{Walked}
-use Rattle.index.specs.declared.entries.Walked.TheVariants.{At, Wrong}
 use Rattle.index.specs.entries.inner.Walk.{follows}
 use Rattle.index.specs.entries.inner.Cursors.{raised, sum_of, Counts, Begun}
 use Rattle.index.proofs.EntryLists.{entries_by_bucket}
@@ -24,7 +23,7 @@ use Rattle.index.proofs.entries.Counting.{rest, rest_all, rest-none, rest_in, st
 
 -- ---- where a walk ends
 module _ (es : List ℕ) where
-  end_at : (is : List ℕ) (e f : ℕ) → e ≤ length es → follows es e is ≡ At f → f ≡ e + length is
+  end_at : (is : List ℕ) (e f : ℕ) → e ≤ length es → follows es e is ≡ Some f → f ≡ e + length is
   end_at is e f l h =
       let p = passed es is e f l h in
       let s = length-slice e f es p.end in
@@ -32,20 +31,20 @@ module _ (es : List ℕ) where
       omega (arith, p.on)
 
   -- a list that is longer than what is left
-  pub follows-long : (is : List ℕ) (e : ℕ) → e ≤ length es → length es < e + length is → follows es e is ≡ Wrong
+  pub follows-long : (is : List ℕ) (e : ℕ) → e ≤ length es → length es < e + length is → follows es e is ≡ None
   follows-long is e l m = go (follows es e is) refl
     where
-      go : (w : Walked) → follows es e is ≡ w → w ≡ Wrong
-      go (At f) h = let p = passed es is e f l h in let q = end_at is e f l h in absurd (omega (arith, p.end))
-      go Wrong h = refl
+      go : (w : Option ℕ) → follows es e is ≡ w → w ≡ None
+      go (Some f) h = let p = passed es is e f l h in let q = end_at is e f l h in absurd (omega (arith, p.end))
+      go None h = refl
 
   -- whatever the first list comes to, the second is not there
-  wrong_after : (is js : List ℕ) (e : ℕ) → e ≤ length es → follows es (e + length is) js ≡ Wrong → follows es e (is ++ js) ≡ Wrong
+  wrong_after : (is js : List ℕ) (e : ℕ) → e ≤ length es → follows es (e + length is) js ≡ None → follows es e (is ++ js) ≡ None
   wrong_after is js e l m = go (follows es e is) refl
     where
-      go : (w : Walked) → follows es e is ≡ w → follows es e (is ++ js) ≡ Wrong
-      go (At f) h = then_at es is js e f h ∙ subst (λ (k : ℕ). follows es k js ≡ Wrong) (sym (end_at is e f l h)) m
-      go Wrong h = then_wrong es is js e h
+      go : (w : Option ℕ) → follows es e is ≡ w → follows es e (is ++ js) ≡ None
+      go (Some f) h = then_at es is js e f h ∙ subst (λ (k : ℕ). follows es k js ≡ None) (sym (end_at is e f l h)) m
+      go None h = then_wrong es is js e h
 
 -- ---- the sums of the counts are where the buckets begin
 module _ (ix : Index) (standing : List Float) (n : ℕ) (counts : List ℕ) (K : Counts ix standing n counts) where
@@ -68,7 +67,7 @@ module _ (ix : Index) (standing : List Float) (n : ℕ) (counts : List ℕ) (K :
       subst (λ (m : ℕ). sum_of counts b + length (list b ++ flat_map list (up_from k (suc b))) ≡ sum_of counts m) e (omega arith)
 
   module _ (es : List ℕ) where
-    pub too_many : length es < sum_of counts buckets → follows es 0 (entries_of ix standing n) ≡ Wrong
+    pub too_many : length es < sum_of counts buckets → follows es 0 (entries_of ix standing n) ≡ None
     too_many h =
         let c = count-from buckets 0 (omega arith) in
         let z = sum-none counts in
@@ -95,31 +94,31 @@ module _ (ix : Index) (standing : List Float) (n : ℕ) (counts : List ℕ) (K :
       begin_within b h = let r = sum-rise counts b buckets h in omega arith
 
       -- ---- all buckets
-      from_wrong : (k b d : ℕ) → b + k ≡ buckets → b ≤ d → d < buckets → follows es (sum_of counts d) (list d) ≡ Wrong
-          → follows es (sum_of counts b) (flat_map list (up_from k b)) ≡ Wrong
+      from_wrong : (k b d : ℕ) → b + k ≡ buckets → b ≤ d → d < buckets → follows es (sum_of counts d) (list d) ≡ None
+          → follows es (sum_of counts b) (flat_map list (up_from k b)) ≡ None
       unfolding flat_map up_from
       from_wrong zero b d e h l w = absurd (omega arith)
       from_wrong (suc k) b d e h l w =
           elim (eq-or-lt_of_le h) [
             | inl q ↦
                 then_wrong es (list b) (flat_map list (up_from k (suc b))) (sum_of counts b)
-                (subst (λ (c : ℕ). follows es (sum_of counts c) (list c) ≡ Wrong) (sym q) w)
+                (subst (λ (c : ℕ). follows es (sum_of counts c) (list c) ≡ None) (sym q) w)
             | inr m ↦
                 wrong_after es (list b) (flat_map list (up_from k (suc b))) (sum_of counts b) (begin_within b (omega arith))
-                (subst (λ (c : ℕ). follows es c (flat_map list (up_from k (suc b))) ≡ Wrong) (ap (sum_of counts) (sym (add-one b)) ∙ begin_next b (omega arith))
+                (subst (λ (c : ℕ). follows es c (flat_map list (up_from k (suc b))) ≡ None) (ap (sum_of counts) (sym (add-one b)) ∙ begin_next b (omega arith))
                 (from_wrong k (suc b) d (omega arith) m l w))
           ]
 
-      from-right : (k b : ℕ) → b + k ≡ buckets → ((d : ℕ) → d < buckets → follows es (sum_of counts d) (list d) ≡ At (sum_of counts (d + 1)))
-          → follows es (sum_of counts b) (flat_map list (up_from k b)) ≡ At (sum_of counts buckets)
+      from-right : (k b : ℕ) → b + k ≡ buckets → ((d : ℕ) → d < buckets → follows es (sum_of counts d) (list d) ≡ Some (sum_of counts (d + 1)))
+          → follows es (sum_of counts b) (flat_map list (up_from k b)) ≡ Some (sum_of counts buckets)
       unfolding flat_map up_from
-      from-right zero b e each = let q : b ≡ buckets = omega arith in follows-none es (sum_of counts b) ∙ ap (λ (c : ℕ). At (sum_of counts c)) q
+      from-right zero b e each = let q : b ≡ buckets = omega arith in follows-none es (sum_of counts b) ∙ ap (λ (c : ℕ). Some (sum_of counts c)) q
       from-right (suc k) b e each =
           then_at es (list b) (flat_map list (up_from k (suc b))) (sum_of counts b) (sum_of counts (suc b))
-          (each b (omega arith) ∙ ap (λ (c : ℕ). At (sum_of counts c)) (add-one b))
+          (each b (omega arith) ∙ ap (λ (c : ℕ). Some (sum_of counts c)) (add-one b))
           ∙ from-right k (suc b) (omega arith) each
 
-      whole : (w : Walked) → follows es (sum_of counts 0) (flat_map list (up_from buckets 0)) ≡ w → follows es 0 (entries_of ix standing n) ≡ w
+      whole : (w : Option ℕ) → follows es (sum_of counts 0) (flat_map list (up_from buckets 0)) ≡ w → follows es 0 (entries_of ix standing n) ≡ w
       whole w h =
           ap (follows es 0) (entries_by_bucket ix standing n)
           ∙ subst (λ (k : ℕ). follows es k (flat_map list (up_from buckets 0)) ≡ w) (sum-none counts) h
@@ -154,10 +153,10 @@ module _ (ix : Index) (standing : List Float) (n : ℕ) (counts : List ℕ) (K :
                 ∙ (ap (follows es (get_or s (b + 1) 0)) (sym k.strip) ∙ C.on b h)
 
         -- one number that is not there
-        pub other : (b : ℕ) → lo ≤ b → b ≤ hi → (get_or es (get_or s (b + 1) 0) 0 ≡ i → ⊥) → follows es 0 (entries_of ix standing n) ≡ Wrong
+        pub other : (b : ℕ) → lo ≤ b → b ≤ hi → (get_or es (get_or s (b + 1) 0) 0 ≡ i → ⊥) → follows es 0 (entries_of ix standing n) ≡ None
         other b h k q =
             let t = strip-top ix standing n i lo hi l A B in
-            whole Wrong (from_wrong buckets 0 b refl (omega arith) (omega arith)
+            whole None (from_wrong buckets 0 b refl (omega arith) (omega arith)
             (sym (C.on b (omega arith))
             ∙ (ap (follows es (get_or s (b + 1) 0)) (rest_in ix standing n i lo hi l A B b h k)
             ∙ follows-other es (get_or s (b + 1) 0) i (rest ix standing n (i + 1) b) (cursor_within b h k) q)))
@@ -167,17 +166,17 @@ module _ (ix : Index) (standing : List Float) (n : ℕ) (counts : List ℕ) (K :
         cursor_end : (b : ℕ) → b < buckets → get_or s (b + 1) 0 ≡ sum_of counts (b + 1)
         cursor_end b h = let a = C.left b h in let e : length (rest ix standing n n b) ≡ 0 = ap length (rest-none ix standing n b) in omega arith
 
-        each : (b : ℕ) → b < buckets → follows es (sum_of counts b) (list b) ≡ At (sum_of counts (b + 1))
+        each : (b : ℕ) → b < buckets → follows es (sum_of counts b) (list b) ≡ Some (sum_of counts (b + 1))
         each b h =
             sym (C.on b h)
-            ∙ (ap (follows es (get_or s (b + 1) 0)) (rest-none ix standing n b) ∙ (follows-none es (get_or s (b + 1) 0) ∙ ap At (cursor_end b h)))
+            ∙ (ap (follows es (get_or s (b + 1) 0)) (rest-none ix standing n b) ∙ (follows-none es (get_or s (b + 1) 0) ∙ ap Some (cursor_end b h)))
 
         starts_are : (b : ℕ) → b ≤ buckets → get_or s b 0 ≡ sum_of counts b
         starts_are zero h = C.first ∙ sym (sum-none counts)
         starts_are (suc b) h = subst (λ (k : ℕ). get_or s k 0 ≡ sum_of counts k) (add-one b) (cursor_end b (omega arith))
 
-        pub all_there : At (get_or s buckets 0) ≡ follows es 0 (entries_of ix standing n)
-        all_there = ap At (starts_are buckets (omega arith)) ∙ sym (whole (At (sum_of counts buckets)) (from-right buckets 0 refl each))
+        pub all_there : Some (get_or s buckets 0) ≡ follows es 0 (entries_of ix standing n)
+        all_there = ap Some (starts_are buckets (omega arith)) ∙ sym (whole (Some (sum_of counts buckets)) (from-right buckets 0 refl each))
 
         block : (b : ℕ) → b < buckets → slice (get_or s b 0) (get_or s (b + 1) 0) es ≡ list b
         block b h =

@@ -1,4 +1,5 @@
 -- Laws of the walk. Assumes nothing.
+use Rattle.std.specs.Prelude.{Option, Some, None}
 use Prim.Native.Nat.{ℕ, suc, ◌+◌, ◌-◌, ◌<◌, ◌≤◌}
 use native.Mathlib.Omega.{arith}
 use native.Mathlib.Numerals.{add-one}
@@ -12,35 +13,33 @@ use lib.Dec.{ltb, eqb}
 use borrow.Author.Tests.{lt-ltb, le-ltb, eq-eqb, ne_eqb}
 use Rattle.numbers.proofs.Truth.{either}
 use Rattle.index.specs.Buckets.{up_from, keep}
-use Rattle.index.specs.declared.entries.Walked.{Walked}
-use Rattle.index.specs.declared.entries.Walked.TheVariants.{At, Wrong}
 use Rattle.index.specs.entries.inner.Walk.{follows}
 
-unfoldable pub and_then : Walked → (ℕ → Walked) → Walked
-and_then (At e) f = f e
-and_then Wrong f = Wrong
+unfoldable pub and_then : Option ℕ → (ℕ → Option ℕ) → Option ℕ
+and_then (Some e) f = f e
+and_then None f = None
 
 pub follows_on : (es : List ℕ) (e i : ℕ) (is : List ℕ) → e < length es → get_or es e 0 ≡ i → follows es e (i ∷ is) ≡ follows es (e + 1) is
 unfolding follows
 follows_on es e i is h q = rw (lt-ltb e (length es) h, eq-eqb (get_or es e 0) i q, follows)
 
-pub follows_short : (es : List ℕ) (e i : ℕ) (is : List ℕ) → length es ≤ e → follows es e (i ∷ is) ≡ Wrong
+pub follows_short : (es : List ℕ) (e i : ℕ) (is : List ℕ) → length es ≤ e → follows es e (i ∷ is) ≡ None
 unfolding follows
 follows_short es e i is h = rw (le-ltb e (length es) h, follows)
 
-pub follows-other : (es : List ℕ) (e i : ℕ) (is : List ℕ) → e < length es → (get_or es e 0 ≡ i → ⊥) → follows es e (i ∷ is) ≡ Wrong
+pub follows-other : (es : List ℕ) (e i : ℕ) (is : List ℕ) → e < length es → (get_or es e 0 ≡ i → ⊥) → follows es e (i ∷ is) ≡ None
 unfolding follows
 follows-other es e i is h q = rw (lt-ltb e (length es) h, ne_eqb (get_or es e 0) i q, follows)
 
-pub follows-none : (es : List ℕ) (e : ℕ) → follows es e [] ≡ At e
+pub follows-none : (es : List ℕ) (e : ℕ) → follows es e [] ≡ Some e
 unfolding follows
 follows-none es e = refl
 
-cases : (es : List ℕ) (e i : ℕ) → ((e < length es) × (get_or es e 0 ≡ i)) ⊎ ((is : List ℕ) → follows es e (i ∷ is) ≡ Wrong)
+cases : (es : List ℕ) (e i : ℕ) → ((e < length es) × (get_or es e 0 ≡ i)) ⊎ ((is : List ℕ) → follows es e (i ∷ is) ≡ None)
 cases es e i = go (ltb e (length es)) (lib.Dec.ltb→lt e (length es)) (lib.Dec.nltb→le e (length es)) (eqb (get_or es e 0) i) (lib.Dec.eqb→eq (get_or es e 0) i) (λ (t : eqb (get_or es e 0) i ≡ false) (q : get_or es e 0 ≡ i). true≢false (sym (eq-eqb (get_or es e 0) i q) ∙ t)) refl
   where
     go : (t : Bool) → (lib.Dec.T t → e < length es) → (lib.Dec.T (mathlib.Core.Bool.not t) → length es ≤ e) → (u : Bool) → (lib.Dec.T u → get_or es e 0 ≡ i) → (eqb (get_or es e 0) i ≡ false → get_or es e 0 ≡ i → ⊥) → eqb (get_or es e 0) i ≡ u
-        → ((e < length es) × (get_or es e 0 ≡ i)) ⊎ ((is : List ℕ) → follows es e (i ∷ is) ≡ Wrong)
+        → ((e < length es) × (get_or es e 0 ≡ i)) ⊎ ((is : List ℕ) → follows es e (i ∷ is) ≡ None)
     go true f g true a b c = inl (f tt, a tt)
     go true f g false a b c = inr (λ is. follows-other es e i is (f tt) (b c))
     go false f g u a b c = inr (λ is. follows_short es e i is (g tt))
@@ -50,17 +49,17 @@ unfolding and_then
 follows_append es [] ys e = rw (follows-none es e)
 follows_append es (x ∷ xs) ys e = go (follows_append es xs ys (e + 1)) (cases es e x)
   where
-    go : follows es (e + 1) (xs ++ ys) ≡ and_then (follows es (e + 1) xs) (λ f. follows es f ys) → ((e < length es) × (get_or es e 0 ≡ x)) ⊎ ((is : List ℕ) → follows es e (x ∷ is) ≡ Wrong) → follows es e (x ∷ (xs ++ ys)) ≡ and_then (follows es e (x ∷ xs)) (λ f. follows es f ys)
-    go below (inl t) = follows_on es e x (xs ++ ys) t.0 t.1 ∙ (below ∙ ap (λ (w : Walked). and_then w (λ f. follows es f ys)) (sym (follows_on es e x xs t.0 t.1)))
-    go below (inr t) = t (xs ++ ys) ∙ ap (λ (w : Walked). and_then w (λ f. follows es f ys)) (sym (t xs))
+    go : follows es (e + 1) (xs ++ ys) ≡ and_then (follows es (e + 1) xs) (λ f. follows es f ys) → ((e < length es) × (get_or es e 0 ≡ x)) ⊎ ((is : List ℕ) → follows es e (x ∷ is) ≡ None) → follows es e (x ∷ (xs ++ ys)) ≡ and_then (follows es e (x ∷ xs)) (λ f. follows es f ys)
+    go below (inl t) = follows_on es e x (xs ++ ys) t.0 t.1 ∙ (below ∙ ap (λ (w : Option ℕ). and_then w (λ f. follows es f ys)) (sym (follows_on es e x xs t.0 t.1)))
+    go below (inr t) = t (xs ++ ys) ∙ ap (λ (w : Option ℕ). and_then w (λ f. follows es f ys)) (sym (t xs))
 
-pub then_at : (es : List ℕ) (xs ys : List ℕ) (e f : ℕ) → follows es e xs ≡ At f → follows es e (xs ++ ys) ≡ follows es f ys
+pub then_at : (es : List ℕ) (xs ys : List ℕ) (e f : ℕ) → follows es e xs ≡ Some f → follows es e (xs ++ ys) ≡ follows es f ys
 unfolding and_then
-then_at es xs ys e f h = follows_append es xs ys e ∙ ap (λ (w : Walked). and_then w (λ f. follows es f ys)) h
+then_at es xs ys e f h = follows_append es xs ys e ∙ ap (λ (w : Option ℕ). and_then w (λ f. follows es f ys)) h
 
-pub then_wrong : (es : List ℕ) (xs ys : List ℕ) (e : ℕ) → follows es e xs ≡ Wrong → follows es e (xs ++ ys) ≡ Wrong
+pub then_wrong : (es : List ℕ) (xs ys : List ℕ) (e : ℕ) → follows es e xs ≡ None → follows es e (xs ++ ys) ≡ None
 unfolding and_then
-then_wrong es xs ys e h = follows_append es xs ys e ∙ ap (λ (w : Walked). and_then w (λ f. follows es f ys)) h
+then_wrong es xs ys e h = follows_append es xs ys e ∙ ap (λ (w : Option ℕ). and_then w (λ f. follows es f ys)) h
 
 -- what a walk that ends has passed
 pub record Passed (es : List ℕ) (e f : ℕ) (is : List ℕ) : Type 0 where
@@ -68,11 +67,11 @@ pub record Passed (es : List ℕ) (e f : ℕ) (is : List ℕ) : Type 0 where
   pub end : f ≤ length es
   pub part : slice e f es ≡ is
 
-pub passed : (es is : List ℕ) (e f : ℕ) → e ≤ length es → follows es e is ≡ At f → Passed es e f is
+pub passed : (es is : List ℕ) (e f : ℕ) → e ≤ length es → follows es e is ≡ Some f → Passed es e f is
 passed es [] e f l h = let q : e ≡ f = cc (follows-none es e) in rw (← q) (record { on = omega arith; end = l; part = slice_empty e es })
 passed es (i ∷ is) e f l h = go (λ m g. passed es is (e + 1) f m g) (cases es e i)
   where
-    go : (e + 1 ≤ length es → follows es (e + 1) is ≡ At f → Passed es (e + 1) f is) → ((e < length es) × (get_or es e 0 ≡ i)) ⊎ ((is : List ℕ) → follows es e (i ∷ is) ≡ Wrong) → Passed es e f (i ∷ is)
+    go : (e + 1 ≤ length es → follows es (e + 1) is ≡ Some f → Passed es (e + 1) f is) → ((e < length es) × (get_or es e 0 ≡ i)) ⊎ ((is : List ℕ) → follows es e (i ∷ is) ≡ None) → Passed es e f (i ∷ is)
     go below (inl t) =
         let p = below (omega (arith, t.0)) (sym (follows_on es e i is t.0 t.1) ∙ h) in
         let u = p.on in

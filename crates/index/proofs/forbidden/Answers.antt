@@ -1,6 +1,6 @@
+use Rattle.std.specs.Prelude.{Some}
 use mathlib.Core.Path.{◌≡◌, sym, ap, ◌∙◌}
 use lib.Ieee.{lt}
-use Rattle.index.specs.declared.Meeting.TheVariants.{Forbidden}
 use Rattle.index.specs.inner.Listing.{heights_of}
 use Rattle.index.proofs.Steps.{meeting_apart, meeting_over}
 use Rattle.index.proofs.forbidden.Goals as goal
@@ -12,7 +12,7 @@ pub returns-then-a-b : goal.returns-then-a-b
 returns-then-a-b c = let g = c.args in
     let L = c.larger-a.ensures in
     let S = c.smaller-b.ensures in
-    ap Forbidden (c.heights.ensures ∙ ap2 (heights_of g.p g.m) L S) ∙ sym (meeting_over g.m g.p (ap2 lt (sym L) (sym S) ∙ c.if-a-b.true))
+    ap Some (c.heights.ensures ∙ ap2 (heights_of g.p g.m) L S) ∙ sym (meeting_over g.m g.p (ap2 lt (sym L) (sym S) ∙ c.if-a-b.true))
 
 pub returns : goal.returns
 returns c = let g = c.args in

@@ -14,17 +14,14 @@ loop-e-init c = (omega arith, refl, refl)
 
 pub meet_once-n-requires : goal.meet_once-n-requires
 unfolding capacity
-meet_once-n-requires c = let c3 = c in
-    let c8 = c3 in
-    let p = c8.requires in
-    let w = subst (λ (i : ℕ). 6 * i + 6 ≤ length c8.args.standing.now) (sym c.entry-i.ensures)
-    (p.1 c3.loop-e.e c3.loop-e.invariant.0 (omega (arith, c.loop-e-test.true))) in
+meet_once-n-requires c = let p = c.requires in
+    let w = subst (λ (i : ℕ). 6 * i + 6 ≤ length c.args.standing.now) (sym c.entry-i.ensures)
+    (p.1 c.loop-e.e c.loop-e.invariant.0 (omega arith)) in
     (w, omega (arith, w, p.2))
 
 pub loop-e-preserved : goal.loop-e-preserved
 unfolding list_entries_by
-loop-e-preserved c = let c11 = c in
-    let g = c11.args in
+loop-e-preserved c = let g = c.args in
     let l = c.loop-e in
     let f : ℕ → List Interval = λ i. entry_by g.m g.first g.b (get_or g.firsts.now i 0) (strip_at g.standing.now i) in
     let E = c.meet_once-n.ensures ∙ ap (λ (i : ℕ). push_all (collected l.room l.n) (f i))

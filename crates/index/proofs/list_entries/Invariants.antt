@@ -8,6 +8,3 @@ abbrev pub invariant-loop-e : goal.invariant-loop-e
 invariant-loop-e l = (l.from ≤ l.e) × (length l.room ≡ length l.initial.room) ×
     (push_all (collected l.room l.n) (list_entries_by l.m l.first l.b l.standing l.firsts l.entries (l.to - l.e) l.e) ≡ push_all (collected l.initial.room l.start)
     (list_entries_by l.m l.first l.b l.standing l.firsts l.entries (l.to - l.from) l.from))
-
-abbrev pub decreases-loop-e : goal.decreases-loop-e
-decreases-loop-e l = l.to - l.e

@@ -13,32 +13,24 @@ pub loop-b-init : goal.loop-b-init
 loop-b-init c = (refl, refl)
 
 pub bounds-starts-b : goal.bounds-starts-b
-bounds-starts-b c = let c10 = c in
-    let t = bucket_top c10.args.ix c10.args.m.x1 in omega (arith, c.bucket-last.ensures, c10.requires.0.table)
+bounds-starts-b c = let t = bucket_top c.args.ix c.args.m.x1 in omega (arith, c.bucket-last.ensures, c.requires.0.table)
 
 pub bounds-starts-b-in-loop-b : goal.bounds-starts-b-in-loop-b
-bounds-starts-b-in-loop-b c = let c11 = c in
-    let t = bucket_top c11.args.ix c11.args.m.x1 in omega (arith, c.bucket-last.ensures, c11.requires.0.table)
+bounds-starts-b-in-loop-b c = let t = bucket_top c.args.ix c.args.m.x1 in omega (arith, c.bucket-last.ensures, c.requires.0.table)
 
 pub list_entries-n-requires : goal.list_entries-n-requires
-list_entries-n-requires c = let c4 = c in
-    let c12 = c4 in
-    let t = bucket_top c12.args.ix c12.args.m.x1 in
-    let k : c4.loop-b.b < 512 = omega (arith, c.bucket-last.ensures) in
-    (c12.requires.0.within (c4.loop-b.b + 1) (omega arith), c12.requires.0.strips c4.loop-b.b k, c12.requires.1.long)
+list_entries-n-requires c = let t = bucket_top c.args.ix c.args.m.x1 in
+    let k : c.loop-b.b < 512 = omega (arith, c.bucket-last.ensures) in
+    (c.requires.0.within (c.loop-b.b + 1) (omega arith), c.requires.0.strips c.loop-b.b k, c.requires.1.long)
 
 pub loop-b-preserved : goal.loop-b-preserved
 unfolding list_bucket_by
-loop-b-preserved c = let c7 = c in
-    let c8 = c7 in
-    let c9 = c8 in
-    let c15 = c9 in
-    let g = c15.args in
-    let l = c7.loop-b in
+loop-b-preserved c = let g = c.args in
+    let l = c.loop-b in
     let E = c.list_entries-n.ensures in (
       kept-length l.room _ l.n _ _ E ∙ l.invariant.0,
-      turn (list_bucket_by g.m c9.bucket-first.result g.standing.now g.firsts.now g.entries.now g.starts.now) l.room _ l.n _
-          (c8.bucket-last.result + 1) l.b _ (omega (arith, c.loop-b-test.true)) E l.invariant.1,
+      turn (list_bucket_by g.m c.bucket-first.result g.standing.now g.firsts.now g.entries.now g.starts.now) l.room _ l.n _
+          (c.bucket-last.result + 1) l.b _ (omega arith) E l.invariant.1,
     )
 
 pub shape_of-room : goal.shape_of-room
@@ -46,15 +38,12 @@ shape_of-room c = c.loop-b.invariant.0
 
 pub returns : goal.returns
 unfolding list_moving
-returns c = let c2 = c in
-    let c3 = c2 in
-    let c9 = c3 in
-    let g = c9.args in
-    let p = c9.requires in
+returns c = let g = c.args in
+    let p = c.requires in
     let l = c.loop-b in
-    let first = c3.bucket-first.result in
-    let last = c2.bucket-last.result in
-    let t = c2.bucket-last.ensures in
+    let first = c.bucket-first.result in
+    let last = c.bucket-last.result in
+    let t = c.bucket-last.ensures in
     let h : last < 512 = omega (arith, t, bucket_top g.ix g.m.x1) in
     let s : List Interval → Collected = push_all (collected g.room.now g.start) in
     let f = bucket_in g.ix g.m.x0 in
@@ -62,7 +51,7 @@ returns c = let c2 = c in
     sym (over_end (list_bucket_by g.m first g.standing.now g.firsts.now g.entries.now g.starts.now) (collected l.room l.n) (last + 1)
     l.b (omega arith)) ∙ (l.invariant.1
     ∙ ap s (moving_by g.ix g.m first last g.standing.now g.firsts.now g.entries.now g.starts.now p.0 p.1 h)
-    ∙ ap (λ (u : ℕ). s (flat_map (list u) (up_from (last + 1 - u) u))) c3.bucket-first.ensures
+    ∙ ap (λ (u : ℕ). s (flat_map (list u) (up_from (last + 1 - u) u))) c.bucket-first.ensures
     ∙ ap (λ (u : ℕ). s (flat_map (list f) (up_from (u + 1 - f) f))) t)
 
 pub offset_bounds-starts-b : goal.offset_bounds-starts-b
@@ -74,5 +63,5 @@ overflow_add-to c = let t = bucket_top c.args.ix c.args.m.x1 in omega (arith, c.
 pub offset_bounds-starts-b-in-loop-b : goal.offset_bounds-starts-b-in-loop-b
 offset_bounds-starts-b-in-loop-b c = let t = bucket_top c.args.ix c.args.m.x1 in omega (arith, c.bucket-last.ensures)
 
-pub overflow_add-b : goal.overflow_add-b
-overflow_add-b c = let t = bucket_top c.args.ix c.args.m.x1 in omega (arith, c.bucket-last.ensures)
+pub overflow_add-b-end : goal.overflow_add-b-end
+overflow_add-b-end c = let t = bucket_top c.args.ix c.args.m.x1 in omega (arith, c.bucket-last.ensures)

@@ -10,6 +10,3 @@ abbrev pub invariant-loop-b : goal.invariant-loop-b
 invariant-loop-b l = (length l.room ≡ length l.initial.room) ×
     (push_all (collected l.room l.n) (flat_map (list_bucket_by l.m l.first l.standing l.firsts l.entries l.starts) (up_from (l.last + 1 - l.b) l.b)) ≡
     push_all (collected l.initial.room l.start) (flat_map (list_bucket_by l.m l.first l.standing l.firsts l.entries l.starts) (up_from (l.last + 1 - l.first) l.first)))
-
-abbrev pub decreases-loop-b : goal.decreases-loop-b
-decreases-loop-b l = l.last + 1 - l.b

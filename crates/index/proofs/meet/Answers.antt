@@ -9,10 +9,10 @@ returns-in_default c = let g = c.args in
 
 pub returns-then-counts : goal.returns-then-counts
 returns-then-counts c = let g = c.args in
-    let i = c.in-Forbidden.i in
-    c.push.ensures ∙ sym (ap (push_all (collected g.room.now g.n)) (pair_counts g.m g.p i (sym c.in-Forbidden.ensures) (sym c.counts.ensures ∙ c.if-counts.true)) ∙ push_all-one (collected g.room.now g.n) i)
+    let i = c.in-Some.i in
+    c.push.ensures ∙ sym (ap (push_all (collected g.room.now g.n)) (pair_counts g.m g.p i (sym c.in-Some.ensures) (sym c.counts.ensures ∙ c.if-counts.true)) ∙ push_all-one (collected g.room.now g.n) i)
 
 pub returns : goal.returns
 returns c = let g = c.args in
-    let i = c.in-Forbidden.i in
-    sym (ap (push_all (collected g.room.now g.n)) (pair_counts-not g.m g.p i (sym c.in-Forbidden.ensures) (sym c.counts.ensures ∙ c.if-counts.false)) ∙ push_all-none (collected g.room.now g.n))
+    let i = c.in-Some.i in
+    sym (ap (push_all (collected g.room.now g.n)) (pair_counts-not g.m g.p i (sym c.in-Some.ensures) (sym c.counts.ensures ∙ c.if-counts.false)) ∙ push_all-none (collected g.room.now g.n))

@@ -7,5 +7,5 @@ use Rattle.index.proofs.standing_capacity.Goals as goal
 pub returns : goal.returns
 unfolding standing_capacity
 returns c = let g = c.args in
-    c.fewer.ensures ∙ ap (λ (k : ℕ). min k strip_numbers) (c.fewer-n.ensures ∙ ap (λ (k : ℕ). min k (length g.firsts.now))
+    c.min.ensures ∙ ap (λ (k : ℕ). min k strip_numbers) (c.min-n.ensures ∙ ap (λ (k : ℕ). min k (length g.firsts.now))
     c.capacity.ensures)

@@ -1,5 +1,6 @@
 -- Inner functions' contracts only: the entries of one bucket, the order in which the index lists the counted intervals, the interval room, and
 -- what its functions require. Definitions only. Assumes nothing.
+use Rattle.std.specs.Prelude.{Option, Some, None}
 use Rattle.std.specs.Prelude.{ℕ, ◌+◌, ◌-◌, ◌*◌, ◌/◌, ◌<◌, ◌≤◌, ◌≡◌, Bool, true, false, ◌&&◌, ◌||◌, length, get_or, set, leb, eqb, ltb, Float}
 use mathlib.Core.List.{List, [], ◌∷◌, map, flat_map}
 use Rattle.std.proofs.Math.Seq.{slice}
@@ -11,8 +12,6 @@ use Rattle.trapezoid.specs.declared.Trapezoid.{Trapezoid}
 use Rattle.trapezoid.specs.Strip.{strip_at, heights_at}
 use Rattle.index.specs.declared.Index.{Index}
 use Rattle.index.specs.declared.Interval.{Interval}
-use Rattle.index.specs.declared.Meeting.{Meeting}
-use Rattle.index.specs.declared.Meeting.TheVariants.{Apart, Forbidden}
 use Rattle.index.specs.declared.Moving.{Moving}
 use Rattle.index.specs.Buckets.{buckets, up_from, keep, bucket_in}
 use Rattle.index.specs.Intervals.{interval_of, interval_in, counts_of}
@@ -33,11 +32,11 @@ moving_of q x y_low y_high = record { strip = q; x = x; x0 = q.x0 ⊕ x; x1 = q.
 unfoldable pub heights_of : Trapezoid → Moving → Float → Float → Interval
 heights_of p m a b = interval_of (heights_at p a) (heights_at p b) (heights_at m.strip (a ⊖ m.x)) (heights_at m.strip (b ⊖ m.x))
 
-unfoldable pub meeting_at : Moving → Trapezoid → Meeting
+unfoldable pub meeting_at : Moving → Trapezoid → Option Interval
 meeting_at m p =
     let a = larger p.x0 m.x0 in
     let b = smaller p.x1 m.x1 in
-    elim (lt a b) [ true ↦ Forbidden (heights_of p m a b) | false ↦ Apart ]
+    elim (lt a b) [ true ↦ Some (heights_of p m a b) | false ↦ None ]
 
 -- the counted interval of a pair, if there is one
 unfoldable pub pair_of : Moving → Trapezoid → List Interval

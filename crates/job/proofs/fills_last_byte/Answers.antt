@@ -8,8 +8,8 @@ returns-then-k-bytes c = ended_more c.args.bytes.now c.args.p c.if-k-bytes.true
 pub returns-then-bytes-k : goal.returns-then-bytes-k
 returns-then-bytes-k c = ended_less c.args.bytes.now c.args.p c.if-bytes-k.true
 
-pub returns-in-Bits : goal.returns-in-Bits
-returns-in-Bits c = ended_same c.args.bytes.now c.args.p c.if-bytes-k.false c.if-k-bytes.false c.in-Bits.ensures
+pub returns-in-Ok : goal.returns-in-Ok
+returns-in-Ok c = ended_same c.args.bytes.now c.args.p c.if-bytes-k.false c.if-k-bytes.false c.in-Ok.ensures
 
-pub returns-in-End : goal.returns-in-End
-returns-in-End c = ended_never c.args.bytes.now c.args.p c.if-bytes-k.false c.if-k-bytes.false c.in-End.ensures
+pub returns-in-Err : goal.returns-in-Err
+returns-in-Err c = ended_never c.args.bytes.now c.args.p c.if-bytes-k.false c.if-k-bytes.false c.in-Err.ensures

@@ -3,4 +3,6 @@ use Rattle.job_exports.proofs.Telling.{header_is}
 use Rattle.job_exports.proofs.header_of.Goals as goal
 
 pub returns : goal.returns
-returns c = header_is _ _ _ _ _ _ _ _ c.count_at-version.ensures c.count_at-corner.ensures c.count_at-axis.ensures c.count_at-kinds.ensures c.count_at-rounds.ensures c.count_at-seed.ensures
+returns c =
+    header_is _ _ _ _ _ _ _ _ c.value_at.ensures c.value_at-2.ensures c.value_at-3.ensures c.value_at-4.ensures c.value_at-5.ensures
+    c.value_at-6.ensures

@@ -3,6 +3,8 @@ use Rattle.job_exports.proofs.Telling.{tables-told}
 use Rattle.job_exports.proofs.panel_tables.Goals as goal
 
 pub returns : goal.returns
-returns c = let c7 = c in
-    let c17 = c7 in
-    tables-told _ _ _ _ _ (record { reply = c17.read_tables-r.result; rows = c17.read_tables-r.new.rows; areas = c17.read_tables-r.new.areas; counts = c17.read_tables-r.new.counts; coordinates = c17.read_tables-r.new.coordinates }) _ c17.read_tables-r.ensures c.reply_number.ensures c7.tell_header.ensures c.tell_resolution.ensures
+returns c =
+    let r = c.read_tables-r in
+    tables-told _ _ _ _ _
+    (record { reply = r.result; rows = r.new.rows; areas = r.new.areas; counts = r.new.counts; coordinates = r.new.coordinates }) _
+    r.ensures c.reply_number.ensures c.tell_header.ensures c.tell_resolution.ensures

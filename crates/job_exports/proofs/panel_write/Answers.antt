@@ -8,7 +8,8 @@ use Rattle.job_exports.proofs.Telling.{job-told}
 use Rattle.job_exports.proofs.panel_write.Goals as goal
 
 pub returns : goal.returns
-returns c = let c8 = c in
-    let c10 = c8 in
-    let c18 = c10 in
-    job-told _ _ _ _ (record { reply = c8.write_job-r.result; out = c8.write_job-r.new.out }) _ (c8.write_job-r.ensures ∙ ap (λ (h : Header). written (given_job h c18.args.rows.now c18.args.areas.now c18.args.counts.now c18.args.coordinates.now) (length c18.args.out.now)) c10.header_of.ensures) c.reply_number.ensures c.bytes_written.ensures c.store_number.ensures
+returns c =
+    job-told _ _ _ _ (record { reply = c.write_job-r.result; out = c.write_job-r.new.out }) _
+    (c.write_job-r.ensures
+    ∙ ap (λ (h : Header). written (given_job h c.args.rows.now c.args.areas.now c.args.counts.now c.args.coordinates.now) (length c.args.out.now)) c.header_of.ensures)
+    c.reply_number.ensures c.unwrap_or.ensures c.store.ensures

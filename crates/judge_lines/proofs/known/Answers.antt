@@ -16,55 +16,48 @@ returns-then-lacks c = let a = c.args in
     λ j areas t e. known_not j _ a.kind a.orientation (sym (c.lacks.ensures j areas t e) ∙ c.if-lacks.true)
 
 pub overflow_mul-quantity : goal.overflow_mul-quantity
-overflow_mul-quantity c = let c4 = c in
-    let p = c4.requires in
-    let b = has_kind p.0.0 c4.args.kind c4.args.orientation (sym (c.lacks.ensures p.0.0 p.0.1 p.0.2 p.0.3) ∙
+overflow_mul-quantity c = let p = c.requires in
+    let b = has_kind p.0.0 c.args.kind c.args.orientation (sym (c.lacks.ensures p.0.0 p.0.1 p.0.2 p.0.3) ∙
     c.if-lacks.false) in
     let f = p.0.2.few in
     record { fits = omega (arith, b, f) }
 
 pub offset_bounds-rows-kind : goal.offset_bounds-rows-kind
-offset_bounds-rows-kind c = let c4 = c in
-    let p = c4.requires in
-    let b = has_kind p.0.0 c4.args.kind c4.args.orientation (sym (c.lacks.ensures p.0.0 p.0.1 p.0.2 p.0.3) ∙
+offset_bounds-rows-kind c = let p = c.requires in
+    let b = has_kind p.0.0 c.args.kind c.args.orientation (sym (c.lacks.ensures p.0.0 p.0.1 p.0.2 p.0.3) ∙
     c.if-lacks.false) in
     let f = p.0.2.few in
     record { fits = omega (arith, b, f) }
 
 pub bounds-rows-kind : goal.bounds-rows-kind
-bounds-rows-kind c = let c5 = c in
-    let p = c5.requires in
-    let b = has_kind p.0.0 c5.args.kind c5.args.orientation (sym (c.lacks.ensures p.0.0 p.0.1 p.0.2 p.0.3) ∙
+bounds-rows-kind c = let p = c.requires in
+    let b = has_kind p.0.0 c.args.kind c.args.orientation (sym (c.lacks.ensures p.0.0 p.0.1 p.0.2 p.0.3) ∙
     c.if-lacks.false) in
     let f = p.0.2.few in
     let r = p.0.2.rows_long in
     omega (arith, b, f, r)
 
 pub offset_bounds-counts-kind : goal.offset_bounds-counts-kind
-offset_bounds-counts-kind c = let c5 = c in
-    let p = c5.requires in
-    let b = has_kind p.0.0 c5.args.kind c5.args.orientation (sym (c.lacks.ensures p.0.0 p.0.1 p.0.2 p.0.3) ∙
+offset_bounds-counts-kind c = let p = c.requires in
+    let b = has_kind p.0.0 c.args.kind c.args.orientation (sym (c.lacks.ensures p.0.0 p.0.1 p.0.2 p.0.3) ∙
     c.if-lacks.false) in
     let f = p.0.2.few in
     record { fits = omega (arith, b, f) }
 
 pub bounds-counts-kind : goal.bounds-counts-kind
-bounds-counts-kind c = let c6 = c in
-    let p = c6.requires in
-    let b = has_kind p.0.0 c6.args.kind c6.args.orientation (sym (c.lacks.ensures p.0.0 p.0.1 p.0.2 p.0.3)
+bounds-counts-kind c = let p = c.requires in
+    let b = has_kind p.0.0 c.args.kind c.args.orientation (sym (c.lacks.ensures p.0.0 p.0.1 p.0.2 p.0.3)
     ∙ c.if-lacks.false) in
     let f = p.0.2.few in
     let r = p.1 in
     omega (arith, b, f, r)
 
 pub returns-then-quantity-counts : goal.returns-then-quantity-counts
-returns-then-quantity-counts c = let c7 = c in
-    let a = c7.args in
+returns-then-quantity-counts c = let a = c.args in
     λ j areas t e. known_full j _ a.kind a.orientation a.rows.now areas t
     (sym (c.lacks.ensures j areas t e) ∙ c.if-lacks.false) c.if-quantity-counts.true
 
 pub returns : goal.returns
-returns c = let c7 = c in
-    let a = c7.args in
+returns c = let a = c.args in
     λ j areas t e. known_more j _ a.kind a.orientation a.rows.now areas t
     (sym (c.lacks.ensures j areas t e) ∙ c.if-lacks.false) c.if-quantity-counts.false

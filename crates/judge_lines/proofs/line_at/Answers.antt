@@ -1,15 +1,14 @@
 -- `line_at`: kind, orientation, and two doubles by their bits. Assumes nothing.
+use Rattle.std.specs.Prelude.{Option, Float}
 use mathlib.Core.Path.{ap₂}
 use Prim.Native.Nat.{◌+◌, ◌*◌}
 use lib.ListN.{get_or}
-use Rattle.numbers.specs.declared.Double.{Double}
 use Rattle.layouts.specs.Layouts.{line_at}
 use Rattle.judge_lines.proofs.line_at.Goals as goal
 
 pub returns : goal.returns
 unfolding line_at
-returns c = let c7 = c in
-    let a = c7.args in
+returns c = let a = c.args in
     let g = a.given.now in
-    ap₂ (λ (x y : Double). record { kind = get_or g (4 * a.i) 0; orientation = get_or g (4 * a.i + 1) 0; x = x; y = y })
+    ap₂ (λ (x y : Option Float). record { kind = get_or g (4 * a.i) 0; orientation = get_or g (4 * a.i + 1) 0; x = x; y = y })
     c.from_bits-x.ensures c.from_bits-y.ensures

@@ -22,117 +22,77 @@ pub bounds_at-b-requires : goal.bounds_at-b-requires
 bounds_at-b-requires c = c.requires.0
 
 pub in_range-requires : goal.in_range-requires
-in_range-requires c = let c7 = c in
-    let a = c7.args in
+in_range-requires c = let a = c.args in
     subst⁻¹ (λ (k : Columns). k.count ≤ 4000000000) (c.new-k.ensures ∙ ap (λ (b : Rect). columns_of a.g.bounds b a.g.resolution)
-    c.bounds_at-b.ensures) c7.requires.3
+    c.bounds_at-b.ensures) c.requires.3
 
 pub returns-then-not-in_range : goal.returns-then-not-in_range
-returns-then-not-in_range c = let c1 = c in
-    let c9 = c1 in
-    let a = c9.args in
+returns-then-not-in_range c = let a = c.args in
     let ek = c.new-k.ensures ∙ ap (λ (b : Rect). columns_of a.g.bounds b a.g.resolution)
     c.bounds_at-b.ensures in
-    let ea = c1.in_range.ensures ∙ ap (λ (k : Columns). in_range_of k a.at.x a.at.y) ek in
-    outside_range _ _ _ _ _ a.at c1.in_range.result c1.in_range.result c1.in_range.result ea (c.if-not-in_range.true)
+    let ea = c.in_range.ensures ∙ ap (λ (k : Columns). in_range_of k a.at.x a.at.y) ek in
+    outside_range _ _ _ _ _ a.at c.in_range.result c.in_range.result c.in_range.result ea (c.if-not-in_range.true)
 
 pub part_at-p-requires : goal.part_at-p-requires
-part_at-p-requires c = let c9 = c in
-    c9.requires.1
+part_at-p-requires c = c.requires.1
 
 pub overflow_mul-end : goal.overflow_mul-end
-overflow_mul-end c = let c11 = c in
-    record { fits = omega (arith, c11.requires.2, c11.well_formed.1.1.1.1.0.1) }
+overflow_mul-end c = record { fits = omega (arith, c.requires.2, c.well_formed.1.1.1.1.0.1) }
 
 pub slice_bounds-strips_of-end : goal.slice_bounds-strips_of-end
-slice_bounds-strips_of-end c = let c12 = c in
-    sym (length-take-le (6 * c12.args.g.apart_strips) c12.args.shapes.now c12.requires.2)
+slice_bounds-strips_of-end c = sym (length-take-le (6 * c.args.g.apart_strips) c.args.shapes.now c.requires.2)
 
 pub offset_bounds-shapes-end : goal.offset_bounds-shapes-end
-offset_bounds-shapes-end c = let c12 = c in
-    record { fits = omega (arith, c12.requires.2, c12.well_formed.1.1.1.1.0.1) }
+offset_bounds-shapes-end c = record { fits = omega (arith, c.requires.2, c.well_formed.1.1.1.1.0.1) }
 
 pub returns-then-not-clear : goal.returns-then-not-clear
-returns-then-not-clear c = let c1 = c in
-    let c6 = c1 in
-    let c7 = c6 in
-    let c8 = c7 in
-    let c9 = c8 in
-    let c10 = c9 in
-    let c16 = c10 in
-    let a = c16.args in
+returns-then-not-clear c = let a = c.args in
     let n = 6 * a.g.apart_strips in
     let s = a.shapes.now in
-    let ek = c9.new-k.ensures ∙ ap (λ (b : Rect). columns_of a.g.bounds b a.g.resolution) c10.bounds_at-b.ensures in
-    let ea = c8.in_range.ensures ∙ ap (λ (k : Columns). in_range_of k a.at.x a.at.y) ek in
-    let ei = c.strips_of-insets.ensures ∙ (ap (inset_part c6.part_at-p.result) (rest-is n s) ∙ ap (λ (q : Part). inset_part q (drop n s))
-    c6.part_at-p.ensures) in
-    let eb = c1.clear.ensures ∙ ap (λ (l : List Float). outside (forbidden_of a.sheet.now l a.at.x) a.at.y) ei in
-    sheet_in_way _ _ (apart_part (part_at a.parts.now a.slot) (take n s)) a.sheet.now a.standing.now a.at c8.in_range.result
-    c1.clear.result c1.clear.result ea (c7.if-not-in_range.false) eb (c.if-not-clear.true)
+    let ek = c.new-k.ensures ∙ ap (λ (b : Rect). columns_of a.g.bounds b a.g.resolution) c.bounds_at-b.ensures in
+    let ea = c.in_range.ensures ∙ ap (λ (k : Columns). in_range_of k a.at.x a.at.y) ek in
+    let ei = c.strips_of-insets.ensures ∙ (ap (inset_part c.part_at-p.result) (rest-is n s) ∙ ap (λ (q : Part). inset_part q (drop n s))
+    c.part_at-p.ensures) in
+    let eb = c.clear.ensures ∙ ap (λ (l : List Float). outside (forbidden_of a.sheet.now l a.at.x) a.at.y) ei in
+    sheet_in_way _ _ (apart_part (part_at a.parts.now a.slot) (take n s)) a.sheet.now a.standing.now a.at c.in_range.result
+    c.clear.result c.clear.result ea (c.if-not-in_range.false) eb (c.if-not-clear.true)
 
 pub slice_bounds-strips_of-end-3 : goal.slice_bounds-strips_of-end-3
-slice_bounds-strips_of-end-3 c = let c16 = c in
-    let c17 = c16 in
-    sym (length-take-le (6 * c17.args.g.apart_strips) c17.args.shapes.now c17.requires.2)
+slice_bounds-strips_of-end-3 c = sym (length-take-le (6 * c.args.g.apart_strips) c.args.shapes.now c.requires.2)
 
 pub offset_bounds-shapes-end-2 : goal.offset_bounds-shapes-end-2
-offset_bounds-shapes-end-2 c = let c16 = c in
-    let c17 = c16 in
-    record { fits = omega (arith, c17.requires.2, c17.well_formed.1.1.1.1.0.1) }
+offset_bounds-shapes-end-2 c = record { fits = omega (arith, c.requires.2, c.well_formed.1.1.1.1.0.1) }
 
 pub slice_bounds-strips_of-count-2 : goal.slice_bounds-strips_of-count-2
-slice_bounds-strips_of-count-2 c = let c16 = c in
-    let c17 = c16 in
-    omega (arith, c17.requires.2)
+slice_bounds-strips_of-count-2 c = omega (arith, c.requires.2)
 
 pub slice_bounds-strips_of-start-2 : goal.slice_bounds-strips_of-start-2
-slice_bounds-strips_of-start-2 c = let c16 = c in
-    let c17 = c16 in
-    c17.requires.2
+slice_bounds-strips_of-start-2 c = c.requires.2
 
 pub returns-then-not-clear-2 : goal.returns-then-not-clear-2
-returns-then-not-clear-2 c = let c1 = c in
-    let c6 = c1 in
-    let c7 = c6 in
-    let c11 = c7 in
-    let c12 = c11 in
-    let c13 = c12 in
-    let c14 = c13 in
-    let c15 = c14 in
-    let c21 = c15 in
-    let a = c21.args in
+returns-then-not-clear-2 c = let a = c.args in
     let n = 6 * a.g.apart_strips in
     let s = a.shapes.now in
-    let ek = c14.new-k.ensures ∙ ap (λ (b : Rect). columns_of a.g.bounds b a.g.resolution) c15.bounds_at-b.ensures in
-    let ea = c13.in_range.ensures ∙ ap (λ (k : Columns). in_range_of k a.at.x a.at.y) ek in
-    let ei = c7.strips_of-insets.ensures ∙ (ap (inset_part c11.part_at-p.result) (rest-is n s) ∙ ap (λ (q : Part). inset_part q (drop n s))
-    c11.part_at-p.ensures) in
-    let eb = c6.clear.ensures ∙ ap (λ (l : List Float). outside (forbidden_of a.sheet.now l a.at.x) a.at.y) ei in
-    let eo = c.strips_of-aparts.ensures ∙ ap (λ (q : Part). apart_part q (take n s)) c11.part_at-p.ensures in
-    let ec = c1.clear-2.ensures ∙ ap (λ (l : List Float). outside (forbidden_of a.standing.now l a.at.x) a.at.y) eo in
-    copy_in_way _ _ _ a.sheet.now a.standing.now a.at c13.in_range.result c6.clear.result c1.clear-2.result ea
-    (c12.if-not-in_range.false) eb (c.if-not-clear.false) ec (c.if-not-clear-2.true)
+    let ek = c.new-k.ensures ∙ ap (λ (b : Rect). columns_of a.g.bounds b a.g.resolution) c.bounds_at-b.ensures in
+    let ea = c.in_range.ensures ∙ ap (λ (k : Columns). in_range_of k a.at.x a.at.y) ek in
+    let ei = c.strips_of-insets.ensures ∙ (ap (inset_part c.part_at-p.result) (rest-is n s) ∙ ap (λ (q : Part). inset_part q (drop n s))
+    c.part_at-p.ensures) in
+    let eb = c.clear.ensures ∙ ap (λ (l : List Float). outside (forbidden_of a.sheet.now l a.at.x) a.at.y) ei in
+    let eo = c.strips_of-aparts.ensures ∙ ap (λ (q : Part). apart_part q (take n s)) c.part_at-p.ensures in
+    let ec = c.clear-2.ensures ∙ ap (λ (l : List Float). outside (forbidden_of a.standing.now l a.at.x) a.at.y) eo in
+    copy_in_way _ _ _ a.sheet.now a.standing.now a.at c.in_range.result c.clear.result c.clear-2.result ea
+    (c.if-not-in_range.false) eb (c.if-not-clear.false) ec (c.if-not-clear-2.true)
 
 pub returns : goal.returns
-returns c = let c1 = c in
-    let c6 = c1 in
-    let c7 = c6 in
-    let c11 = c7 in
-    let c12 = c11 in
-    let c13 = c12 in
-    let c14 = c13 in
-    let c15 = c14 in
-    let c21 = c15 in
-    let a = c21.args in
+returns c = let a = c.args in
     let n = 6 * a.g.apart_strips in
     let s = a.shapes.now in
-    let ek = c14.new-k.ensures ∙ ap (λ (b : Rect). columns_of a.g.bounds b a.g.resolution) c15.bounds_at-b.ensures in
-    let ea = c13.in_range.ensures ∙ ap (λ (k : Columns). in_range_of k a.at.x a.at.y) ek in
-    let ei = c7.strips_of-insets.ensures ∙ (ap (inset_part c11.part_at-p.result) (rest-is n s) ∙ ap (λ (q : Part). inset_part q (drop n s))
-    c11.part_at-p.ensures) in
-    let eb = c6.clear.ensures ∙ ap (λ (l : List Float). outside (forbidden_of a.sheet.now l a.at.x) a.at.y) ei in
-    let eo = c.strips_of-aparts.ensures ∙ ap (λ (q : Part). apart_part q (take n s)) c11.part_at-p.ensures in
-    let ec = c1.clear-2.ensures ∙ ap (λ (l : List Float). outside (forbidden_of a.standing.now l a.at.x) a.at.y) eo in
-    clear-there _ _ _ a.sheet.now a.standing.now a.at c13.in_range.result c6.clear.result c1.clear-2.result ea
-    (c12.if-not-in_range.false) eb (c.if-not-clear.false) ec (c.if-not-clear-2.false)
+    let ek = c.new-k.ensures ∙ ap (λ (b : Rect). columns_of a.g.bounds b a.g.resolution) c.bounds_at-b.ensures in
+    let ea = c.in_range.ensures ∙ ap (λ (k : Columns). in_range_of k a.at.x a.at.y) ek in
+    let ei = c.strips_of-insets.ensures ∙ (ap (inset_part c.part_at-p.result) (rest-is n s) ∙ ap (λ (q : Part). inset_part q (drop n s))
+    c.part_at-p.ensures) in
+    let eb = c.clear.ensures ∙ ap (λ (l : List Float). outside (forbidden_of a.sheet.now l a.at.x) a.at.y) ei in
+    let eo = c.strips_of-aparts.ensures ∙ ap (λ (q : Part). apart_part q (take n s)) c.part_at-p.ensures in
+    let ec = c.clear-2.ensures ∙ ap (λ (l : List Float). outside (forbidden_of a.standing.now l a.at.x) a.at.y) eo in
+    clear-there _ _ _ a.sheet.now a.standing.now a.at c.in_range.result c.clear.result c.clear-2.result ea
+    (c.if-not-in_range.false) eb (c.if-not-clear.false) ec (c.if-not-clear-2.false)

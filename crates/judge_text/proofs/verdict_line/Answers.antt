@@ -1,27 +1,22 @@
 -- `judge_text::verdict_line`: each verdict has its line. Assumes nothing.
+use Rattle.judge_text.specs.Judging.{accepted_line}
 use Rattle.judge_text.proofs.Printing.{verdict-accepted, verdict-refused}
 use Rattle.judge_text.proofs.verdict_line.Goals as goal
-
-pub accepted_line-requires : goal.accepted_line-requires
-accepted_line-requires c = c.requires
 
 pub no_line-requires : goal.no_line-requires
 no_line-requires c = c.requires
 
-pub shape_of-out-in-Accepted : goal.shape_of-out-in-Accepted
-shape_of-out-in-Accepted c = c.accepted_line.auto.out
+pub shape_of-out-in-Ok : goal.shape_of-out-in-Ok
+shape_of-out-in-Ok c = c.line_text.auto.out
 
-pub returns-in-Accepted : goal.returns-in-Accepted
-returns-in-Accepted c = let c7 = c in
-    verdict-accepted c7.args.verdict c7.args.n c7.args.out.now _ c.in-Accepted.is
-    c.accepted_line.ensures
+pub returns-in-Ok : goal.returns-in-Ok
+unfolding accepted_line
+returns-in-Ok c = verdict-accepted c.args.verdict c.args.n c.args.out.now _ c.in-Ok.is
+    c.line_text.ensures
 
-pub shape_of-out-in-Refused : goal.shape_of-out-in-Refused
-shape_of-out-in-Refused c = c.no_line.auto.out
+pub shape_of-out-in-Err : goal.shape_of-out-in-Err
+shape_of-out-in-Err c = c.no_line.auto.out
 
-pub returns-in-Refused : goal.returns-in-Refused
-returns-in-Refused c = let c4 = c in
-    let c6 = c4 in
-    let c9 = c6 in
-    verdict-refused c9.args.verdict c.in-Refused.k c4.refusal_number-number.result c9.args.n c9.args.out.now _ c6.in-Refused.is
-    c4.refusal_number-number.ensures c.no_line.ensures
+pub returns-in-Err : goal.returns-in-Err
+returns-in-Err c = verdict-refused c.args.verdict c.in-Err.k c.refusal_number-number.result c.args.n c.args.out.now _ c.in-Err.is
+    c.refusal_number-number.ensures c.no_line.ensures

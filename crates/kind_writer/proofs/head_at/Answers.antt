@@ -1,7 +1,9 @@
 -- `kind_writer::head_at` meets its contract. Assumes nothing.
+use lib.Ieee.{of_bits}
 use Rattle.kind_writer.proofs.HeadLaws.{head_is}
 use Rattle.kind_writer.proofs.head_at.Goals as goal
 
 pub returns : goal.returns
-returns c = head_is _ _ _ _ _ _ _ _ c.count_at-quantity.ensures c.count_at-fill.ensures
-    c.count_at-priority.ensures c.count_at-orientations.ensures c.number_at-area.ensures
+unfolding of_bits
+returns c =
+    head_is _ _ _ _ _ _ _ _ c.value_at.ensures c.value_at-2.ensures c.value_at-3.ensures c.value_at-5.ensures c.value_at-4.ensures

@@ -1,4 +1,5 @@
 -- Laws of points, loops and sets: one turn of each loop that reads them. Assumes nothing.
+use Rattle.std.specs.Prelude.{Result, Ok, Err}
 use mathlib.Core.Path.{◌≡◌, refl, sym, ap, ◌∙◌}
 use Prim.Native.Nat.{ℕ, suc, ◌+◌, ◌-◌, ◌*◌, ◌≤◌, ◌<◌}
 use native.Mathlib.Omega.{arith}
@@ -10,8 +11,6 @@ use Rattle.bits.specs.declared.Refusal.{Refusal}
 use Rattle.bits.specs.Reading.{Read, ok, bad, after}
 use Rattle.bits.specs.Fields.{loops_field, count, point_count, point}
 use Rattle.bits.proofs.Accepted.{point-place}
-use Rattle.kinds.specs.declared.sets.SetRead.{SetRead}
-use Rattle.kinds.specs.declared.sets.SetRead.TheVariants.{Loops, NoSet}
 use Rattle.kinds.specs.sets.inner.Answers.{set_fits}
 use Rattle.kinds.specs.sets.Sets.{Set, some_points, a_loop, some_loops, a_set}
 
@@ -163,6 +162,6 @@ module _ (bytes : List ℕ) (p : ℕ) where
   unfolding a_set after
   set_in_lem {n} {q} {r} e f = rw e f
 
-pub set_wide : (r : SetRead) (at : ℕ) → set_fits r (at + 7 + 66176) → set_fits r (at + 66183)
-set_wide (Loops n m q) at h = (h.0, h.1, omega (arith, h.2))
-set_wide (NoSet k) at h = tt
+pub set_wide : (r : Result (ℕ × ℕ × ℕ) Refusal) (at : ℕ) → set_fits r (at + 7 + 66176) → set_fits r (at + 66183)
+set_wide (Ok (n, m, q)) at h = (h.0, h.1, omega (arith, h.2))
+set_wide (Err k) at h = tt

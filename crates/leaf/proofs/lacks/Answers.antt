@@ -1,15 +1,13 @@
 -- `leaf::lacks` meets its contract. Assumes nothing.
-use Rattle.leaf.proofs.ByKind.{no_kind, no_orientation, has}
+use mathlib.Core.Path.{◌∙◌}
+use borrow.Author.Tests.{le-leb}
+use Rattle.leaf.proofs.ByKind.{no_kind, by_rows}
 use Rattle.leaf.proofs.lacks.Goals as goal
 
-pub returns-then-number-kind : goal.returns-then-number-kind
-returns-then-number-kind c = let a = c.args in
-    λ j areas t e. no_kind j a.rows.now areas t a.kinds a.kind a.orientation e c.if-number-kind.true
+pub returns-then-kinds-kind : goal.returns-then-kinds-kind
+returns-then-kinds-kind c = let a = c.args in
+    λ j areas t e. le-leb a.kinds a.kind c.if-kinds-kind.true ∙ no_kind j a.rows.now areas t a.kinds a.kind a.orientation e c.if-kinds-kind.true
 
-pub returns-then-orientation-orientations : goal.returns-then-orientation-orientations
-returns-then-orientation-orientations c = let a = c.args in
-    λ j areas t e. has j a.rows.now areas t a.kinds a.kind a.orientation e c.if-number-kind.false c.if-orientation-orientations.true
-
-pub returns : goal.returns
-returns c = let a = c.args in
-    λ j areas t e. no_orientation j a.rows.now areas t a.kinds a.kind a.orientation e c.if-number-kind.false c.if-orientation-orientations.false
+pub returns-else-kinds-kind : goal.returns-else-kinds-kind
+returns-else-kinds-kind c = let a = c.args in
+    λ j areas t e. by_rows j a.rows.now areas t a.kinds a.kind a.orientation e c.if-kinds-kind.false

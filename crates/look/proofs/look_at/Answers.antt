@@ -9,18 +9,16 @@ use Rattle.look.proofs.Answering.{lists, holds_finite, refused, seen, look_perm,
 use Rattle.look.proofs.look_at.Goals as goal
 
 pub forbidden-m-requires : goal.forbidden-m-requires
-forbidden-m-requires c = let c12 = c in
-    let g = c12.args in
-    let q = c12.requires in (
+forbidden-m-requires c = let g = c.args in
+    let q = c.requires in (
       sheet_usable g.ix g.x g.y_low g.y_high g.inset.now g.apart.now g.sheet.now g.placed.now g.sheet_entries.now
           g.sheet_starts.now g.placed_entries.now g.placed_starts.now q.0,
       q.1,
     )
 
 pub forbidden-n-requires : goal.forbidden-n-requires
-forbidden-n-requires c = let c16 = c in
-    let g = c16.args in
-    let q = c16.requires in (
+forbidden-n-requires c = let g = c.args in
+    let q = c.requires in (
       placed_usable g.ix g.x g.y_low g.y_high g.inset.now g.apart.now g.sheet.now g.placed.now g.sheet_entries.now
           g.sheet_starts.now g.placed_entries.now g.placed_starts.now q.0,
       q.2,
@@ -28,12 +26,9 @@ forbidden-n-requires c = let c16 = c in
 
 pub returns-then-room-n : goal.returns-then-room-n
 unfolding look_of
-returns-then-room-n c = let c3 = c in
-    let c7 = c3 in
-    let c20 = c7 in
-    let g = c20.args in
-    let p = c20.requires.0 in
-    let E = both_pushed g.room.now _ _ _ _ _ _ c7.forbidden-m.ensures c3.forbidden-n.ensures in
+returns-then-room-n c = let g = c.args in
+    let p = c.requires.0 in
+    let E = both_pushed g.room.now _ _ _ _ _ _ c.forbidden-m.ensures c.forbidden-n.ensures in
     let w = kept-length g.room.now _ 0 _ _ E in
     refused g.room.now _ _ (lists g.ix g.x g.y_low g.y_high g.inset.now g.apart.now g.sheet.now g.placed.now
     g.sheet_entries.now g.sheet_starts.now g.placed_entries.now g.placed_starts.now p)
@@ -41,19 +36,15 @@ returns-then-room-n c = let c3 = c in
     (look_perm g.ix g.x g.y_low g.y_high g.inset.now g.apart.now g.sheet.now g.placed.now g.sheet_entries.now
     g.sheet_starts.now g.placed_entries.now g.placed_starts.now p) g.y_low g.y_high p.low p.high
     (look_finite g.ix g.x g.y_low g.y_high g.inset.now g.apart.now g.sheet.now g.placed.now g.sheet_entries.now
-    g.sheet_starts.now g.placed_entries.now g.placed_starts.now p) (subst (λ (k : ℕ). k / 2 < c3.forbidden-n.result) w c.if-room-n.true)
+    g.sheet_starts.now g.placed_entries.now g.placed_starts.now p) (subst (λ (k : ℕ). k / 2 < c.forbidden-n.result) w c.if-room-n.true)
 
 pub height-requires : goal.height-requires
-height-requires c = let c1 = c in
-    let c4 = c1 in
-    let c8 = c4 in
-    let c21 = c8 in
-    let g = c21.args in
-    let p = c21.requires.0 in
-    let E = both_pushed g.room.now _ _ _ _ _ _ c8.forbidden-m.ensures c4.forbidden-n.ensures in
+height-requires c = let g = c.args in
+    let p = c.requires.0 in
+    let E = both_pushed g.room.now _ _ _ _ _ _ c.forbidden-m.ensures c.forbidden-n.ensures in
     let w = kept-length g.room.now _ 0 _ _ E in
-    let h : c4.forbidden-n.result ≤ length g.room.now / 2 = subst (λ (k : ℕ). c4.forbidden-n.result ≤ k / 2) w c1.if-room-n.false in (
-      omega (arith, c1.if-room-n.false),
+    let h : c.forbidden-n.result ≤ length g.room.now / 2 = subst (λ (k : ℕ). c.forbidden-n.result ≤ k / 2) w c.if-room-n.false in (
+      omega (arith, c.if-room-n.false),
       p.low,
       p.high,
       holds_finite g.room.now _ _
@@ -68,14 +59,11 @@ height-requires c = let c1 = c in
 
 pub returns : goal.returns
 unfolding look_of
-returns c = let c7 = c in
-    let c11 = c7 in
-    let c24 = c11 in
-    let g = c24.args in
-    let p = c24.requires.0 in
-    let E = both_pushed g.room.now _ _ _ _ _ _ c11.forbidden-m.ensures c7.forbidden-n.ensures in
+returns c = let g = c.args in
+    let p = c.requires.0 in
+    let E = both_pushed g.room.now _ _ _ _ _ _ c.forbidden-m.ensures c.forbidden-n.ensures in
     let w = kept-length g.room.now _ 0 _ _ E in
-    let h : c7.forbidden-n.result ≤ length g.room.now / 2 = subst (λ (k : ℕ). c7.forbidden-n.result ≤ k / 2) w
+    let h : c.forbidden-n.result ≤ length g.room.now / 2 = subst (λ (k : ℕ). c.forbidden-n.result ≤ k / 2) w
     c.if-room-n.false in
     seen g.room.now _ _ (lists g.ix g.x g.y_low g.y_high g.inset.now g.apart.now g.sheet.now g.placed.now
     g.sheet_entries.now g.sheet_starts.now g.placed_entries.now g.placed_starts.now p)

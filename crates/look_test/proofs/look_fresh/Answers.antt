@@ -28,45 +28,32 @@ pub slice_bounds-enter_both-end-7 : goal.slice_bounds-enter_both-end-7
 slice_bounds-enter_both-end-7 c = sym (length-replicate {A = ℕ} 1020 1)
 
 pub enter_both-requires : goal.enter_both-requires
-enter_both-requires c = let c15 = c in
-    let p = c15.requires in
+enter_both-requires c = let p = c.requires in
     let k = length-replicate {A = ℕ} 1020 1 in
     (p.2, p.3, length-replicate {A = ℕ} 513 1, length-replicate {A = ℕ} 513 1, length-replicate {A = ℕ} 512 1, omega (arith, k), omega (arith, k))
 
 pub slice_bounds-look_twice-end : goal.slice_bounds-look_twice-end
-slice_bounds-look_twice-end c = let c9 = c in
-    let c19 = c9 in
-    c19.table-se.ensures ∙ sym c9.enter_both.auto.se
+slice_bounds-look_twice-end c = c.table-se.ensures ∙ sym c.enter_both.auto.se
 
 pub slice_bounds-look_twice-end-then-enter_both : goal.slice_bounds-look_twice-end-then-enter_both
-slice_bounds-look_twice-end-then-enter_both c = let c10 = c in
-    sym (c10.enter_both.auto.ss ∙ length-replicate {A = ℕ} 513 1)
+slice_bounds-look_twice-end-then-enter_both c = sym (c.enter_both.auto.ss ∙ length-replicate {A = ℕ} 513 1)
 
 pub slice_bounds-look_twice-end-then-enter_both-2 : goal.slice_bounds-look_twice-end-then-enter_both-2
-slice_bounds-look_twice-end-then-enter_both-2 c = let c11 = c in
-    let c20 = c11 in
-    c20.table-pe.ensures ∙ sym c11.enter_both.auto.pe
+slice_bounds-look_twice-end-then-enter_both-2 c = c.table-pe.ensures ∙ sym c.enter_both.auto.pe
 
 pub slice_bounds-look_twice-end-then-enter_both-3 : goal.slice_bounds-look_twice-end-then-enter_both-3
-slice_bounds-look_twice-end-then-enter_both-3 c = let c12 = c in
-    sym (c12.enter_both.auto.ps ∙ length-replicate {A = ℕ} 513 1)
+slice_bounds-look_twice-end-then-enter_both-3 c = sym (c.enter_both.auto.ps ∙ length-replicate {A = ℕ} 513 1)
 
 pub slice_bounds-look_twice-end-then-enter_both-4 : goal.slice_bounds-look_twice-end-then-enter_both-4
-slice_bounds-look_twice-end-then-enter_both-4 c = let c14 = c in
-    sym (c14.enter_both.auto.sf ∙ length-replicate {A = ℕ} 1020 1)
+slice_bounds-look_twice-end-then-enter_both-4 c = sym (c.enter_both.auto.sf ∙ length-replicate {A = ℕ} 1020 1)
 
 pub slice_bounds-look_twice-end-then-enter_both-5 : goal.slice_bounds-look_twice-end-then-enter_both-5
-slice_bounds-look_twice-end-then-enter_both-5 c = let c15 = c in
-    sym (c15.enter_both.auto.pf ∙ length-replicate {A = ℕ} 1020 1)
+slice_bounds-look_twice-end-then-enter_both-5 c = sym (c.enter_both.auto.pf ∙ length-replicate {A = ℕ} 1020 1)
 
 pub look_twice-requires : goal.look_twice-requires
-look_twice-requires c = let c7 = c in
-    let c15 = c7 in
-    let c23 = c15 in
-    let c31 = c23 in
-    let n = c23.new-ix in
-    let e = c15.enter_both.ensures c7.if-enter_both.true in
-    let p = c31.requires in
+look_twice-requires c = let n = c.new-ix in
+    let e = c.enter_both.ensures c.if-enter_both.true in
+    let p = c.requires in
     (lookable _ _ _ _ _ _ _ _ _ _ _ _ _ n.result n.ensures p.0 p.1 e.0.laid e.1.laid, e.0.kept, e.1.kept)
 
 pub shape_of-out-then-enter_both : goal.shape_of-out-then-enter_both

@@ -4,6 +4,3 @@ use Rattle.moves.proofs.move_ones.Given as goal
 
 abbrev pub invariant-loop-j : goal.invariant-loop-j
 invariant-loop-j l = (l.from ≤ l.j) × (l.j ≤ l.to) × Moved l.j l.to l.by l.initial.s l.s
-
-abbrev pub decreases-loop-j : goal.decreases-loop-j
-decreases-loop-j l = l.j

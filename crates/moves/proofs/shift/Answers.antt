@@ -1,4 +1,4 @@
-use mathlib.Core.Path.{◌≡◌, refl, subst}
+use mathlib.Core.Path.{◌≡◌, subst}
 use Prim.Native.Nat.{ℕ}
 use native.Mathlib.Omega.{arith}
 use lib.ListN.{length}
@@ -7,24 +7,21 @@ use Rattle.moves.proofs.MovedUp.{shifted_start, shifted_step}
 use Rattle.moves.proofs.shift.Goals as goal
 
 pub loop-b-init : goal.loop-b-init
-loop-b-init c = (refl, omega arith, omega arith, shifted_start _ _ _)
+loop-b-init c = shifted_start _ _ _
 
 pub bounds-starts-b : goal.bounds-starts-b
-bounds-starts-b c = let z = c.loop-b.invariant.3.size in omega arith
-
-pub bounds-starts-b-in-loop-b : goal.bounds-starts-b-in-loop-b
-bounds-starts-b-in-loop-b c = let z = c.loop-b.invariant.3.size in omega arith
+bounds-starts-b c = let z = c.loop-b.invariant.size in omega arith
 
 pub loop-b-preserved : goal.loop-b-preserved
 loop-b-preserved c = let l = c.loop-b in
     let g = c.args in
-    (refl, omega arith, omega arith, shifted_step g.from g.by g.starts.now l.b l.starts l.invariant.1 (omega arith) l.invariant.3)
+    shifted_step g.from g.by g.starts.now l.b l.starts (omega arith) (omega arith) l.invariant
 
 pub shape_of-starts : goal.shape_of-starts
-shape_of-starts c = c.loop-b.invariant.3.size
+shape_of-starts c = c.loop-b.invariant.size
 
 pub returns : goal.returns
 returns c = let l = c.loop-b in
     let g = c.args in
     let e : l.b ≡ length g.starts.now = omega arith in
-    subst (λ (k : ℕ). Shifted g.from g.by g.starts.now k l.starts) e l.invariant.3
+    subst (λ (k : ℕ). Shifted g.from g.by g.starts.now k l.starts) e l.invariant

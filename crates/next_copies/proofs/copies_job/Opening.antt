@@ -1,4 +1,5 @@
 -- What taking copies of a job is given, after 31. Assumes nothing.
+use Rattle.std.specs.Prelude.{Err}
 use Prim.Native.Nat.{ℕ, suc, ◌+◌, ◌-◌, ◌*◌, ◌<◌, ◌≤◌, min}
 use native.Mathlib.Omega.{arith}
 use mathlib.Core.Path.{◌≡◌, sym, ap, subst, ◌∙◌}
@@ -12,7 +13,6 @@ use Rattle.index.specs.inner.Listing.{Laid, FirstBuckets}
 use Rattle.job.specs.Jobs.{Job}
 use Rattle.filling.specs.declared.State.{State}
 use Rattle.filling.specs.declared.Refusal.TheVariants as Why
-use Rattle.filling.specs.declared.Verdict.TheVariants.{Refused}
 use Rattle.filling.specs.Rooms.{Rooms, zeros}
 use Rattle.filling.specs.Consistent.{sheet_index, consistent}
 use Rattle.filling.proofs.Sizes.{Sized}
@@ -63,7 +63,7 @@ module _ (j : Job) (s : State) (w : Rooms) (rows : List ℕ) (areas : List Float
 
 -- 31 before the first copy
 pub none-taken-31 : (j : Job) (s : State) (w : Rooms) (intervals : List Float) (n : ℕ) → 0 < n → (fits : Bool) → fits ≡ false
-    → none_taken (Refused Why.Inconsistent) s w (zeros pos_zero intervals) ≡ tested_from j n s w (zeros pos_zero intervals) fits
+    → none_taken (Err Why.Inconsistent) s w (zeros pos_zero intervals) ≡ tested_from j n s w (zeros pos_zero intervals) fits
 none-taken-31 j s w intervals n h fits e =
     let k : ℕ = n - 1 in
     let q : suc k ≡ n = omega (arith, h) in

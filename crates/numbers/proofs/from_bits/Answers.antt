@@ -1,36 +1,32 @@
--- `numbers::from_bits` meets its contract: a finite pattern is no NaN's, and each arm is the one that `cond` picks. Assumes nothing.
-use Rattle.std.proofs.Common.{◌≡◌, ℕ, true, false, sym, ◌∙◌}
-use lib.Ieee.{of_bits, binary64, eq}
+-- `numbers::from_bits` meets its contract. Assumes nothing.
+use Rattle.std.specs.Prelude.{Some, None}
+use Rattle.std.specs.Float.{float_is_finite}
+use Rattle.std.proofs.Common.{◌≡◌, ℕ, Bool, true, false, refl, sym, ap, ◌∙◌}
+use lib.Ieee.{Float, nan, inf, fin, of_bits, binary64}
 use lib.Ieee.Scale.{finite}
-use Rattle.numbers.specs.Numbers.{double_of, plus_zero, pos_zero}
-use Rattle.numbers.specs.declared.Double.TheVariants.{Finite, NotFinite}
-use Rattle.numbers.proofs.Truth.{holds}
-use Rattle.numbers.proofs.Patterns.{finite_readable}
+use Rattle.numbers.specs.Numbers.{double_of, plus_zero}
 use Rattle.numbers.proofs.from_bits.Goals as goal
 
--- the three arms, from the tests
-zero_arm : (n : ℕ) → finite (of_bits binary64 n) ≡ true → eq (of_bits binary64 n) pos_zero ≡ true → Finite pos_zero ≡ double_of n
-unfolding double_of plus_zero
-zero_arm n f z = rw (f, z)
+tested : (x : Float) → float_is_finite x ≡ finite x
+unfolding float_is_finite
+tested nan = refl
+tested (inf s) = refl
+tested (fin s m e) = refl
 
-other_arm : (n : ℕ) → finite (of_bits binary64 n) ≡ true → eq (of_bits binary64 n) pos_zero ≡ false → Finite (of_bits binary64 n) ≡ double_of n
-unfolding double_of plus_zero
-other_arm n f z = rw (f, z)
+module _ (n : ℕ) {x : Float} {t : Bool} (e : x ≡ of_bits binary64 n) (f : t ≡ float_is_finite x) where
+  asked : t ≡ finite (of_bits binary64 n)
+  asked = f ∙ tested x ∙ ap finite e
 
-not_arm : (n : ℕ) → finite (of_bits binary64 n) ≡ false → NotFinite ≡ double_of n
-unfolding double_of
-not_arm n f = rw f
+  is_double : t ≡ true → {y : Float} → y ≡ plus_zero x → Some y ≡ double_of n
+  unfolding double_of
+  is_double h p = rw (sym asked ∙ h) (ap Some (p ∙ ap plus_zero e))
 
-pub float_from_bits-x : goal.float_from_bits-x
-float_from_bits-x c = finite_readable c.args.n (holds (sym c.finite_bits.ensures ∙ c.if-finite_bits.true))
+  no_double : t ≡ false → None ≡ double_of n
+  unfolding double_of
+  no_double h = rw (sym asked ∙ h)
 
-pub returns-then-x : goal.returns-then-x
-unfolding of_bits
-returns-then-x c = zero_arm c.args.n (sym c.finite_bits.ensures ∙ c.if-finite_bits.true) c.if-x.true
+pub returns-then-is_finite : goal.returns-then-is_finite
+returns-then-is_finite c = is_double c.args.n c.f64_from_bits_with_nan-x.ensures c.is_finite.ensures.value c.if-is_finite.true c.plus_zero.ensures
 
-pub returns-then-finite_bits : goal.returns-then-finite_bits
-unfolding of_bits
-returns-then-finite_bits c = other_arm c.args.n (sym c.finite_bits.ensures ∙ c.if-finite_bits.true) c.if-x.false
-
-pub returns : goal.returns
-returns c = not_arm c.args.n (sym c.finite_bits.ensures ∙ c.if-finite_bits.false)
+pub returns-else-is_finite : goal.returns-else-is_finite
+returns-else-is_finite c = no_double c.args.n c.f64_from_bits_with_nan-x.ensures c.is_finite.ensures.value c.if-is_finite.false

@@ -15,31 +15,23 @@ loop-j-init c = let a = c.args in
 
 pub load-q-requires : goal.load-q-requires
 load-q-requires c = strip_in_room c.args.moving.now _ _ c.capacity-count.ensures
-    c.loop-j-test.true
+    (omega arith)
 
 pub returns-then-not-clear_of : goal.returns-then-not-clear_of
-returns-then-not-clear_of c = let c9 = c in
-    let a = c9.args in
+returns-then-not-clear_of c = let a = c.args in
     let l = c.loop-j in
     left-held (strip_intervals a.standing.now a.moving.now a.x a.y) a.y (capacity a.moving.now) l.j
-    (omega (arith, c.loop-j-test.true, c.capacity-count.ensures))
+    (omega (arith, c.capacity-count.ensures))
     (strip-clear a.standing.now a.moving.now a.x a.y l.j _ _ _ c.clear_of.ensures c.new-m.ensures
     c.load-q.ensures
     ∙ c.if-not-clear_of.true) l.invariant
     ∙ ap (λ (is : List Interval). outside is a.y) (forbidden_is a.standing.now a.moving.now a.x a.y)
 
-pub overflow_add-j : goal.overflow_add-j
-overflow_add-j c = omega (arith, c.loop-j-test.true)
-
-pub loop-j-smaller : goal.loop-j-smaller
-loop-j-smaller c = omega (arith, c.loop-j-test.true, c.capacity-count.ensures)
-
 pub loop-j-preserved : goal.loop-j-preserved
-loop-j-preserved c = let c9 = c in
-    let a = c9.args in
+loop-j-preserved c = let a = c.args in
     let l = c.loop-j in
     left-next (strip_intervals a.standing.now a.moving.now a.x a.y) a.y (capacity a.moving.now) l.j
-    (omega (arith, c.loop-j-test.true, c.capacity-count.ensures))
+    (omega (arith, c.capacity-count.ensures))
     (strip-clear a.standing.now a.moving.now a.x a.y l.j _ _ _ c.clear_of.ensures c.new-m.ensures
     c.load-q.ensures
     ∙ c.if-not-clear_of.false) l.invariant
@@ -48,5 +40,5 @@ pub returns : goal.returns
 returns c = let a = c.args in
     let l = c.loop-j in
     left_end (strip_intervals a.standing.now a.moving.now a.x a.y) a.y (capacity a.moving.now) l.j
-    (omega (arith, c.loop-j-test.false, c.capacity-count.ensures)) l.invariant
+    (omega (arith, c.capacity-count.ensures)) l.invariant
     ∙ ap (λ (is : List Interval). outside is a.y) (forbidden_is a.standing.now a.moving.now a.x a.y)

@@ -9,34 +9,25 @@ use Rattle.placement.proofs.Clearing.{left-start, left-next, left-held, left_end
 use Rattle.placement.proofs.clear_of.Goals as goal
 
 pub loop-i-init : goal.loop-i-init
-loop-i-init c = let c2 = c in
-    left-start (pair_at c2.args.standing.now c2.args.m) c2.args.y (capacity c2.args.standing.now)
+loop-i-init c = left-start (pair_at c.args.standing.now c.args.m) c.args.y (capacity c.args.standing.now)
 
 pub load-p-requires : goal.load-p-requires
-load-p-requires c = strip_in_room c.args.standing.now _ _ c.capacity-count.ensures c.loop-i-test.true
+load-p-requires c = strip_in_room c.args.standing.now _ _ c.capacity-count.ensures (omega arith)
 
 pub returns-then-in_the_way : goal.returns-then-in_the_way
 unfolding intervals_of
-returns-then-in_the_way c = let c7 = c in
-    let a = c7.args in
+returns-then-in_the_way c = let a = c.args in
     let l = c.loop-i in
     left-held (pair_at a.standing.now a.m) a.y (capacity a.standing.now) l.i
-    (omega (arith, c.loop-i-test.true, c.capacity-count.ensures))
+    (omega (arith, c.capacity-count.ensures))
     (pair_clear a.standing.now a.m a.y l.i _ _ c.in_the_way.ensures c.load-p.ensures ∙ ap not c.if-in_the_way.true)
     l.invariant
 
-pub overflow_add-i : goal.overflow_add-i
-overflow_add-i c = omega (arith, c.loop-i-test.true)
-
-pub loop-i-smaller : goal.loop-i-smaller
-loop-i-smaller c = omega (arith, c.loop-i-test.true, c.capacity-count.ensures)
-
 pub loop-i-preserved : goal.loop-i-preserved
-loop-i-preserved c = let c7 = c in
-    let a = c7.args in
+loop-i-preserved c = let a = c.args in
     let l = c.loop-i in
     left-next (pair_at a.standing.now a.m) a.y (capacity a.standing.now) l.i
-    (omega (arith, c.loop-i-test.true, c.capacity-count.ensures))
+    (omega (arith, c.capacity-count.ensures))
     (pair_clear a.standing.now a.m a.y l.i _ _ c.in_the_way.ensures c.load-p.ensures ∙ ap not c.if-in_the_way.false)
     l.invariant
 
@@ -45,4 +36,4 @@ unfolding intervals_of
 returns c = let a = c.args in
     let l = c.loop-i in
     left_end (pair_at a.standing.now a.m) a.y (capacity a.standing.now) l.i
-    (omega (arith, c.loop-i-test.false, c.capacity-count.ensures)) l.invariant
+    (omega (arith, c.capacity-count.ensures)) l.invariant

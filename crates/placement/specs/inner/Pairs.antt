@@ -1,11 +1,9 @@
 -- For inner functions' contracts only: one pair, and one moving strip against the standing strips. That these are the forbidden intervals of the
 -- definition is proved in proofs/. Definitions only. Assumes nothing.
-use Rattle.std.specs.Prelude.{ℕ, Bool, false, Float}
+use Rattle.std.specs.Prelude.{Option, Some, None, ℕ, Bool, false, Float}
 use mathlib.Core.List.{List, flat_map}
 use Rattle.trapezoid.specs.Strip.{strip_at, capacity}
 use Rattle.index.specs.declared.Interval.{Interval}
-use Rattle.index.specs.declared.Meeting.{Meeting}
-use Rattle.index.specs.declared.Meeting.TheVariants.{Apart, Forbidden}
 use Rattle.index.specs.declared.Moving.{Moving}
 use Rattle.index.specs.Buckets.{up_from}
 use Rattle.index.specs.Intervals.{interval_in}
@@ -13,9 +11,9 @@ use Rattle.index.specs.inner.Listing.{meeting_at}
 use Rattle.look.specs.height.Smallest.{inside}
 
 -- whether y lies in the interval of a pair
-unfoldable pub lies_in : Float → Meeting → Bool
-lies_in y Apart = false
-lies_in y (Forbidden i) = inside y i
+unfoldable pub lies_in : Float → Option Interval → Bool
+lies_in y None = false
+lies_in y (Some i) = inside y i
 
 -- the interval of a moving strip against the standing strip number i, if there is one
 unfoldable pub pair_at : List Float → Moving → ℕ → List Interval

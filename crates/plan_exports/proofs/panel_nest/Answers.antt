@@ -2,6 +2,4 @@
 use Rattle.plan_exports.proofs.panel_nest.Goals as goal
 
 pub returns : goal.returns
-returns c = let c16 = c in
-    let c20 = c16 in
-    c20.plan_text.ensures
+returns c = c.plan_text.ensures

@@ -1,4 +1,5 @@
 -- 30 and 10 of an accepted job, then what is prepared. Assumes nothing.
+use Rattle.std.specs.Prelude.{Result, Err}
 use Prim.Native.Nat.{ℕ, ◌/◌, ◌≤◌, ◌<◌}
 use mathlib.Core.Path.{◌≡◌, refl, sym, ap, ◌∙◌}
 use mathlib.Core.Bool.{true, false, not}
@@ -9,8 +10,6 @@ use Rattle.numbers.specs.Numbers.{pos_zero}
 use Rattle.job.specs.Jobs.{Job}
 use Rattle.filling.specs.declared.Refusal.{Refusal}
 use Rattle.filling.specs.declared.Refusal.TheVariants as Why
-use Rattle.filling.specs.declared.Verdict.{Verdict}
-use Rattle.filling.specs.declared.Verdict.TheVariants.{Refused}
 use Rattle.filling.specs.Refusals.{refuse_if}
 use Rattle.filling.specs.Shapes.{planner_of}
 use Rattle.filling.specs.Rooms.{Lent, zeros}
@@ -18,8 +17,8 @@ use Rattle.filling.specs.Order.{rearranged}
 use Rattle.filling.specs.Start.{prepare_verdict, start_verdict}
 use Rattle.filling.specs.Fill.{planned_by, fill_order, fill_job}
 use Rattle.filling.proofs.Steps.{refuse_yes, refuse_no}
-use Rattle.report.specs.declared.NestResult.{NestResult}
-use Rattle.report.specs.inner.Replies.{reply, reply_of, refused_by, planned_when}
+use Rattle.filling.specs.declared.Plan.{Plan}
+use Rattle.report.specs.inner.Replies.{reply, reply_of, planned_when}
 use Rattle.report.proofs.readied.Judging.{when_is, wide, narrow, refused_so}
 
 -- a filling by its start's verdict
@@ -28,32 +27,31 @@ unfolding fill_job
 fill_when j l order = when_is (start_verdict j order l) l (planned_by j l (fill_order j l order))
 
 module _ (j : Job) (l : Lent) (order : List ℕ) (copies : ℕ) (n : j.copies ≡ copies) (room : List Float) (z : room ≡ zeros pos_zero l.positions) where
-  by_verdict : (v : Verdict) (r : NestResult) (after : List Float) → start_verdict j order l ≡ v
+  by_verdict : (v : Result (Unit {0}) Refusal) (r : Result Plan Refusal) (after : List Float) → start_verdict j order l ≡ v
       → reply r after ≡ reply_of (planned_when v l (planned_by j l (fill_order j l order))) → reply r after ≡ reply_of (fill_job j order l)
   by_verdict v r after e f =
-      f ∙ (ap (λ (u : Verdict). reply_of (planned_when u l (planned_by j l (fill_order j l order)))) (sym e) ∙ ap reply_of (sym (fill_when j l order)))
+      f ∙ (ap (λ (u : Result (Unit {0}) Refusal). reply_of (planned_when u l (planned_by j l (fill_order j l order)))) (sym e) ∙ ap reply_of (sym (fill_when j l order)))
 
-  not-filled : (k : Refusal) (r : NestResult) → start_verdict j order l ≡ Refused k → r ≡ refused_by k → reply r room ≡ reply_of (fill_job j order l)
-  not-filled k r e d =
-      by_verdict (start_verdict j order l) r room refl
-      (refused_so j l copies n room z k r (start_verdict j order l) (planned_by j l (fill_order j l order)) e d)
+  not-filled : (k : Refusal) → start_verdict j order l ≡ Err k → reply (Err k) room ≡ reply_of (fill_job j order l)
+  not-filled k e =
+      by_verdict (start_verdict j order l) (Err k) room refl
+      (refused_so j l copies n room z k (start_verdict j order l) (planned_by j l (fill_order j l order)) e)
 
   -- 30
-  pub no_positions : (r : NestResult) → length room / 6 < copies → r ≡ refused_by Why.PositionRoom → reply r room ≡ reply_of (fill_job j order l)
+  pub no_positions : length room / 6 < copies → reply (Err Why.PositionRoom) room ≡ reply_of (fill_job j order l)
   unfolding start_verdict
-  no_positions r h d = not-filled Why.PositionRoom r (narrow j l copies n room z _ h) d
+  no_positions h = not-filled Why.PositionRoom (narrow j l copies n room z _ h)
 
   after-30 : copies ≤ length room / 6 → start_verdict j order l ≡ refuse_if (not (rearranged j order)) Why.WrongOrder (prepare_verdict (planner_of j) l.rooms)
   unfolding start_verdict
   after-30 h = wide j l copies n room z _ h
 
   -- 10
-  pub wrong_order : (r : NestResult) → copies ≤ length room / 6 → rearranged j order ≡ false → r ≡ refused_by Why.WrongOrder
-      → reply r room ≡ reply_of (fill_job j order l)
-  wrong_order r h e d = not-filled Why.WrongOrder r (after-30 h ∙ refuse_yes (not (rearranged j order)) Why.WrongOrder _ (ap not e)) d
+  pub wrong_order : copies ≤ length room / 6 → rearranged j order ≡ false → reply (Err Why.WrongOrder) room ≡ reply_of (fill_job j order l)
+  wrong_order h e = not-filled Why.WrongOrder (after-30 h ∙ refuse_yes (not (rearranged j order)) Why.WrongOrder _ (ap not e))
 
   -- neither
-  pub then-prepared : (r : NestResult) (after : List Float) → copies ≤ length room / 6 → rearranged j order ≡ true
+  pub then-prepared : (r : Result Plan Refusal) (after : List Float) → copies ≤ length room / 6 → rearranged j order ≡ true
       → reply r after ≡ reply_of (planned_when (prepare_verdict (planner_of j) l.rooms) l (planned_by j l (fill_order j l order)))
       → reply r after ≡ reply_of (fill_job j order l)
   then-prepared r after h e f =

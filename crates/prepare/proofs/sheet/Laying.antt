@@ -1,4 +1,5 @@
 -- The sheet's strips, entries and first buckets, from what the calls leave. Assumes nothing.
+use Rattle.std.specs.Prelude.{Option, Some, None, Ok, Err}
 use mathlib.Core.Path.{◌≡◌, refl, sym, ap, subst, ◌∙◌}
 use mathlib.Core.Logic.{◌⊎◌, inl, inr}
 use mathlib.Core.Bool.{Bool, true, false, true≢false}
@@ -19,8 +20,6 @@ use Rattle.enter.specs.inner.EntryRoom.{Entering, enter_of, entries_in, FirstsWr
 use Rattle.enter.specs.inner.Gaps.{rooms, entering}
 use Rattle.enter.proofs.Starts.{enter_fits, enter_over}
 use Rattle.strips.specs.declared.Rect.{Rect}
-use Rattle.strips.specs.declared.Stored.{Stored}
-use Rattle.strips.specs.declared.Stored.TheVariants.{Count, NoRoom}
 use Rattle.strips.specs.inner.Tables.{strips_stored}
 use Rattle.filling.specs.Shapes.{set_bounds, set_strips}
 use Rattle.filling.specs.Rooms.{laid}
@@ -30,15 +29,15 @@ use Rattle.filling.proofs.Reading.{length-flat}
 use Rattle.shapes.specs.set_strips.inner.SetStrips.{strips_of, strips_at}
 use Rattle.filling.proofs.WithinBoundsStrips.{capacity-flat}
 use Rattle.shapes.proofs.set_strips.ReadSets.{laid-first, stored-number, stored-room, not-stored}
-use Rattle.prepare.specs.declared.sheet.SheetLaid.TheVariants as Sheet
+use Rattle.index.specs.declared.Overrun.TheVariants as Room
 use Rattle.prepare.specs.sheet.inner.SheetRoom.{SheetIs}
 use Rattle.kinds.specs.sets.inner.Answers.{set_at}
 use Rattle.frames.specs.declared.Frame.{Frame}
 use Rattle.frames.specs.Frames.{framed}
 
 -- ---- strips laid from the first on
-module _ (ss : List Trapezoid) (room₀ room : List Float) (r : Stored) (e : record { answer = r; room = room } ≡ strips_stored ss room₀ 0) where
-  module _ (n : ℕ) (d : r ≡ Count n) where
+module _ (ss : List Trapezoid) (room₀ room : List Float) (r : Option ℕ) (e : record { answer = r; room = room } ≡ strips_stored ss room₀ 0) where
+  module _ (n : ℕ) (d : r ≡ Some n) where
     counted : (n ≡ length ss) × (6 * (0 + n) ≤ length room₀)
     counted = stored-number ss room₀ room 0 r e n d
 
@@ -56,7 +55,7 @@ module _ (ss : List Trapezoid) (room₀ room : List Float) (r : Stored) (e : rec
     front_is = ap (take (6 * n)) room_is ∙ take_at (flat ss) (drop (length (flat ss)) room₀) (6 * n)
         (let c = counted in let l = length-flat ss in omega (arith, c.0))
 
-  pub over : r ≡ NoRoom → (firsts : List ℕ) → standing_capacity room₀ firsts < capacity (flat ss)
+  pub over : r ≡ None → (firsts : List ℕ) → standing_capacity room₀ firsts < capacity (flat ss)
   unfolding standing_capacity capacity
   over d firsts = let b = not-stored ss room₀ room 0 r e d in let l = length-flat ss in omega arith
 
@@ -100,7 +99,7 @@ standing-same : (room room' : List Float) (firsts : List ℕ) → length room �
 unfolding standing_capacity capacity
 standing-same room room' firsts e = rw e
 
-module _ (g : Frame) (bytes : List ℕ) (at : ℕ) (sheet₀ sheet : List Float) (r : Stored)
+module _ (g : Frame) (bytes : List ℕ) (at : ℕ) (sheet₀ sheet : List Float) (r : Option ℕ)
     (e : record { answer = r; room = sheet } ≡ strips_stored (strips_at g bytes at true) sheet₀ 0) where
   abbrev S : List Float
   S = set_strips true (framed g (set_at bytes at))
@@ -108,13 +107,13 @@ module _ (g : Frame) (bytes : List ℕ) (at : ℕ) (sheet₀ sheet : List Float)
   abbrev B : Rect
   B = set_bounds (framed g (set_at bytes at))
 
-  pub no_strips : (entries₀ entries starts firsts₀ firsts : List ℕ) → r ≡ NoRoom → SheetIs Sheet.NoStrips B S sheet₀ sheet entries₀ entries starts firsts₀
+  pub no_strips : (entries₀ entries starts firsts₀ firsts : List ℕ) → r ≡ None → SheetIs (Err Room.StripRoom) B S sheet₀ sheet entries₀ entries starts firsts₀
       firsts
   no_strips entries₀ entries starts firsts₀ firsts d =
       subst (λ (l : List Float). standing_capacity sheet₀ firsts₀ < capacity l) (sheet_strips g bytes at)
       (over (strips_at g bytes at true) sheet₀ sheet r e d firsts₀)
 
-  module _ (n : ℕ) (d : r ≡ Count n) where
+  module _ (n : ℕ) (d : r ≡ Some n) where
     pub fits : 6 * n ≤ length sheet₀
     fits = within (strips_at g bytes at true) sheet₀ sheet r e n d
 
@@ -129,7 +128,7 @@ module _ (g : Frame) (bytes : List ℕ) (at : ℕ) (sheet₀ sheet : List Float)
       m_is : m ≡ standing_capacity sheet₀ firsts₀
       m_is = q ∙ standing-same sheet sheet₀ firsts₀ k
 
-      pub too_many : m < n → (entries₀ entries starts firsts : List ℕ) → SheetIs Sheet.NoStrips B S sheet₀ sheet entries₀ entries starts firsts₀ firsts
+      pub too_many : m < n → (entries₀ entries starts firsts : List ℕ) → SheetIs (Err Room.StripRoom) B S sheet₀ sheet entries₀ entries starts firsts₀ firsts
       too_many h entries₀ entries starts firsts = subst (λ (x : ℕ). x < capacity S) m_is (subst (λ (x : ℕ). m < x) n_is h)
 
       module _ (few : n ≤ m) where
@@ -162,7 +161,7 @@ module _ (g : Frame) (bytes : List ℕ) (at : ℕ) (sheet₀ sheet : List Float)
           pub sheet_in : (firsts : List ℕ) → length firsts ≡ length firsts₀ → entering t entries starts ≡ enter_of ix (take (6 * n) sheet) n
               (rooms entries₀ starts₀)
               → (t ≡ true → Laid ix (take (6 * n) sheet) n entries starts) → (t ≡ true → FirstsWritten ix (take (6 * n) sheet) 0 n firsts₀ firsts)
-              → t ≡ true → SheetIs (Sheet.Strips b n) B S sheet₀ sheet entries₀ entries starts firsts₀ firsts
+              → t ≡ true → SheetIs (Ok (b, n)) B S sheet₀ sheet entries₀ entries starts firsts₀ firsts
           unfolding entries_for firsts_for
           sheet_in firsts w f e' u y =
               let h = entered_yes (sheet_index B) S entries₀ starts₀ entries starts t (entered f) y in
@@ -181,6 +180,6 @@ module _ (g : Frame) (bytes : List ℕ) (at : ℕ) (sheet₀ sheet : List Float)
               )
 
           pub no_entries : (firsts : List ℕ) → entering t entries starts ≡ enter_of ix (take (6 * n) sheet) n (rooms entries₀ starts₀) → t ≡ false
-              → SheetIs Sheet.NoEntries B S sheet₀ sheet entries₀ entries starts firsts₀ firsts
+              → SheetIs (Err Room.EntryRoom) B S sheet₀ sheet entries₀ entries starts firsts₀ firsts
           unfolding entries_for
           no_entries firsts f y = (strips_in, entered_no (sheet_index B) S entries₀ starts₀ entries starts t (entered f) y)

@@ -1,11 +1,10 @@
 -- For inner functions' contracts only: a job in its tables, and the rooms and tables that are prepared from it. Definitions only. Assumes nothing.
-use Rattle.std.specs.Prelude.{ℕ, ◌≡◌, List, [], ◌++◌, Float}
+use Rattle.std.specs.Prelude.{Ok, ℕ, ◌≡◌, List, [], ◌++◌, Float}
 use Rattle.trapezoid.specs.Strip.{capacity}
 use Rattle.index.specs.inner.Listing.{Laid, FirstBuckets}
 use Rattle.kinds.specs.inner.Tables.{tabulate, kind_at}
 use Rattle.job.specs.Jobs.{Job}
 use Rattle.filling.specs.declared.Tables.{Tables}
-use Rattle.filling.specs.declared.Verdict.TheVariants.{Accepted}
 use Rattle.filling.specs.Shapes.{Planner}
 use Rattle.filling.specs.Rooms.{Rooms, laid}
 use Rattle.filling.specs.Consistent.{sheet_index, entries_for, firsts_for}
@@ -45,4 +44,4 @@ pub record Readied (p : Planner) (tables : Tables) (starts : List ℕ) (before :
 -- the verdict is the planner's; where it accepts, all is ready
 pub record PreparedIs (r : Prepared) (p : Planner) (before : Rooms) (shapes sheet : List Float) (entries firsts : List ℕ) : Type 0 where
   pub verdict_is : r.verdict ≡ prepare_verdict p before
-  pub ready : r.verdict ≡ Accepted → Readied p r.tables r.sheet_starts before shapes sheet entries firsts
+  pub ready : r.verdict ≡ (Ok tt) → Readied p r.tables r.sheet_starts before shapes sheet entries firsts

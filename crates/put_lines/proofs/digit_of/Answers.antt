@@ -1,20 +1,19 @@
 -- `put_lines::digit_of` meets its contract. Assumes nothing.
+use native.Mathlib.Omega.{arith}
 use Rattle.put_lines.proofs.Numerals.{digit_before, digit_decimal, digit_between, digit_letter, digit_behind}
 use Rattle.put_lines.proofs.digit_of.Goals as goal
 
-pub returns-then-b-lt48 : goal.returns-then-b-lt48
-returns-then-b-lt48 c = digit_before c.args.b c.if-b-lt48.true
+pub returns-in-48-to-57 : goal.returns-in-48-to-57
+returns-in-48-to-57 c = digit_decimal c.args.b (omega arith) (omega arith)
 
-pub returns-then-b-lt58 : goal.returns-then-b-lt58
-returns-then-b-lt58 c = digit_decimal c.args.b c.if-b-lt48.false c.if-b-lt58.true
+pub returns-in-97-to-102 : goal.returns-in-97-to-102
+returns-in-97-to-102 c = digit_letter c.args.b (omega arith) (omega arith) (omega arith) (omega arith)
 
-pub returns-then-b-lt97 : goal.returns-then-b-lt97
-returns-then-b-lt97 c = digit_between c.args.b c.if-b-lt48.false c.if-b-lt58.false c.if-b-lt97.true
+pub returns-in_default : goal.returns-in_default
+returns-in_default c = digit_before c.args.b (omega arith)
 
-pub returns-then-b-lt103 : goal.returns-then-b-lt103
-returns-then-b-lt103 c = digit_letter c.args.b c.if-b-lt48.false c.if-b-lt58.false
-    c.if-b-lt97.false c.if-b-lt103.true
+pub returns-in_default-2 : goal.returns-in_default-2
+returns-in_default-2 c = digit_between c.args.b (omega arith) (omega arith) (omega arith)
 
-pub returns : goal.returns
-returns c = digit_behind c.args.b c.if-b-lt48.false c.if-b-lt58.false
-    c.if-b-lt97.false c.if-b-lt103.false
+pub returns-in_default-3 : goal.returns-in_default-3
+returns-in_default-3 c = digit_behind c.args.b (omega arith) (omega arith) (omega arith) (omega arith)

@@ -1,18 +1,20 @@
 -- `read_tables::finish` meets its contract. Assumes nothing.
 use mathlib.Core.Path.{sym, ◌∙◌}
-use Rattle.read_tables.proofs.Finishing.{finish_laid, finish_short}
+use lib.Ieee.{of_bits}
+use borrow.Author.Tests.{leb-true}
+use Rattle.numbers.specs.Numbers.{pos_zero}
+use Rattle.read_tables.proofs.Storing.{fill-cleared}
+use Rattle.read_tables.proofs.Finishing.{four, finish_laid, finish_short}
 use Rattle.read_tables.proofs.finish.Goals as goal
 
-pub returns-then-all_fit : goal.returns-then-all_fit
-returns-then-all_fit c = let c10 = c in
-    let c14 = c10 in
-    let c16 = c14 in
-    let c17 = c16 in
-    λ j e T. finish_laid _ _ _ _ _ _ _ _ _ _ j T _ (sym c17.all_fit.ensures ∙ c16.if-all_fit.true) e c14.clear_numbers.ensures c10.clear_doubles.ensures
-    c.clear_numbers-then-all_fit.ensures c.clear_doubles-then-all_fit.ensures
+pub returns-then-not-all_fit : goal.returns-then-not-all_fit
+returns-then-not-all_fit c = λ j e T. finish_short _ _ _ _ _ _ j T (sym c.all_fit.ensures ∙ c.if-not-all_fit.true)
 
 pub returns : goal.returns
-returns c = let c8 = c in
-    let c13 = c8 in
-    let c14 = c13 in
-    λ j e T. finish_short _ _ _ _ _ _ _ _ _ _ j T (sym c14.all_fit.ensures ∙ c13.if-all_fit.false) c8.clear_all.ensures
+unfolding of_bits
+returns c = λ j e T. let F = four _ _ _ _ (sym c.all_fit.ensures ∙ c.if-not-all_fit.false) in
+    finish_laid _ _ _ _ _ _ j T _ _ _ _ _ (sym c.all_fit.ensures ∙ c.if-not-all_fit.false) e
+    (fill-cleared 0 _ _ _ (leb-true _ _ F.0) (c.fill.ensures.after (λ y e. e)))
+    (fill-cleared pos_zero _ _ _ (leb-true _ _ F.1) (c.fill-2.ensures.after (λ y e. e)))
+    (fill-cleared 0 _ _ _ (leb-true _ _ F.2) (c.fill-3.ensures.after (λ y e. e)))
+    (fill-cleared pos_zero _ _ _ (leb-true _ _ F.3) (c.fill-4.ensures.after (λ y e. e)))

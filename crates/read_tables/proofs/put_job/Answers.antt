@@ -1,61 +1,55 @@
 -- `read_tables::put_job` meets its contract. Assumes nothing.
 use mathlib.Core.Path.{refl, ◌∙◌}
 use native.Mathlib.Omega.{arith}
+use Rattle.std.proofs.Common.{rules}
+use Rattle.job.proofs.Whole.{read_as}
 use Rattle.read_tables.proofs.Putting.{areas-stored}
-use Rattle.read_tables.proofs.Finishing.{job_in, few-kinds, few-turns, tabled-same}
+use Rattle.read_tables.proofs.Finishing.{job_in, few-kinds, few-turns, finish_refused, tabled-same}
 use Rattle.read_tables.proofs.put_job.Goals as goal
 
+pub returns-in_err-h : goal.returns-in_err-h
+returns-in_err-h c =
+    search (
+      rules,
+      finish_refused c.in_err-h.field-0.0 _ c.args.rows.now c.args.areas.now c.args.counts.now c.args.coordinates.now
+          (read_as c.args.bytes.now c.read-j.result c.read-j.ensures.0 c.in_err-h.was),
+    )
+
 pub put_rows-requires : goal.put_rows-requires
-put_rows-requires c = let c9 = c in (
-  few-kinds c9.args.bytes.now c9.args.h c9.args.sheet c9.requires.3.0 c9.args.table.now c9.args.sizes.now c9.args.places.now
-      c9.requires.3.1,
-  c9.requires.0,
+put_rows-requires c = (
+  few-kinds _ _ _ _ _ _ _ (read_as c.args.bytes.now c.read-j.result c.read-j.ensures.0 c.in_ok-h.was),
+  omega (arith, c.read-j.ensures.1),
 )
 
 pub put_doubles-requires : goal.put_doubles-requires
-put_doubles-requires c = let c13 = c in
-    let l = few-kinds c13.args.bytes.now c13.args.h c13.args.sheet c13.requires.3.0 c13.args.table.now c13.args.sizes.now
-    c13.args.places.now c13.requires.3.1 in (omega (arith, l, c13.requires.1), omega (arith, l), omega arith)
+put_doubles-requires c =
+    let l = few-kinds _ _ _ _ _ _ _ (read_as c.args.bytes.now c.read-j.result c.read-j.ensures.0 c.in_ok-h.was) in
+    (omega (arith, l, c.read-j.ensures.2), omega (arith, l), omega arith)
 
 pub put_sets-w-requires : goal.put_sets-w-requires
-put_sets-w-requires c = let c16 = c in
-    let c18 = c16 in (
-      few-kinds c18.args.bytes.now c18.args.h c18.args.sheet c18.requires.3.0 c18.args.table.now c18.args.sizes.now
-          c18.args.places.now c18.requires.3.1,
-      few-turns c18.args.bytes.now c18.args.h c18.args.sheet c18.requires.3.0 c18.args.table.now
-          c18.args.sizes.now c18.args.places.now c18.requires.3.1,
-      c18.requires.0,
-      c18.requires.2,
-    )
+put_sets-w-requires c =
+    let e = read_as c.args.bytes.now c.read-j.result c.read-j.ensures.0 c.in_ok-h.was in
+    (few-kinds _ _ _ _ _ _ _ e, few-turns _ _ _ _ _ _ _ e, omega (arith, c.read-j.ensures.1), omega (arith, c.read-j.ensures.3))
 
 pub finish-requires : goal.finish-requires
-finish-requires c = let c16 = c in
-    let c27 = c16 in
-    few-kinds c27.args.bytes.now c27.args.h c27.args.sheet c27.requires.3.0 c27.args.table.now c27.args.sizes.now
-    c27.args.places.now c27.requires.3.1
+finish-requires c = few-kinds _ _ _ _ _ _ _ (read_as c.args.bytes.now c.read-j.result c.read-j.ensures.0 c.in_ok-h.was)
 
 pub returns : goal.returns
-returns c = let c8 = c in
-    let c17 = c8 in
-    let c22 = c17 in
-    let c26 = c22 in
-    let c36 = c26 in
-    let l = few-kinds c36.args.bytes.now c36.args.h c36.args.sheet c36.requires.3.0 c36.args.table.now c36.args.sizes.now
-    c36.args.places.now c36.requires.3.1 in
-    let S = c17.put_sets-w.ensures c36.args.sizes.now (job_in c36.args.bytes.now c36.args.h c36.args.sheet c36.requires.3.0
-    c36.args.table.now c36.args.sizes.now c36.args.places.now) refl refl in
-    c8.finish.ensures (job_in c36.args.bytes.now c36.args.h c36.args.sheet c36.requires.3.0 c36.args.table.now c36.args.sizes.now
-    c36.args.places.now) refl
+returns c =
+    let j = c.read-j.result in
+    let e = read_as c.args.bytes.now j c.read-j.ensures.0 c.in_ok-h.was in
+    let l = few-kinds _ _ _ _ _ _ _ e in
+    let job = job_in c.args.bytes.now c.in_ok-h.h c.in_ok-h.sheet c.in_ok-h.field-0-2 j.rows j.areas j.places in
+    let S = c.put_sets-w.ensures j.areas job refl refl in
+    c.finish.ensures job refl
     (record {
       rows₀ = _;
       areas₀ = _;
       counts₀ = _;
       coordinates₀ = _;
-      rows = c26.put_rows.ensures c36.args.bytes.now c36.args.sizes.now c36.args.places.now;
-      areas = areas-stored c36.args.bytes.now c36.args.table.now c36.args.sizes.now c36.args.places.now _ _ _ _
-          (omega (arith, l, c36.requires.1)) c22.put_doubles.ensures.0;
+      rows = c.put_rows.ensures c.args.bytes.now j.areas j.places;
+      areas = areas-stored c.args.bytes.now j.rows j.areas j.places _ _ _ _ (omega (arith, l, c.read-j.ensures.2)) c.put_doubles.ensures.0;
       counts = S.0;
       coordinates = S.1;
     })
-    ∙ tabled-same _ _ _ _ _ _ _ _ _ _ c36.requires.3.1 c26.put_rows.auto.out c22.put_doubles.auto.out c17.put_sets-w.auto.counts
-    c17.put_sets-w.auto.coordinates
+    ∙ tabled-same _ _ _ _ _ _ _ _ _ _ e c.put_rows.auto.out c.put_doubles.auto.out c.put_sets-w.auto.counts c.put_sets-w.auto.coordinates

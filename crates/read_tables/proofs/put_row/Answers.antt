@@ -1,12 +1,14 @@
 -- `read_tables::put_row` meets its contract. Assumes nothing.
+use mathlib.Core.Path.{◌≡◌, refl, ◌∙◌}
+use mathlib.Core.Bool.{Bool, true, false, cond}
+use mir.Val.{bool_byte}
 use Rattle.read_tables.proofs.Putting.{row_stored}
 use Rattle.read_tables.proofs.put_row.Goals as goal
 
+one_or_none : (b : Bool) → bool_byte b ≡ cond b 1 0
+one_or_none true = refl
+one_or_none false = refl
+
 pub returns : goal.returns
-returns c = let c7 = c in
-    let c8 = c7 in
-    let c13 = c8 in
-    let c14 = c13 in
-    let c19 = c14 in
-    row_stored _ _ _ _ _ _ _ _ _ _ _ _ c19.store_number.ensures c14.fill_of.ensures c13.store_number-2.ensures c8.priority_of.ensures
-    c7.store_number-3.ensures c.store_number-4.ensures
+returns c =
+    row_stored _ _ _ _ _ _ _ _ _ _ _ _ c.store.ensures (c.from.ensures ∙ one_or_none _) c.store-2.ensures c.min.ensures c.store-3.ensures c.store-4.ensures

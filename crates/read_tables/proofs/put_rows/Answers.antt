@@ -25,8 +25,6 @@ pub shape_of-out : goal.shape_of-out
 shape_of-out c = c.loop-k.invariant.1
 
 pub returns : goal.returns
-returns c = let c1 = c in
-    let c4 = c1 in
-    let e : c1.loop-k.k ≡ c4.args.n = omega (arith, c1.loop-k.invariant.0) in λ bytes areas places. subst
-    (λ (m : ℕ). Stored c4.args.out.now 0 (rows_of (tabulate (kind_at bytes c4.args.rows.now areas places) m)) c1.loop-k.out (4 * m)) e
-    (c1.loop-k.invariant.2 bytes areas places)
+returns c = let e : c.loop-k.k ≡ c.args.n = omega (arith, c.loop-k.invariant.0) in λ bytes areas places. subst
+    (λ (m : ℕ). Stored c.args.out.now 0 (rows_of (tabulate (kind_at bytes c.args.rows.now areas places) m)) c.loop-k.out (4 * m)) e
+    (c.loop-k.invariant.2 bytes areas places)

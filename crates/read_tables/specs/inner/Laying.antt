@@ -7,8 +7,8 @@ use Rattle.job.specs.declared.Header.{Header}
 use Rattle.job.specs.Jobs.{Job, accepted}
 use Rattle.job_bits.specs.JobTables.{counts_of, coordinates_of, rows_of, areas_of}
 use Rattle.read_tables.specs.declared.sets.Filled.{Filled}
-use Rattle.read_tables.specs.declared.Reply.{Reply}
-use Rattle.read_tables.specs.Tabled.{tabled}
+use Rattle.job_bits.specs.Replies.{or_zeros}
+use Rattle.read_tables.specs.Tabled.{Reply, Laid, tabled}
 
 -- `more`, stored from place n on as far as the room goes; m is the place behind it
 pub record Stored {A : Type 0} (before : List A) (n : ℕ) (more after : List A) (m : ℕ) : Type 0 where
@@ -41,13 +41,10 @@ row_at rows k =
 unfoldable pub cleared : {A : Type 0} → A → ℕ → List A → List A
 cleared z n l = take n l ++ replicate (length l - n) z
 
--- zeros in all rooms
-pub record AllZero (rs : List ℕ) (ss : List Float) (cs : List ℕ) (xs : List Float)
-    (rs' : List ℕ) (ss' : List Float) (cs' : List ℕ) (xs' : List Float) : Type 0 where
-  pub rows : rs' ≡ replicate (length rs) 0
-  pub areas : ss' ≡ replicate (length ss) pos_zero
-  pub counts : cs' ≡ replicate (length cs) 0
-  pub coordinates : xs' ≡ replicate (length xs) pos_zero
+-- a reply, and what the rooms hold after it, where refusals leave zeros
+abbrev pub left_of : Reply → List ℕ → List Float → List ℕ → List Float → Laid
+left_of r rs ss cs xs =
+    record { reply = r; rows = or_zeros 0 r rs; areas = or_zeros pos_zero r ss; counts = or_zeros 0 r cs; coordinates = or_zeros pos_zero r xs }
 
 -- a job's four tables, stored in rooms
 pub record Tabling (j : Job) (n : ℕ) (w : Filled) (rs : List ℕ) (ss : List Float) (cs : List ℕ) (xs : List Float) : Type 0 where
@@ -63,5 +60,4 @@ pub record Tabling (j : Job) (n : ℕ) (w : Filled) (rs : List ℕ) (ss : List F
 -- the reply and the rooms are those of every job whose tables are stored
 abbrev pub Finished : Header → ℕ → Filled → List ℕ → List Float → List ℕ → List Float → Reply → List ℕ → List Float → List ℕ → List Float → Type 0
 Finished h n w rs ss cs xs r rs' ss' cs' xs' =
-    (j : Job) → j.header ≡ h → Tabling j n w rs ss cs xs → record { reply = r; rows = rs'; areas = ss'; counts = cs'; coordinates = xs' }
-    ≡ tabled (accepted j) (length rs) (length ss) (length cs) (length xs)
+    (j : Job) → j.header ≡ h → Tabling j n w rs ss cs xs → left_of r rs' ss' cs' xs' ≡ tabled (accepted j) (length rs) (length ss) (length cs) (length xs)

@@ -1,4 +1,5 @@
 -- What is prepared in zeroed rooms is what a filling is given. Assumes nothing.
+use Rattle.std.specs.Prelude.{Result, Ok, Err}
 use Prim.Native.Nat.{ℕ, ◌*◌, ◌≤◌}
 use native.Mathlib.Omega.{arith}
 use mathlib.Core.Path.{◌≡◌, sym, ap, ap₂, subst, ◌∙◌}
@@ -12,7 +13,6 @@ use Rattle.strips.specs.declared.Rect.{Rect}
 use Rattle.job.specs.declared.Header.{Header}
 use Rattle.job.specs.Jobs.{Job}
 use Rattle.filling.specs.declared.Tables.{Tables}
-use Rattle.filling.specs.declared.Verdict.{Verdict}
 use Rattle.filling.specs.Shapes.{Planner, planner_of}
 use Rattle.filling.specs.Rooms.{Lent, laid, zeros}
 use Rattle.filling.specs.State.{apart_room, inset_room, planner_at}
@@ -25,10 +25,9 @@ use Rattle.prepare.specs.inner.Ready as Rooms₀
 use Rattle.prepare.specs.inner.Ready.{Readied, PreparedIs}
 use Rattle.prepare.specs.declared.Prepared as Answers
 use Rattle.filling.specs.declared.Refusal.{Refusal}
-use Rattle.filling.specs.declared.Verdict.TheVariants.{Accepted, Refused}
 use Rattle.filling.specs.Fill.{Planned}
-use Rattle.report.specs.declared.NestResult.{NestResult}
-use Rattle.report.specs.inner.Replies.{reply, reply_of, refused_by, planned_when}
+use Rattle.filling.specs.declared.Plan.{Plan}
+use Rattle.report.specs.inner.Replies.{reply, reply_of, planned_when}
 use Rattle.report.proofs.Reporting.{refused-reply}
 use Rattle.filling_laws.specs.fill_laws.inner.Prepared.{given, Prepared, SheetFirsts}
 use Rattle.report.specs.readied.inner.Zeroed.{Zeroed, ReadInto}
@@ -105,7 +104,7 @@ module _ {j : Job} {bytes : List ℕ} {at : ℕ} {h : Header} {rows : List ℕ} 
       subst (λ (b : Rect). FirstBuckets (sheet_index b) Own (capacity Own) firsts) (sym bounds_are)
       (subst (λ (z : List Float). FirstBuckets (sheet_index P.bounds) z (capacity z) firsts) (sym own_sheet) D.kept)
 
-  pub prepared_is : prepare_verdict (planner_of j) l.rooms ≡ Accepted
+  pub prepared_is : prepare_verdict (planner_of j) l.rooms ≡ (Ok tt)
       → Prepared j (given (sheet_index t.sheet_bounds) t.sheet_bounds t.resolution rows areas t.inset_bounds t.parts
       (take (6 * t.apart_strips) shapes) (drop (6 * t.apart_strips) shapes) (take (6 * t.sheet_strips) sheet) entries starts)
   prepared_is v =
@@ -157,7 +156,7 @@ module _ {j : Job} {bytes : List ℕ} {at : ℕ} {h : Header} {rows : List ℕ} 
   pub same-verdict : prepare_verdict (planner_of j) l.rooms ≡ q.verdict
   same-verdict = sym (E.verdict_is ∙ verdict_zeroed (planner_of j) l shapes₀ sheet₀ entries₀ firsts₀ Z.shapes_zero Z.sheet_zero Z.sheet_entries_zero Z.sheet_firsts_zero)
 
-  module _ (e : q.verdict ≡ Accepted) where
+  module _ (e : q.verdict ≡ (Ok tt)) where
     abbrev T : Tables
     T = q.tables
 
@@ -176,7 +175,7 @@ module _ {j : Job} {bytes : List ℕ} {at : ℕ} {h : Header} {rows : List ℕ} 
     ready-shapes = shapes-within R Z q.tables shapes sheet entries q.sheet_starts firsts (E.ready e)
 
     -- the reply of what is filled then
-    pub ready-reply : (w : Planned) (r : NestResult) (positions : List Float)
+    pub ready-reply : (w : Planned) (r : Result Plan Refusal) (positions : List Float)
         → (length l.rooms.placed ≡ length placed₀ → length l.rooms.placed_entries ≡ length placed-entries₀
         → length l.intervals ≡ length intervals₀ → length l.rooms.placed_firsts ≡ length placed-firsts₀ → positions₀ ≡ zeros pos_zero l.positions → reply r positions ≡ reply_of w)
         → reply r positions ≡ reply_of (planned_when (prepare_verdict (planner_of j) l.rooms) l w)
@@ -185,11 +184,11 @@ module _ {j : Job} {bytes : List ℕ} {at : ℕ} {h : Header} {rows : List ℕ} 
         (sym (ap length Z.placed_entries_zero ∙ length-zeros 0 l.rooms.placed_entries))
         (sym (ap length Z.intervals_zero ∙ length-zeros pos_zero l.intervals))
         (sym (ap length Z.placed_firsts_zero ∙ length-zeros 0 l.rooms.placed_firsts)) Z.positions_zero
-        ∙ ap (λ (v : Verdict). reply_of (planned_when v l w)) (sym (same-verdict ∙ e))
+        ∙ ap (λ (v : Result (Unit {0}) Refusal). reply_of (planned_when v l w)) (sym (same-verdict ∙ e))
 
   -- 20 or 21
-  pub over_reply : (w : Planned) (k : Refusal) (r : NestResult) → q.verdict ≡ Refused k → r ≡ refused_by k
-      → reply r positions₀ ≡ reply_of (planned_when (prepare_verdict (planner_of j) l.rooms) l w)
-  over_reply w k r e d =
-      refused-reply l k positions₀ Z.positions_zero r d
-      ∙ ap (λ (v : Verdict). reply_of (planned_when v l w)) (sym (same-verdict ∙ e))
+  pub over_reply : (w : Planned) (k : Refusal) → q.verdict ≡ Err k
+      → reply (Err k) positions₀ ≡ reply_of (planned_when (prepare_verdict (planner_of j) l.rooms) l w)
+  over_reply w k e =
+      refused-reply l k positions₀ Z.positions_zero
+      ∙ ap (λ (v : Result (Unit {0}) Refusal). reply_of (planned_when v l w)) (sym (same-verdict ∙ e))

@@ -10,14 +10,12 @@ use mathlib.Core.Path.{ap, ◌∙◌, subst, subst⁻¹}
 use Rattle.search.proofs.column_step.Goals as goal
 
 pub overflow_add-tracks : goal.overflow_add-tracks
-overflow_add-tracks c = let c13 = c in
-    let p = c13.requires in
-    record { fits = subst (λ (n : ℕ). n + 1 < 2 ^ 64) (field_at 0 2 1 1024 c13.args.tracks.now c13.args.slot 0 p.2) p.4 }
+overflow_add-tracks c = let p = c.requires in
+    record { fits = subst (λ (n : ℕ). n + 1 < 2 ^ 64) (field_at 0 2 1 1024 c.args.tracks.now c.args.slot 0 p.2) p.4 }
 
 pub look_at-requires : goal.look_at-requires
-look_at-requires c = let c15 = c in
-    let g = c15.args in
-    let p = c15.requires in (
+look_at-requires c = let g = c.args in
+    let p = c.requires in (
       subst⁻¹ (λ (x : Float). Lookable g.ix x g.k.y_low g.k.y_high g.inset.now g.apart.now g.sheet.now g.placed.now
           g.sheet_entries.now g.sheet_starts.now g.placed_entries.now g.placed_starts.now) c.x.ensures p.0,
       p.5,
@@ -26,10 +24,8 @@ look_at-requires c = let c15 = c in
 
 pub returns : goal.returns
 unfolding answer_at
-returns c = let c16 = c in
-    let c18 = c16 in
-    let g = c18.args in
-    let p = c18.requires in (
+returns c = let g = c.args in
+    let p = c.requires in (
       c.look_at.ensures
           ∙ ap (λ (x : Float). look_of (length g.room.now / 2) x g.k.y_low g.k.y_high g.inset.now g.apart.now g.sheet.now
           g.placed.now)

@@ -1,15 +1,17 @@
 -- For inner functions' contracts only: one search in the code's order, with the look counts and the remembered columns by slot. That it is
 -- the search of the definition of filling is proved in proofs/. Definitions only. Assumes nothing.
-use Rattle.std.specs.Prelude.{ℕ, zero, suc, ◌+◌, ◌-◌, ◌≤◌, List, get_or, set, Float}
-use Rattle.look.specs.declared.height.Look.{Look}
-use Rattle.look.specs.declared.height.Look.TheVariants.{Free, Full}
-use Rattle.look.specs.declared.Answer.{Answer}
-use Rattle.look.specs.declared.Answer.TheVariants.{NoRoom, Seen}
+use Rattle.std.specs.Prelude.{Option, Some, None, Result, Ok, Err, ℕ, zero, suc, ◌+◌, ◌-◌, ◌≤◌, List, get_or, set, Float}
+use Rattle.index.specs.declared.Overrun.{Overrun}
 use Rattle.look.specs.inner.Ready.{look_of}
 use Rattle.search.specs.declared.columns.Columns.{Columns}
-use Rattle.search.specs.declared.Found.{Found}
-use Rattle.search.specs.declared.Found.TheVariants.{At, Nowhere, Overflow}
 use Rattle.search.specs.columns.inner.Stands.{column_x, last_of, start_of}
+
+-- what a look answers; what a search yields: a column with its free height and the clear height above it
+abbrev pub Answer : Type 0
+Answer = Result (Option (Float × Float)) Overrun
+
+abbrev pub Found : Type 0
+Found = Result (Option (ℕ × Float × Float)) Overrun
 
 -- the look at column c, with a room of so many intervals
 unfoldable pub answer_at : ℕ → Columns → List Float → List Float → List Float → List Float → ℕ → Answer
@@ -24,13 +26,13 @@ abbrev pub looked : Found → List ℕ → Looked
 looked f l = record { found = f; counts = l }
 
 -- the column c where its look is free, 22 where it has no room, else what the columns after it give
-unfoldable pub after_look : Look → ℕ → List ℕ → Looked → Looked
-after_look (Free y g) c counts next = looked (At c y g) counts
-after_look Full c counts next = next
+unfoldable pub after_look : Option (Float × Float) → ℕ → List ℕ → Looked → Looked
+after_look (Some (y, g)) c counts next = looked (Ok (Some (c, y, g))) counts
+after_look None c counts next = next
 
 unfoldable pub after_answer : Answer → ℕ → List ℕ → Looked → Looked
-after_answer NoRoom c counts next = looked Overflow counts
-after_answer (Seen l) c counts next = after_look l c counts next
+after_answer (Err r) c counts next = looked (Err r) counts
+after_answer (Ok l) c counts next = after_look l c counts next
 
 -- one look more
 abbrev pub counted : ℕ → List ℕ → List ℕ
@@ -38,18 +40,18 @@ counted slot counts = set counts slot (get_or counts slot 0 + 1)
 
 -- the n columns from c on
 unfoldable pub search_from : (ℕ → Answer) → ℕ → ℕ → ℕ → List ℕ → Looked
-search_from f slot zero c counts = looked Nowhere counts
+search_from f slot zero c counts = looked (Ok None) counts
 search_from f slot (suc n) c counts = after_answer (f c) c (counted slot counts) (search_from f slot n (c + 1) (counted slot counts))
 
 abbrev pub Within : ℕ → Found → Type 0
-Within last (At c y g) = c ≤ last
-Within last Nowhere = Unit
-Within last Overflow = Unit
+Within last (Ok (Some (c, y, g))) = c ≤ last
+Within last (Ok None) = Unit
+Within last (Err r) = Unit
 
 abbrev pub next_of : Found → ℕ
-next_of (At c y g) = c + 1
-next_of Nowhere = 0
-next_of Overflow = 0
+next_of (Ok (Some (c, y, g))) = c + 1
+next_of (Ok None) = 0
+next_of (Err r) = 0
 
 -- one orientation's search, with the look counts and what is remembered after it
 pub record Tracked : Type 0 where

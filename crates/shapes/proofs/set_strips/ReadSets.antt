@@ -1,4 +1,5 @@
 -- What a set that was read again promises, and the strips of a position without a set. Assumes nothing.
+use Rattle.std.specs.Prelude.{Option, Some, None, Result, Ok}
 use mathlib.Core.Path.{◌≡◌, refl, sym, ap, subst, ◌∙◌}
 use mathlib.Core.Logic.{◌⊎◌, inl, inr}
 use mathlib.Core.Bool.{Bool, true, false}
@@ -7,20 +8,16 @@ use Prim.Native.Nat.{ℕ, zero, suc, ◌+◌, ◌*◌, ◌/◌, ◌≤◌, ◌<�
 use native.Mathlib.Omega.{arith}
 use lib.ListN.{length, get_or, take, drop, take-append-drop}
 use lib.Seq.{length-take-le, get_or-take}
-use lib.Ieee.{Float, nan, binary64, of_bits, div}
+use lib.Ieee.{Float, nan, binary64, of_bits}
 use Rattle.numbers.proofs.Truth.{below_or_not}
 use Rattle.trapezoid.specs.declared.Trapezoid.{Trapezoid}
 use Rattle.trapezoid.specs.Strip.{flat}
 use Rattle.slabs.specs.Slab as Slab
-use Rattle.strips.specs.declared.Stored.TheVariants.{Count, NoRoom}
 use Rattle.strips.specs.Strips.{bounds, trapezoids}
-use Rattle.strips.specs.declared.Stored.{Stored}
 use Rattle.strips.proofs.Laying.{stored-fits, stored-count}
 use Rattle.strips.specs.inner.Tables.{Loops, strips_laid, Stowed, strips_stored}
 use Rattle.bits.specs.declared.Refusal.{Refusal}
 use Rattle.bits.specs.Reading.{Read, bad}
-use Rattle.kinds.specs.declared.sets.SetRead.{SetRead}
-use Rattle.kinds.specs.declared.sets.SetRead.TheVariants as Sets
 use Rattle.kinds.specs.sets.inner.Answers.{set_read, set_fits, found, set_at}
 use Rattle.kinds.specs.sets.Sets.{Set, a_set}
 use Rattle.frames.specs.declared.Frame.{Frame}
@@ -78,11 +75,11 @@ module _ (f : Frame) (bytes : List ℕ) (at : ℕ) (room : List Float) (ends : L
         is = e;
       }
 
-  pub set_in_lem : (r : SetRead) → framed_read f (a_set bytes at) ≡ set_read r room ends → set_fits r most → r ≡ Sets.Loops n m q → SetIn f bytes at room ends n m
+  pub set_in_lem : (r : Result (ℕ × ℕ × ℕ) Refusal) → framed_read f (a_set bytes at) ≡ set_read r room ends → set_fits r most → r ≡ Ok (n, m, q) → SetIn f bytes at room ends n m
   unfolding set_at
   set_in_lem r e d c =
-      let F : (n ≤ 64) × (m ≤ 512) × (q ≤ most) = subst (λ (t : SetRead). set_fits t most) c d in
-      let s = framed_ok f (a_set bytes at) (record { points = take (2 * m) room; ends = take n ends }) q (e ∙ ap (λ (t : SetRead). set_read t room ends) c) in
+      let F : (n ≤ 64) × (m ≤ 512) × (q ≤ most) = subst (λ (t : Result (ℕ × ℕ × ℕ) Refusal). set_fits t most) c d in
+      let s = framed_ok f (a_set bytes at) (record { points = take (2 * m) room; ends = take n ends }) q (e ∙ ap (λ (t : Result (ℕ × ℕ × ℕ) Refusal). set_read t room ends) c) in
       let g = set-good bytes at s.0 q s.1 in
       good_is g.0 F.1 F.0 (subst (λ (t : Set). Good t g.0) s.2 (framed-good f s.0 g.0 g.1))
       (ap (λ (t : Read Set). framed f (found t)) s.1 ∙ s.2)
@@ -107,21 +104,21 @@ pub laid-first : (ss : List Trapezoid) (room : List Float) → strips_laid ss ro
 unfolding strips_laid Rooms.laid
 laid-first ss room = let e : 6 * (0 + length ss) ≡ length (flat ss) = omega (arith, length-flat ss) in ap (λ (k : ℕ). flat ss ++ drop k room) e
 
-module _ (ss : List Trapezoid) (room₀ room : List Float) (from : ℕ) (r : Stored) (e : record { answer = r; room = room } ≡ strips_stored ss room₀ from) where
-  pub stored-number : (n : ℕ) → r ≡ Count n → (n ≡ length ss) × (6 * (from + n) ≤ length room₀)
+module _ (ss : List Trapezoid) (room₀ room : List Float) (from : ℕ) (r : Option ℕ) (e : record { answer = r; room = room } ≡ strips_stored ss room₀ from) where
+  pub stored-number : (n : ℕ) → r ≡ Some n → (n ≡ length ss) × (6 * (from + n) ≤ length room₀)
   stored-number n d = stored-count ss room₀ from n (sym d ∙ ap (λ (x : Stowed). x.answer) e)
 
-  pub stored-room : (n : ℕ) → r ≡ Count n → room ≡ strips_laid ss room₀ from
+  pub stored-room : (n : ℕ) → r ≡ Some n → room ≡ strips_laid ss room₀ from
   stored-room n d =
       let c = stored-number n d in
       ap (λ (x : Stowed). x.room) e ∙ ap (λ (x : Stowed). x.room) (stored-fits ss room₀ from (omega (arith, c.0, c.1)))
 
-  pub not-stored : r ≡ NoRoom → length room₀ < 6 * (from + length ss)
+  pub not-stored : r ≡ None → length room₀ < 6 * (from + length ss)
   not-stored d = go (below_or_not (length room₀) (6 * (from + length ss)))
     where
-      never : NoRoom ≡ (strips_stored ss room₀ from).answer → strips_stored ss room₀ from ≡ record
-          { answer = Count (length ss); room = strips_laid ss room₀ from } → ⊥
-      never x y = let z : ◌≡◌ {A = ℕ} 0 1 = (let v : NoRoom ≡ Count (length ss) = x ∙ ap (λ (s : Stowed). s.answer) y in cc) in omega arith
+      never : None ≡ (strips_stored ss room₀ from).answer → strips_stored ss room₀ from ≡ record
+          { answer = Some (length ss); room = strips_laid ss room₀ from } → ⊥
+      never x y = let z : ◌≡◌ {A = ℕ} 0 1 = (let v : None ≡ Some (length ss) = x ∙ ap (λ (s : Stowed). s.answer) y in cc) in omega arith
 
       go : (length room₀ < 6 * (from + length ss)) ⊎ (6 * (from + length ss) ≤ length room₀) → length room₀ < 6 * (from + length ss)
       go (inl b) = b
@@ -140,12 +137,12 @@ laid-nothing room from =
     let e : from + 0 ≡ from = omega arith in
     ap (λ (k : ℕ). take (6 * from) room ++ drop (6 * k) room) e ∙ take-append-drop (6 * from) room
 
-pub nothing_stored : (room : List Float) (from : ℕ) → 6 * from ≤ length room → strips_stored [] room from ≡ record { answer = Count 0; room = room }
-nothing_stored room from h = stored-fits [] room from (omega arith) ∙ ap (λ (l : List Float). record { answer = Count 0; room = l }) (laid-nothing room from)
+pub nothing_stored : (room : List Float) (from : ℕ) → 6 * from ≤ length room → strips_stored [] room from ≡ record { answer = Some 0; room = room }
+nothing_stored room from h = stored-fits [] room from (omega arith) ∙ ap (λ (l : List Float). record { answer = Some 0; room = l }) (laid-nothing room from)
 
-zero_by_zero : div binary64 (of_bits binary64 0) (of_bits binary64 0) ≡ nan
-unfolding div of_bits
-zero_by_zero = refl
+nan_is : of_bits binary64 0x7ff8_0000_0000_0000 ≡ nan
+unfolding of_bits
+nan_is = refl
 
 -- nothing is read there
 nothing_at : (f : Frame) (bytes : List ℕ) (at : ℕ) (k : Refusal) → framed_read f (a_set bytes at) ≡ bad k → framed f (set_at bytes at) ≡ record
@@ -153,12 +150,12 @@ nothing_at : (f : Frame) (bytes : List ℕ) (at : ℕ) (k : Refusal) → framed_
 unfolding set_at
 nothing_at f bytes at k e = ap (λ (t : Read Set). framed f (found t)) (framed-bad f (a_set bytes at) k e) ∙ framed-nothing f
 
-pub no_bounds_lem : (f : Frame) (bytes : List ℕ) (at : ℕ) (k : Refusal) (x : Float) → x ≡ div binary64 (of_bits binary64 0) (of_bits binary64 0)
+pub no_bounds_lem : (f : Frame) (bytes : List ℕ) (at : ℕ) (k : Refusal) (x : Float) → x ≡ of_bits binary64 0x7ff8_0000_0000_0000
     → framed_read f (a_set bytes at) ≡ bad k → record { left = x; bottom = x; right = x; top = x } ≡ set_bounds (framed f (set_at bytes at))
 unfolding set_bounds strips_compute
-no_bounds_lem f bytes at k x d e = rw (d ∙ zero_by_zero, nothing_at f bytes at k e)
+no_bounds_lem f bytes at k x d e = rw (d ∙ nan_is, nothing_at f bytes at k e)
 
 pub none-stored : (f : Frame) (bytes : List ℕ) (at : ℕ) (sheet : Bool) (room : List Float) (from : ℕ) (k : Refusal) → 6 * from ≤ length room
-    → framed_read f (a_set bytes at) ≡ bad k → strips_stored (strips_at f bytes at sheet) room from ≡ record { answer = Count 0; room = room }
+    → framed_read f (a_set bytes at) ≡ bad k → strips_stored (strips_at f bytes at sheet) room from ≡ record { answer = Some 0; room = room }
 unfolding strips_at
 none-stored f bytes at sheet room from k h e = rw (nothing_at f bytes at k e, no_strips sheet) (nothing_stored room from h)

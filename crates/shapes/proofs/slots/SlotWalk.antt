@@ -1,22 +1,20 @@
 -- One slot, and one turn of each pass over the slots. Assumes nothing.
+use Rattle.std.specs.Prelude.{Option, Some, None}
 use mathlib.Core.Path.{◌≡◌, refl, sym, ap, ap₂, subst, ◌∙◌}
 use mathlib.Core.Logic.{◌⊎◌, inl, inr, ◌≢◌}
 use mathlib.Core.Bool.{true, false}
 use mathlib.Core.List.{List, [], ◌∷◌, ◌++◌, append_assoc}
-use Prim.Native.Nat.{ℕ, zero, suc, ◌+◌, ◌-◌, ◌*◌, ◌/◌, ◌%◌, ◌≤◌, ◌<◌}
+use Prim.Native.Nat.{ℕ, zero, suc, ◌+◌, ◌-◌, ◌*◌, ◌/◌, ◌≤◌, ◌<◌}
 use native.Mathlib.Omega.{arith}
 use native.Mathlib.Numerals.{add-one}
 use lib.ListN.{length, get_or, set, take, drop, length-set, length-append, length-drop}
-use lib.Seq.{sets, length-sets, length-take-le, get_or-set_same, get_or-set_other, take_at, drop-drop, drop-append-add}
-use lib.Dec.{ltb}
+use lib.Seq.{sets, length-take-le, get_or-set_same, get_or-set_other, take_at, drop-drop, drop-append-add}
 use lib.Ieee.{Float, nan}
-use borrow.Author.Tests.{lt-ltb, le-ltb}
+use borrow.Author.Tests.{le-ltb}
 use Rattle.numbers.proofs.Truth.{below_or_not}
 use Rattle.trapezoid.specs.declared.Trapezoid.{Trapezoid}
 use Rattle.trapezoid.specs.Strip.{flat, capacity}
 use Rattle.strips.specs.declared.Rect.{Rect}
-use Rattle.strips.specs.declared.Stored.{Stored}
-use Rattle.strips.specs.declared.Stored.TheVariants.{Count, NoRoom}
 use Rattle.strips.specs.inner.Tables.{strips_laid, strips_stored}
 use Rattle.filling.specs.Shapes.{set_bounds, no_bounds}
 use Rattle.filling.specs.State.{bounds_at}
@@ -29,10 +27,6 @@ use Rattle.frames.specs.declared.Frame.{Frame}
 use Rattle.frames.specs.Frames.{framed}
 
 -- ---- a slot
-
-pub in_use_is : (rows : List ℕ) (kinds i : ℕ) → i / 16 < kinds → ltb (i % 16) (get_or rows (4 * (i / 16) + 3) 0) ≡ in_use rows kinds i
-unfolding in_use
-in_use_is rows kinds i h = rw (lt-ltb (i / 16) kinds h)
 
 pub not_in_use : (rows : List ℕ) (kinds i : ℕ) → kinds ≤ i / 16 → false ≡ in_use rows kinds i
 unfolding in_use
@@ -49,7 +43,7 @@ module _ (f : Frame) (bytes rows places : List ℕ) (kinds : ℕ) where
   strips_unused which i e = rw (e, slot_strips)
 
   pub nothing-laid : (which i : ℕ) (room : List Float) (from : ℕ) → in_use rows kinds i ≡ false → 6 * from ≤ length room → record
-      { answer = Count 0; room = room } ≡ strips_stored (slot_strips f bytes rows places kinds which i) room from
+      { answer = Some 0; room = room } ≡ strips_stored (slot_strips f bytes rows places kinds which i) room from
   nothing-laid which i room from e h = sym (nothing_stored room from h) ∙ ap (λ (l : List Trapezoid). strips_stored l room from) (sym (strips_unused which i e))
 
   pub bounds_used : (i : ℕ) → in_use rows kinds i ≡ true → set_bounds (framed f (set_at bytes (get_or places (2 * i + 1) 0))) ≡ slot_bounds f bytes rows places kinds
@@ -181,15 +175,15 @@ module _ (which : ℕ) (f : ℕ → List Trapezoid) (from : ℕ) (room₀ : List
       none i h = omega arith
 
   module _ (room : List Float) (parts : List ℕ) (i held : ℕ) (R : StripsTo which f from room₀ parts₀ room parts i held) where
-    counted : (room' : List Float) (n : ℕ) (r : Stored) → record { answer = r; room = room' } ≡ strips_stored (f i) room held → r ≡ Count n → (n ≡ length (f i))
+    counted : (room' : List Float) (n : ℕ) (r : Option ℕ) → record { answer = r; room = room' } ≡ strips_stored (f i) room held → r ≡ Some n → (n ≡ length (f i))
         × (6 * (held + n) ≤ length room)
     counted room' n r e d = stored-number (f i) room room' held r e n d
 
-    pub more_fits : (room' : List Float) (n : ℕ) (r : Stored) → record { answer = r; room = room' } ≡ strips_stored (f i) room held → r ≡ Count n → 6 *
+    pub more_fits : (room' : List Float) (n : ℕ) (r : Option ℕ) → record { answer = r; room = room' } ≡ strips_stored (f i) room held → r ≡ Some n → 6 *
         (held + n) ≤ length room₀
     more_fits room' n r e d = let c = counted room' n r e d in omega (arith, c.1, R.long)
 
-    room_on : (room' : List Float) (n : ℕ) (r : Stored) → record { answer = r; room = room' } ≡ strips_stored (f i) room held → r ≡ Count n → room' ≡ strips_laid
+    room_on : (room' : List Float) (n : ℕ) (r : Option ℕ) → record { answer = r; room = room' } ≡ strips_stored (f i) room held → r ≡ Some n → room' ≡ strips_laid
         (strips_to f (i + 1)) room₀ from
     room_on room' n r e d =
         stored-room (f i) room room' held r e n d
@@ -197,8 +191,8 @@ module _ (which : ℕ) (f : ℕ → List Trapezoid) (from : ℕ) (room₀ : List
         ∙ laid_on (strips_to f i) (f i) room₀ from (omega (arith, R.number, R.fits))
         ∙ ap (λ (l : List Trapezoid). strips_laid l room₀ from) (sym (strips-next f i))
 
-    pub strips_on : (room' : List Float) (n : ℕ) (r : Stored) → i < 1024 → 4096 ≤ length parts₀ → record { answer = r; room = room' } ≡ strips_stored (f i) room
-        held → r ≡ Count n
+    pub strips_on : (room' : List Float) (n : ℕ) (r : Option ℕ) → i < 1024 → 4096 ≤ length parts₀ → record { answer = r; room = room' } ≡ strips_stored (f i) room
+        held → r ≡ Some n
         → StripsTo which f from room₀ parts₀ room' (set (set parts (4 * i + 2 * which) (held - from)) (4 * i + 2 * which + 1) n) (i + 1) (held + n)
     strips_on room' n r a b e d =
         let c = counted room' n r e d in
@@ -213,7 +207,7 @@ module _ (which : ℕ) (f : ℕ → List Trapezoid) (from : ℕ) (room₀ : List
           column = column_on which f i parts₀ parts (held - from) n w (omega arith) R.column (omega (arith, R.number)) c.0;
         }
 
-    pub strips_over : (room' : List Float) (r : Stored) → i < 1024 → record { answer = r; room = room' } ≡ strips_stored (f i) room held → r ≡ NoRoom → capacity
+    pub strips_over : (room' : List Float) (r : Option ℕ) → i < 1024 → record { answer = r; room = room' } ≡ strips_stored (f i) room held → r ≡ None → capacity
         room₀ < from + length (strips_to f 1024)
     unfolding capacity
     strips_over room' r a e d =
@@ -224,7 +218,7 @@ module _ (which : ℕ) (f : ℕ → List Trapezoid) (from : ℕ) (room₀ : List
         (length_more f (i + 1) (1023 - i)) in
         omega (arith, b, m, k, R.number, R.long)
 
-    pub strips_all : 1024 ≤ i → SlotsLaid (Count (held - from)) which f 1024 from room₀ room parts₀ parts
+    pub strips_all : 1024 ≤ i → SlotsLaid (Some (held - from)) which f 1024 from room₀ room parts₀ parts
     strips_all a =
         let e : i ≡ 1024 = omega (arith, R.inside) in
         let n : held ≡ from + length (strips_to f 1024) = subst (λ (x : ℕ). held ≡ from + length (strips_to f x)) e R.number in (
@@ -265,9 +259,6 @@ module _ (t : List Float) (i : ℕ) (b : Rect) (l : 4 * i + 4 ≤ length t) wher
       let e2 : 4 * i + 2 ≡ suc (suc (4 * i)) = omega arith in
       let e3 : 4 * i + 3 ≡ suc (suc (suc (4 * i))) = omega arith in
       rw (e1, e2, e3)
-
-  pub stores_size : length after ≡ length t
-  stores_size = ap length after_is ∙ length-sets t (4 * i) four
 
   pub stores_other : (q : ℕ) → q ≢ i → bounds_at after q ≡ bounds_at t q
   stores_other q h = bounds-same t after q (λ r k. ap (λ (l : List Float). get_or l (4 * q + r) nan) after_is ∙ get_d_sets_other four t (4 * i) (4 * q + r) nan

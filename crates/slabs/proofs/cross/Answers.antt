@@ -7,6 +7,6 @@ pub returns-then-e : goal.returns-then-e
 unfolding crossing
 returns-then-e c = let a = c.args in let g = c.height_at-ya in let h = c.height_at-yb in cross_on a.xa a.xb a.e g.result h.result g.ensures h.ensures c.if-e.true
 
-pub returns : goal.returns
+pub returns-else-e : goal.returns-else-e
 unfolding crossing
-returns c = let a = c.args in let g = c.height_at-ya in let h = c.height_at-yb in cross_back a.xa a.xb a.e g.result h.result g.ensures h.ensures c.if-e.false
+returns-else-e c = let a = c.args in let g = c.height_at-ya in let h = c.height_at-yb in cross_back a.xa a.xb a.e g.result h.result g.ensures h.ensures c.if-e.false

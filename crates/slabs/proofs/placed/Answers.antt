@@ -1,13 +1,15 @@
 -- `slabs::placed` meets its contract. Assumes nothing.
-use mathlib.Core.Path.{sym, subst}
-use lib.Dec.{T}
+use mathlib.Core.Path.{◌≡◌, refl, sym}
+use mathlib.Core.Bool.{Bool, true, false, not}
 use Rattle.slabs.proofs.Forward.{placed_is}
+use Rattle.slabs.proofs.Places.{no_nan}
 use borrow.Author.Rules.{rules}
 use Rattle.slabs.proofs.placed.Goals as goal
 
-pub returns-then-s : goal.returns-then-s
-returns-then-s c = let a = c.args in
-    λ e. placed_is a.c (search rules) c.if-s.true e
+negative : (r : Bool) → not r ≡ true → r ≡ false
+negative true e = sym e
+negative false e = refl
 
-pub returns : goal.returns
-returns c = λ e. absurd (subst T (sym e) tt)
+pub returns-then-not-is_nan : goal.returns-then-not-is_nan
+returns-then-not-is_nan c = let a = c.args in let g = c.is_nan-then-not-is_nan in λ e.
+    placed_is a.c (no_nan _ c.is_nan.result (search rules) c.is_nan.ensures.value c.if-not-is_nan.true) (no_nan a.c.ya g.result (search rules) g.ensures.value (negative g.result e))

@@ -1,64 +1,57 @@
 -- `slabs::wind` meets its contract. Assumes nothing.
-use Prim.Native.Nat.{◌<◌}
-use lib.Ieee.{lt}
-use mathlib.Core.Path.{refl, ap, ◌∙◌}
+use Prim.Native.Nat.{◌-◌}
+use lib.Ieee.{Float, lt}
+use mathlib.Core.Path.{◌≡◌, refl, ap, sym, ◌∙◌}
+use mathlib.Core.Bool.{Bool, true, false, cond, ◌&&◌}
+use Rattle.std.proofs.Common.{true≢false}
 use native.Mathlib.Omega.{arith}
-use mathlib.Core.Bool.{Bool, ◌&&◌}
 use lib.IntN.{ℤ, pos, ◌-ℤ◌, +ℤ_invr}
 use Rattle.slabs.proofs.Walks.{wind_step, wind_last, turned-low, turned-high}
 use Rattle.slabs.specs.Slab.{walk}
 use Rattle.slabs.specs.inner.Tables.{hold, down, crossing_at, zero_bits}
-use borrow.Author.Rules.{rules}
+use Rattle.slabs.proofs.wind.Goals.{After-close-count, then-was, else-was, then-sheet, else-sheet}
 use Rattle.slabs.proofs.wind.Goals as goal
 
 pub loop-k-init : goal.loop-k-init
 loop-k-init c = let a = c.args in (
-  search rules,
-  search rules,
   omega arith,
-  refl,
-  ap
-      (λ (z : ℤ). hold (record { room = a.room.now; count = a.n }) (walk a.sheet a.top a.xa a.xb z a.bottom a.bottom
-      (down (crossing_at a.rows.now) a.m))) (+ℤ_invr (pos a.m)),
+  omega arith,
+  ap (λ (z : ℤ). hold (record { room = a.room.now; count = a.n }) (walk a.sheet a.top a.xa a.xb z a.bottom a.bottom (down (crossing_at a.rows.now) a.m))) (+ℤ_invr (pos a.m)),
 )
 
-pub turned-w-requires : goal.turned-w-requires
-turned-w-requires c = (omega arith, omega arith)
+is_second : (a b : Bool) → a ≡ true → b ≡ (a && b)
+is_second true b e = refl
+is_second false b e = absurd (true≢false (sym e))
+
+is_none : (a b : Bool) → a ≡ false → a ≡ (a && b)
+is_none true b e = absurd (true≢false e)
+is_none false b e = refl
+
+turn : (c : After-close-count) (la lb : Float) → la ≡ cond c.runs-was.result c.loop-k.la c.row_at-c.result.ya → lb ≡ cond c.runs-was.result c.loop-k.lb c.row_at-c.result.yb
+    → hold (record { room = c.close-count.new.room; count = c.close-count.result }) (walk c.args.sheet c.args.top c.args.xa c.args.xb (pos c.turned-w.result -ℤ pos c.args.m) la lb (down (crossing_at c.args.rows.now) (c.loop-k.k - 1)))
+    ≡ hold (record { room = c.loop-k.room; count = c.loop-k.count }) (walk c.args.sheet c.args.top c.args.xa c.args.xb (pos c.loop-k.w -ℤ pos c.args.m) c.loop-k.la c.loop-k.lb (down (crossing_at c.args.rows.now) c.loop-k.k))
+turn c la lb ea eb = let l = c.loop-k in let a = c.args in let r = c.row_at-c in
+    wind_step a.sheet a.top a.xa a.xb a.rows.now a.m l.k l.w c.turned-w.result (omega arith) (omega arith) l.la l.lb l.room c.close-count.new.room l.count c.close-count.result
+    r.result c.runs-was.result c.runs-is.result c.if-was.close c.strip-s.result la lb
+    r.ensures c.turned-w.ensures c.runs-was.ensures c.runs-is.ensures c.strip-s.ensures
+    (elim c.if-was.branch [ then-was w ↦ w.close-is ∙ is_second _ _ w.if-was.true | else-was w ↦ w.close-is ∙ is_none _ _ w.if-was.false ])
+    c.close-count.ensures ea eb
+
+pub loop-k-preserved-then-not-was : goal.loop-k-preserved-then-not-was
+loop-k-preserved-then-not-was c = let l = c.loop-k in let d = lt zero_bits c.row_at-c.result.d in let t = c.turned-w in (
+  turned-low d l.w t.result l.k c.args.m t.ensures (omega arith) l.invariant.0,
+  turned-high d l.w t.result l.k c.args.m t.ensures (omega arith) l.invariant.0 l.invariant.1,
+  turn (goal.at.loop-k-preserved-then-not-was c).After-close-count _ _ (rw c.if-not-was.true) (rw c.if-not-was.true) ∙ l.invariant.2,
+)
 
 pub loop-k-preserved : goal.loop-k-preserved
-loop-k-preserved c = let c1 = c in
-    let c6 = c1 in
-    let c7 = c6 in
-    let c8 = c7 in
-    let c9 = c8 in
-    let c10 = c9 in
-    let c11 = c10 in
-    let c12 = c11 in
-    let c13 = c12 in
-    let c16 = c13 in
-    let l = c13 in let a = c16.args in let g = c.close-count in let t = c9.turned-w in let r = c11.row_at-c in let p : 0 <
-    l.loop-k.k = c12.loop-k-test.true in (
-      omega arith,
-      turned-low (lt zero_bits r.result.d) l.loop-k.w t.result l.loop-k.k a.m t.ensures p l.loop-k.invariant.1,
-      turned-high (lt zero_bits r.result.d) l.loop-k.w t.result l.loop-k.k a.m t.ensures p l.loop-k.invariant.1 l.loop-k.invariant.2,
-      g.auto.room ∙ l.loop-k.invariant.3,
-      wind_step a.sheet a.top a.xa a.xb a.rows.now a.m l.loop-k.k l.loop-k.w t.result p (omega (arith, p, l.loop-k.invariant.1))
-          l.loop-k.la l.loop-k.lb l.loop-k.room g.new.room l.loop-k.count g.result
-          r.result c10.runs-was.result c8.runs-is.result c6.closes-closed.result c7.strip-s.result c1.pick-la.result c.pick-lb.result
-          r.ensures t.ensures c10.runs-was.ensures c8.runs-is.ensures c7.strip-s.ensures c6.closes-closed.ensures g.ensures c1.pick-la.ensures
-          c.pick-lb.ensures ∙ l.loop-k.invariant.4,
-    )
-
-pub shape_of-room : goal.shape_of-room
-shape_of-room c = let c8 = c in
-    c.close.auto.room ∙ c8.loop-k.invariant.3
+loop-k-preserved c = let l = c.loop-k in let d = lt zero_bits c.row_at-c.result.d in let t = c.turned-w in (
+  turned-low d l.w t.result l.k c.args.m t.ensures (omega arith) l.invariant.0,
+  turned-high d l.w t.result l.k c.args.m t.ensures (omega arith) l.invariant.0 l.invariant.1,
+  turn (goal.at.loop-k-preserved c).After-close-count _ _ (rw c.if-not-was.false) (rw c.if-not-was.false) ∙ l.invariant.2,
+)
 
 pub returns : goal.returns
-returns c = let c4 = c in
-    let c6 = c4 in
-    let c8 = c6 in
-    let c11 = c8 in
-    let l = c8 in let a = c11.args in let g = c.close in
-    g.ensures ∙ (wind_last a.sheet a.top a.xa a.xb (crossing_at a.rows.now) l.loop-k.k (omega arith) (pos l.loop-k.w -ℤ pos a.m)
-    l.loop-k.la l.loop-k.lb l.loop-k.room l.loop-k.count c4.both-last.result c6.strip-s-2.result c6.strip-s-2.ensures
-    (c4.both-last.ensures ∙ ap (λ (t : Bool). a.sheet && t) c.runs.ensures) ∙ l.loop-k.invariant.4)
+returns c = let l = c.loop-k in let a = c.args in let s = c.strip-s-2 in
+    c.close.ensures ∙ (wind_last a.sheet a.top a.xa a.xb (crossing_at a.rows.now) l.k (omega arith) (pos l.w -ℤ pos a.m) l.la l.lb l.room l.count c.if-sheet.close s.result s.ensures
+    (elim c.if-sheet.branch [ then-sheet w ↦ w.close-is ∙ (w.runs.ensures ∙ is_second _ _ w.if-sheet.true) | else-sheet w ↦ w.close-is ∙ is_none _ _ w.if-sheet.false ]) ∙ l.invariant.2)

@@ -1,5 +1,4 @@
 use Prim.Native.Nat.{◌+◌, ◌≤◌}
-use lib.ListN.{length}
 use mathlib.Core.Path.{◌≡◌}
 use lib.IntN.{pos, ◌-ℤ◌}
 use Rattle.slabs.specs.Slab.{walk}
@@ -7,9 +6,6 @@ use Rattle.slabs.specs.inner.Tables.{hold, down, crossing_at}
 use Rattle.slabs.proofs.wind.Given as goal
 
 abbrev pub invariant-loop-k : goal.invariant-loop-k
-invariant-loop-k l = (l.k ≤ l.m) × (l.k ≤ l.w) × (l.w + l.k ≤ l.m + l.m) × (length l.room ≡ length l.initial.room) × (hold (record { room = l.room; count = l.count })
+invariant-loop-k l = (l.k ≤ l.w) × (l.w + l.k ≤ l.m + l.m) × (hold (record { room = l.room; count = l.count })
     (walk l.sheet l.top l.xa l.xb (pos l.w -ℤ pos l.m) l.la l.lb (down (crossing_at l.rows) l.k)) ≡ hold (record { room = l.initial.room; count = l.n })
     (walk l.sheet l.top l.xa l.xb (pos 0) l.bottom l.bottom (down (crossing_at l.rows) l.m)))
-
-abbrev pub decreases-loop-k : goal.decreases-loop-k
-decreases-loop-k l = l.k

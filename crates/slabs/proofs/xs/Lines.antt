@@ -43,10 +43,6 @@ no e = subst T e tt
 pub led : (i : ℕ) (b : Bool) → 0 < i → b ≡ (ltb 0 i && b)
 led i b h = let e : ltb 0 i ≡ true = is_true (ltb 0 i) (lt→ltb 0 i h) in rw e
 
-pub led_none : (i : ℕ) (b : Bool) → i ≤ 0 → false ≡ (ltb 0 i && b)
-led_none zero b h = refl
-led_none (suc i) b h = absurd (omega arith)
-
 pub led_pos : (i : ℕ) (b r : Bool) → r ≡ (ltb 0 i && b) → r ≡ true → 0 < i
 led_pos zero b r e t = absurd (no (sym t ∙ e))
 led_pos (suc i) b r e t = omega arith

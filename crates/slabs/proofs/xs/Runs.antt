@@ -6,30 +6,23 @@ use borrow.Author.Tests.{ltb-true, ltb-false}
 use mathlib.Core.Path.{◌≡◌, refl, sym, ◌∙◌, subst}
 use mathlib.Core.Logic.{inl, inr}
 use mathlib.Core.List.{List, [], ◌++◌, append-nil, append_assoc}
-use mathlib.Core.Bool.{Bool, true, false, not}
+use mathlib.Core.Bool.{Bool, true, false}
 use lib.Dec.{T, ltb, lt→ltb}
 use lib.ListN.{get_or}
-use lib.Ieee.{Float, nan, lt, eq, fits, binary64}
+use lib.Ieee.{Float, nan, lt, fits, binary64, is_nan}
 use Rattle.numbers.proofs.Truth.{is_true}
 use Rattle.numbers.proofs.Keys.{key, lt_is, self_real}
 use Rattle.slabs.specs.Slab.{up, sort}
-use Rattle.slabs.specs.inner.Tables.{down, merge}
+use Rattle.slabs.specs.inner.Tables.{down, merge, Number}
+use Rattle.slabs.proofs.Places.{no_nan}
 use Rattle.slabs.proofs.Sorting.{down-zero}
 use Rattle.slabs.proofs.Merging.{All, Order, merge-sort, up_split, all_up, all_append}
 use Rattle.slabs.proofs.xs.Lines.{at}
-use Rattle.slabs.specs.xs.inner.Xs.{x_at, sides, Number}
+use Rattle.slabs.specs.xs.inner.Xs.{x_at, sides}
 
-pub equals_itself : (b r : Bool) → r ≡ not b → r ≡ false → b ≡ true
-equals_itself true r e t = refl
-equals_itself false r e t = sym (sym e ∙ t)
-
-pub number_at : (pts : List Float) (i : ℕ) (r : Bool) → T (fits binary64 (get_or pts (2 * i) nan)) → r ≡ not (eq (get_or pts (2 * i) nan) (get_or pts (2 * i) nan)) → r ≡ false → Number (x_at pts i)
-unfolding Number x_at
-number_at pts i r t e h = (t, equals_itself (eq (get_or pts (2 * i) nan) (get_or pts (2 * i) nan)) r e h)
-
-pub number_is : (x : Float) (r : Bool) → T (fits binary64 x) → r ≡ not (eq x x) → r ≡ false → Number x
-unfolding Number
-number_is x r t e h = (t, equals_itself (eq x x) r e h)
+pub number_at : (pts : List Float) (i : ℕ) (r : Bool) → T (fits binary64 (get_or pts (2 * i) nan)) → r ≡ is_nan (get_or pts (2 * i) nan) → r ≡ false → Number (x_at pts i)
+unfolding x_at
+number_at pts i r t e h = no_nan (get_or pts (2 * i) nan) r t e h
 
 compare : (a b : Float) → Number a → Number b → lt a b ≡ ltb (key binary64 a) (key binary64 b)
 unfolding Number

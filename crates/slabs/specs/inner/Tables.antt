@@ -1,5 +1,6 @@
 -- How the work tables lie; inner functions' contracts only. No sentence of document 01 stands here. Assumes nothing.
-use Rattle.std.specs.Prelude.{ℕ, zero, suc, ◌+◌, ◌*◌, ◌≡◌, Bool, true, false, not, cond, List, [], ◌∷◌, get_or, set, T, ltb, pos, negsuc, Float}
+use Rattle.std.specs.Prelude.{Option, Some, None, ℕ, zero, suc, ◌+◌, ◌*◌, ◌≤◌, ◌≡◌}
+use Rattle.std.specs.Prelude.{Bool, true, false, not, cond, List, [], ◌∷◌, get_or, set, T, ltb, pos, negsuc, Float}
 use Rattle.std.specs.Float.{nan, binary64}
 use Rattle.std.specs.Float.Ieee.{lt, eq, fits, of_bits}
 use Rattle.numbers.specs.Numbers.{◌⊕◌}
@@ -8,7 +9,7 @@ use Rattle.trapezoid.specs.Strip.{capacity}
 use Rattle.trapezoid.specs.inner.Writing.{set_strip}
 use Rattle.slabs.specs.declared.Edge.{Edge}
 use Rattle.slabs.specs.declared.Row.{Row}
-use Rattle.slabs.specs.Slab.{Crossing, before}
+use Rattle.slabs.specs.Slab.{Crossing, before, crossings}
 
 -- f (n - 1), .., f 0
 unfoldable pub down : {A : Type 0} → (ℕ → A) → ℕ → List A
@@ -55,6 +56,15 @@ crossing_at rs i = crossing_of (row_at rs i)
 -- b stays before a, which comes after it in edge order
 unfoldable pub behind : Crossing → Crossing → Bool
 behind b a = not (before a b)
+
+-- a test of rows, told by what its calls answer, is the order's
+unfoldable pub Orders : (Row → Row → Bool → Type 0) → (Crossing → Crossing → Bool) → Type 0
+Orders answers order = (b c : Row) (r : Bool) → answers b c r → r ≡ order (crossing_of b) (crossing_of c)
+
+-- the first n rows are the sorted crossings of at most count edges; or they were not gathered
+unfoldable pub GatheredIs : Option ℕ → List Float → ℕ → Float → Float → List Edge → Type 0
+GatheredIs None rs count xa xb es = Unit {0}
+GatheredIs (Some n) rs count xa xb es = (n ≤ count) × (down (crossing_at rs) n ≡ crossings xa xb es)
 
 -- a double that equals itself, so no NaN
 unfoldable pub Number : Float → Type 0

@@ -1,4 +1,5 @@
 -- A start with an order that is right, from what its calls leave. Assumes nothing.
+use Rattle.std.specs.Prelude.{Ok, Err}
 use mathlib.Core.Path.{◌≡◌, refl, sym, ap, ap₂, subst, ◌∙◌}
 use mathlib.Core.List.{List}
 use Prim.Native.Nat.{ℕ}
@@ -8,7 +9,6 @@ use Rattle.numbers.specs.Numbers.{pos_zero}
 use Rattle.job.specs.Jobs.{Job}
 use Rattle.filling.specs.declared.Refusal.{Refusal}
 use Rattle.filling.specs.declared.Tables.{Tables}
-use Rattle.filling.specs.declared.Verdict.TheVariants.{Accepted, Refused}
 use Rattle.filling.specs.Shapes.{Planner, planner_of}
 use Rattle.filling.specs.Rooms.{Lent, laid, zeros, zero_rooms, only_positions}
 use Rattle.filling.specs.Start.{tables_of, first_state, first_rooms, prepare_verdict, start_verdict, Start, no_start, good_start, start_job}
@@ -26,7 +26,7 @@ unfolding not_started no_start only_positions zero_rooms
 not_begun k l shapes sheet entries firsts C = record { verdict_is = refl; state_is = refl; shapes_are = C.shapes_zero; sheet_is = C.sheet_zero; entries_are = C.entries_zero; firsts_are = C.firsts_zero }
 
 module _ (j : Job) (order : List ℕ) (l : Lent) (r : Started) (shapes sheet : List Float) (entries firsts : List ℕ) where
-  pub begun_refused : (k : Refusal) → start_verdict j order l ≡ Refused k → r ≡ not_started k → Cleared l shapes sheet entries firsts → Begun r (start_job j order l) shapes sheet entries firsts
+  pub begun_refused : (k : Refusal) → start_verdict j order l ≡ Err k → r ≡ not_started k → Cleared l shapes sheet entries firsts → Begun r (start_job j order l) shapes sheet entries firsts
   begun_refused k e d C = subst (λ (x : Started). Begun x (start_job j order l) shapes sheet entries firsts) (sym d) (subst (λ (s : Start). Begun (not_started k) s shapes sheet entries firsts) (sym (start-refused j order l k e)) (not_begun k l shapes sheet entries firsts C))
 
 -- ---- prepared
@@ -47,7 +47,7 @@ module _ (j : Job) (order : List ℕ) (l : Lent) (shapes₀ sheet₀ : List Floa
   verdict_is = v ∙ sym (verdict_by_length (planner_of j) l shapes₀ sheet₀ entries₀ firsts₀ C) ∙ sym P.verdict_is
 
   pub not-ready : (k : Refusal) (r : Started) (shapes' sheet' : List Float) (entries' firsts' : List ℕ)
-      → p.verdict ≡ Refused k → r ≡ not_started k → length shapes ≡ length shapes₀ → length sheet ≡ length sheet₀ → length entries ≡ length entries₀
+      → p.verdict ≡ Err k → r ≡ not_started k → length shapes ≡ length shapes₀ → length sheet ≡ length sheet₀ → length entries ≡ length entries₀
       → length firsts ≡ length firsts₀ → shapes' ≡ zeros pos_zero shapes → sheet' ≡ zeros pos_zero sheet → entries' ≡ zeros 0 entries
       → firsts' ≡ zeros 0 firsts → Begun r (start_job j order l) shapes' sheet' entries' firsts'
   not-ready k r shapes' sheet' entries' firsts' e d a b c f x y z u =
@@ -59,7 +59,7 @@ module _ (j : Job) (order : List ℕ) (l : Lent) (shapes₀ sheet₀ : List Floa
         firsts_zero = u ∙ zeros-same 0 firsts l.rooms.sheet_firsts (f ∙ ap length C.firsts_zero ∙ length-zeros 0 l.rooms.sheet_firsts);
       })
 
-  module _ (e : p.verdict ≡ Accepted) (table : List ℕ) (o : table ≡ laid order (replicate 4096 0)) where
+  module _ (e : p.verdict ≡ (Ok tt)) (table : List ℕ) (o : table ≡ laid order (replicate 4096 0)) where
     begins : Begun (started_with p.tables table) (good_start (planner_of j) order l) shapes sheet entries firsts
     unfolding good_start first_state first_rooms started_with tables_of
     begins =

@@ -1,4 +1,5 @@
 -- The parts of a step, and the tables of the job that was read. Assumes nothing.
+use Rattle.std.specs.Prelude.{Err}
 use Prim.Native.Nat.{ℕ, ◌+◌, ◌*◌, ◌<◌, ◌≤◌}
 use mathlib.Core.Path.{◌≡◌, refl, sym, ap, subst, subst⁻¹, ◌∙◌}
 use mathlib.Core.Bool.{true}
@@ -15,7 +16,6 @@ use Rattle.job.specs.Jobs.{Job, Answer, accepted, refused, read_job}
 use Rattle.job.proofs.Accepted.{GoodJob, job_good}
 use Rattle.filling.specs.declared.State.{State}
 use Rattle.filling.specs.declared.Refusal.TheVariants as Why
-use Rattle.filling.specs.declared.Verdict.TheVariants as Verdicts
 use Rattle.filling.specs.Rooms.{Rooms, zeros}
 use Rattle.filling.specs.State.{orientation_counts, order_of}
 use Rattle.filling.specs.Consistent.{sheet_index, consistent}
@@ -28,9 +28,9 @@ use Rattle.step.specs.inner.Going.{Going, step_of}
 use Rattle.step.specs.step_job.inner.Opened.{Opened}
 
 -- ---- a refusal
-pub refuse_is : (why : Refusal) (s : State) (intervals zeroed : List Float) → zeroed ≡ zeros pos_zero intervals → (w : Rooms) → step_of (record { verdict = Verdicts.Refused why; state = s }) w zeroed ≡ no_step why s w intervals
+pub refuse_is : (why : Refusal) (s : State) (intervals zeroed : List Float) → zeroed ≡ zeros pos_zero intervals → (w : Rooms) → step_of (record { verdict = Err why; state = s }) w zeroed ≡ no_step why s w intervals
 unfolding no_step
-refuse_is why s intervals zeroed e w = ap (λ (l : List Float). step_of (record { verdict = Verdicts.Refused why; state = s }) w l) e
+refuse_is why s intervals zeroed e w = ap (λ (l : List Float). step_of (record { verdict = Err why; state = s }) w l) e
 
 -- ---- 31, then 23, then the copy
 used_up : (j : Job) (s : State) (w : Rooms) (intervals : List Float) → drop s.taken (order_of j s) ≡ [] → no_step Why.OrderUsedUp s w intervals ≡ core_step j s w intervals

@@ -1,13 +1,12 @@
 -- For inner functions' contracts only: what a step of an accepted job is given once refusals 31 and 23 are past, and what it answers.
 -- Definitions only. Assumes nothing.
-use Rattle.std.specs.Prelude.{ℕ, ◌+◌, ◌*◌, ◌<◌, ◌≤◌, ◌≡◌, true, List, set, take, Float}
+use Rattle.std.specs.Prelude.{Result, Ok, Err, ℕ, ◌+◌, ◌*◌, ◌<◌, ◌≤◌, ◌≡◌, true, List, set, take, Float}
+use Rattle.filling.specs.declared.Refusal.{Refusal}
 use Rattle.trapezoid.specs.Strip.{capacity}
 use Rattle.index.specs.inner.Listing.{Laid, FirstBuckets}
 use Rattle.job.specs.Jobs.{Job}
 use Rattle.job.proofs.Accepted.{GoodJob}
 use Rattle.filling.specs.declared.State.{State}
-use Rattle.filling.specs.declared.Verdict.{Verdict}
-use Rattle.filling.specs.declared.Verdict.TheVariants.{Accepted, Refused}
 use Rattle.filling.specs.Rooms.{Rooms}
 use Rattle.filling.specs.Consistent.{sheet_index, consistent}
 use Rattle.filling.specs.NextCopy.{Step}
@@ -68,6 +67,6 @@ taken_of n s r tracks =
     }
 
 -- the answer by its verdict
-abbrev pub answer_of : State → Place.Step → List ℕ → Verdict → Stepped
-answer_of s r tracks Accepted = record { verdict = Accepted; state = taken_of (s.taken + 1) s r tracks }
-answer_of s r tracks (Refused k) = record { verdict = Refused k; state = s }
+abbrev pub answer_of : State → Place.Step → List ℕ → Result (Unit {0}) Refusal → Stepped
+answer_of s r tracks (Ok tt) = record { verdict = Ok tt; state = taken_of (s.taken + 1) s r tracks }
+answer_of s r tracks (Err k) = record { verdict = Err k; state = s }

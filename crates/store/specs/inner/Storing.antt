@@ -1,19 +1,17 @@
 -- For inner functions' contracts only: storing a copy in the code's order, and what it leaves. Definitions only. Assumes nothing.
-use Rattle.std.specs.Prelude.{ℕ, zero, suc, ◌+◌, ◌-◌, ◌*◌, ◌≡◌, true, false, List, ◌++◌, length, take, ltb, leb, Float}
+use Rattle.std.specs.Prelude.{Option, Some, None, Result, Ok, Err, ℕ, zero, suc, ◌+◌, ◌-◌, ◌*◌, ◌≡◌, true, false, List, ◌++◌, length, take, ltb, leb, Float}
 use Rattle.numbers.specs.Numbers.{◌⊕◌}
 use Rattle.trapezoid.specs.declared.Trapezoid.{Trapezoid}
 use Rattle.trapezoid.specs.Strip.{strip_at, capacity, moved_by}
 use Rattle.trapezoid.specs.inner.Writing.{set_strip}
 use Rattle.index.specs.declared.Index.{Index}
+use Rattle.index.specs.declared.Overrun.{Overrun}
+use Rattle.index.specs.declared.Overrun.TheVariants.{StripRoom, EntryRoom}
 use Rattle.index.specs.Buckets.{bucket_in, entries_of, firsts_of, standing_capacity}
 use Rattle.index.specs.inner.Listing.{Laid, FirstBuckets}
 use Rattle.enter.specs.inner.EntryRoom.{starts_of}
 use Rattle.filling.specs.Shapes.{moved_strips}
 use Rattle.filling.specs.Rooms.{laid}
-use Rattle.store.specs.declared.Rest.{Rest}
-use Rattle.store.specs.declared.Rest.TheVariants.{Enough, Short}
-use Rattle.store.specs.declared.Stored.{Stored}
-use Rattle.store.specs.declared.Stored.TheVariants.{NoStrips, NoEntries, Done}
 
 -- the room with the first j apart strips, moved, from number n on
 unfoldable pub moved_to : List Float → Float → Float → ℕ → List Float → ℕ → List Float
@@ -30,8 +28,12 @@ widths_to ix apart x zero = 0
 widths_to ix apart x (suc j) = widths_to ix apart x j + width_at ix (strip_at apart j) x
 
 -- what is left of a room for so many entries
-unfoldable pub rest_of : ℕ → ℕ → Rest
-rest_of room n = elim (leb n room) [ true ↦ Enough (room - n) | false ↦ Short ]
+unfoldable pub rest_of : ℕ → ℕ → Option ℕ
+rest_of room n = elim (leb n room) [ true ↦ Some (room - n) | false ↦ None ]
+
+-- that a copy is stored, or the room that it would overrun
+abbrev pub Stored : Type 0
+Stored = Result (Unit {0}) Overrun
 
 pub record Left : Type 0 where
   pub answer : Stored
@@ -51,19 +53,18 @@ unfoldable pub store_of : Index → List Float → Float → Float → ℕ → L
 store_of ix apart x y n placed entries starts firsts =
     let strips = together apart x y n placed in
     elim (ltb (standing_capacity placed firsts) (capacity strips)) [
-      | true ↦ left NoStrips placed entries starts
+      | true ↦ left (Err StripRoom) placed entries starts
       | false ↦
           elim (ltb (length entries) (length (entries_of ix strips (capacity strips)))) [
-            | true ↦ left NoEntries placed entries starts
-            | false ↦ left Done (laid strips placed) (laid (entries_of ix strips (capacity strips)) entries) (starts_of ix strips (capacity strips))
+            | true ↦ left (Err EntryRoom) placed entries starts
+            | false ↦ left (Ok tt) (laid strips placed) (laid (entries_of ix strips (capacity strips)) entries) (starts_of ix strips (capacity strips))
           ]
     ]
 
 -- after it the entries are those of the strips that stand
 abbrev pub Entered : Index → ℕ → ℕ → List Float → List ℕ → List ℕ → Stored → Type 0
-Entered ix n k placed entries starts NoStrips = Laid ix placed n entries starts
-Entered ix n k placed entries starts NoEntries = Laid ix placed n entries starts
-Entered ix n k placed entries starts Done = Laid ix placed (n + k) entries starts
+Entered ix n k placed entries starts (Err r) = Laid ix placed n entries starts
+Entered ix n k placed entries starts (Ok tt) = Laid ix placed (n + k) entries starts
 
 -- the first n numbers are the strips' first buckets, the rest is as it was
 pub record FirstsLaid (ix : Index) (standing : List Float) (n : ℕ) (before after : List ℕ) : Type 0 where
@@ -72,6 +73,5 @@ pub record FirstsLaid (ix : Index) (standing : List Float) (n : ℕ) (before aft
 
 -- after it the numbers are those of the strips that stand
 abbrev pub FirstsEntered : Index → ℕ → ℕ → List Float → List ℕ → List ℕ → Stored → Type 0
-FirstsEntered ix n k placed before after NoStrips = FirstsLaid ix placed n before after
-FirstsEntered ix n k placed before after NoEntries = FirstsLaid ix placed n before after
-FirstsEntered ix n k placed before after Done = FirstsLaid ix placed (n + k) before after
+FirstsEntered ix n k placed before after (Err r) = FirstsLaid ix placed n before after
+FirstsEntered ix n k placed before after (Ok tt) = FirstsLaid ix placed (n + k) before after

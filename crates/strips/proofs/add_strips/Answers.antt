@@ -7,12 +7,7 @@ use Rattle.strips.proofs.SlabWalk.{strips-held}
 use Rattle.strips.proofs.add_strips.Goals as goal
 
 pub returns : goal.returns
-returns c = let c11 = c in
-    let c15 = c11 in
-    let c21 = c15 in
-    let c24 = c21 in
-    let c31 = c24 in
-    let a = c31.args in let b = c24.bounds-b in let x = c21.sort_xs-m in let g = c15.edges in let d = c11.drop_vertical-count in
+returns c = let a = c.args in let b = c.bounds-b in let x = c.sort_xs-m in let g = c.edges in let d = c.drop_vertical-count in
     c.slabs.ensures ∙ ap (λ (l : List Trapezoid). hold (record { room = a.room.now; count = a.from }) l)
     (strips-held a.points.now a.n x.result d.result a.ends.now a.sheet g.new.es d.new.es x.new.line
     b.result b.ensures x.ensures.2 g.ensures d.ensures.1)

@@ -1,10 +1,7 @@
-use Prim.Native.Nat.{◌≤◌, ◌-◌}
+use Prim.Native.Nat.{◌-◌}
 use mathlib.Core.Path.{◌≡◌}
 use Rattle.strips.specs.Strips.{bounds_on, bounds}
 use Rattle.strips.proofs.bounds.Given as goal
 
 abbrev pub invariant-loop-i : goal.invariant-loop-i
-invariant-loop-i l = (l.i ≤ l.n) × (bounds_on l.points l.b l.i (l.n - l.i) ≡ bounds l.points l.n)
-
-abbrev pub decreases-loop-i : goal.decreases-loop-i
-decreases-loop-i l = l.n - l.i
+invariant-loop-i l = bounds_on l.points l.b l.i (l.n - l.i) ≡ bounds l.points l.n

@@ -1,5 +1,4 @@
-use Prim.Native.Nat.{ℕ, ◌≤◌, ◌-◌}
-use lib.ListN.{length}
+use Prim.Native.Nat.{ℕ, ◌≤◌}
 use mathlib.Core.Path.{◌≡◌}
 use Rattle.slabs.specs.Slab.{up}
 use Rattle.slabs.specs.inner.Tables.{edge_at}
@@ -7,7 +6,4 @@ use Rattle.strips.specs.inner.Tables.{slanted}
 use Rattle.strips.proofs.drop_vertical.Given as goal
 
 abbrev pub invariant-loop-i : goal.invariant-loop-i
-invariant-loop-i l = (l.i ≤ l.n) × (l.m ≤ l.i) × (length l.es ≡ length l.initial.es) × ((q : ℕ) → l.i ≤ q → edge_at l.es q ≡ edge_at l.initial.es q) × (up (edge_at l.es) 0 l.m ≡ slanted (up (edge_at l.initial.es) 0 l.i))
-
-abbrev pub decreases-loop-i : goal.decreases-loop-i
-decreases-loop-i l = l.n - l.i
+invariant-loop-i l = (l.m ≤ l.i) × ((q : ℕ) → l.i ≤ q → edge_at l.es q ≡ edge_at l.initial.es q) × (up (edge_at l.es) 0 l.m ≡ slanted (up (edge_at l.initial.es) 0 l.i))

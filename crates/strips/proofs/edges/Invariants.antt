@@ -1,5 +1,4 @@
-use Prim.Native.Nat.{◌≤◌, ◌-◌}
-use lib.ListN.{length, drop}
+use lib.ListN.{drop}
 use mathlib.Core.Path.{◌≡◌}
 use mathlib.Core.List.{◌++◌}
 use Rattle.slabs.specs.Slab.{up}
@@ -8,8 +7,5 @@ use Rattle.strips.specs.Strips.{edges}
 use Rattle.strips.specs.inner.Tables.{Loops}
 use Rattle.strips.proofs.edges.Given as goal
 
-abbrev pub invariant-loop-i : goal.invariant-loop-i
-invariant-loop-i l = (l.i ≤ length l.ends) × (length l.es ≡ length l.initial.es) × Loops l.first (drop l.i l.ends) l.n × (up (edge_at l.es) 0 l.first ++ edges l.points l.first (drop l.i l.ends) ≡ edges l.points 0 l.ends)
-
-abbrev pub decreases-loop-i : goal.decreases-loop-i
-decreases-loop-i l = length l.ends - l.i
+abbrev pub invariant-loop-e : goal.invariant-loop-e
+invariant-loop-e l = Loops l.first (drop l.e-index l.ends) l.n × (up (edge_at l.es) 0 l.first ++ edges l.points l.first (drop l.e-index l.ends) ≡ edges l.points 0 l.ends)

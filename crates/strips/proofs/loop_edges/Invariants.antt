@@ -1,5 +1,4 @@
-use Prim.Native.Nat.{◌≤◌, ◌-◌}
-use lib.ListN.{length}
+use Prim.Native.Nat.{◌-◌}
 use mathlib.Core.Path.{◌≡◌}
 use mathlib.Core.List.{◌++◌}
 use Rattle.slabs.specs.Slab.{up}
@@ -8,7 +7,4 @@ use Rattle.strips.specs.Strips.{loop_edges}
 use Rattle.strips.proofs.loop_edges.Given as goal
 
 abbrev pub invariant-loop-i : goal.invariant-loop-i
-invariant-loop-i l = (l.i ≤ l.end) × (l.first ≤ l.i) × (length l.es ≡ length l.initial.es) × (up (edge_at l.es) 0 l.i ++ loop_edges l.points l.first l.i (l.end - l.i) ≡ up (edge_at l.initial.es) 0 l.first ++ loop_edges l.points l.first l.first (l.end - l.first))
-
-abbrev pub decreases-loop-i : goal.decreases-loop-i
-decreases-loop-i l = l.end - l.i
+invariant-loop-i l = up (edge_at l.es) 0 l.i ++ loop_edges l.points l.first l.i (l.end - l.i) ≡ up (edge_at l.initial.es) 0 l.first ++ loop_edges l.points l.first l.first (l.end - l.first)

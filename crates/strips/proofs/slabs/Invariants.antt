@@ -1,5 +1,3 @@
-use Prim.Native.Nat.{◌<◌}
-use lib.ListN.{length}
 use mathlib.Core.Path.{◌≡◌}
 use Rattle.slabs.specs.Slab.{up}
 use Rattle.slabs.specs.inner.Tables.{down, edge_at, hold}
@@ -9,7 +7,4 @@ use Rattle.strips.proofs.SlabWalk.{to_come_lem}
 use Rattle.strips.proofs.slabs.Given as goal
 
 abbrev pub invariant-loop-k : goal.invariant-loop-k
-invariant-loop-k l = (l.k < l.m) × (length l.rows ≡ length l.initial.rows) × (length l.room ≡ length l.initial.room) × (to_come_lem (up (edge_at l.es) 0 l.count) l.sheet l.bottom l.top (record { room = l.room; count = l.held }) (at l.line) l.xa l.k ≡ hold (record { room = l.initial.room; count = l.from }) (slabs (up (edge_at l.es) 0 l.count) l.sheet l.bottom l.top (distinct (down (at l.line) l.m))))
-
-abbrev pub decreases-loop-k : goal.decreases-loop-k
-decreases-loop-k l = l.k
+invariant-loop-k l = to_come_lem (up (edge_at l.es) 0 l.count) l.sheet l.bottom l.top (record { room = l.room; count = l.held }) (at l.line) l.xa l.k ≡ hold (record { room = l.initial.room; count = l.from }) (slabs (up (edge_at l.es) 0 l.count) l.sheet l.bottom l.top (distinct (down (at l.line) l.m)))

@@ -4,20 +4,14 @@ use Rattle.strips.proofs.Laying.{from-count, stored_yes, stored_no}
 use Rattle.strips.proofs.trapezoids.Goals as goal
 
 pub returns-then-capacity-count : goal.returns-then-capacity-count
-returns-then-capacity-count c = let c1 = c in
-    let c11 = c1 in
-    let c22 = c11 in
-    let a = c22.args in let g = c11.add_strips-count in
+returns-then-capacity-count c = let a = c.args in let g = c.add_strips-count in
     stored_no (trapezoids a.points.now a.n a.ends.now a.sheet) a.room.now g.new.room a.from g.result
-    c22.requires.6 g.ensures c1.capacity.result c1.capacity.ensures g.auto.room c.if-capacity-count.true
+    c.requires.6 g.ensures c.capacity.result c.capacity.ensures g.auto.room c.if-capacity-count.true
 
 pub returns-else-capacity-count : goal.returns-else-capacity-count
-returns-else-capacity-count c = let c1 = c in
-    let c11 = c1 in
-    let c22 = c11 in
-    let a = c22.args in let g = c11.add_strips-count in
+returns-else-capacity-count c = let a = c.args in let g = c.add_strips-count in
     stored_yes (trapezoids a.points.now a.n a.ends.now a.sheet) a.room.now g.new.room a.from g.result
-    c22.requires.6 g.ensures c1.capacity.result c1.capacity.ensures g.auto.room c.if-capacity-count.false
+    c.requires.6 g.ensures c.capacity.result c.capacity.ensures g.auto.room c.if-capacity-count.false
 
 pub overflow_sub-result : goal.overflow_sub-result
 overflow_sub-result c = let a = c.args in let g = c.add_strips-count in

@@ -1,11 +1,9 @@
 -- Inner functions' contracts only: how the work tables lie, and strips strips_stored in a room from strip number `from` on. Definitions only. Assumes nothing.
-use Rattle.std.specs.Prelude.{ℕ, ◌+◌, ◌-◌, ◌*◌, ◌≤◌, true, false, not, cond, List, [], ◌∷◌, ◌++◌, ◌≡◌, Float, length, take, drop, ltb}
+use Rattle.std.specs.Prelude.{Option, Some, None, ℕ, ◌+◌, ◌-◌, ◌*◌, ◌≤◌, true, false, not, cond, List, [], ◌∷◌, ◌++◌, ◌≡◌, Float, length, take, drop, ltb}
 use Rattle.std.specs.Float.Ieee.{eq}
 use Rattle.slabs.specs.declared.Edge.{Edge}
 use Rattle.trapezoid.specs.declared.Trapezoid.{Trapezoid}
 use Rattle.trapezoid.specs.Strip.{flat, capacity}
-use Rattle.strips.specs.declared.Stored.{Stored}
-use Rattle.strips.specs.declared.Stored.TheVariants.{Count, NoRoom}
 
 -- the edges that are not vertical
 unfoldable pub slanted : List Edge → List Edge
@@ -18,7 +16,7 @@ Loops first [] n = first ≡ n
 Loops first (e ∷ es) n = (first ≤ e) × (e ≤ n) × Loops e es n
 
 pub record Stowed : Type 0 where
-  pub answer : Stored
+  pub answer : Option ℕ
   pub room : List Float
 
 -- the room with the strips ss from number `from` on; what stood before and after them stays
@@ -28,6 +26,6 @@ strips_laid ss room from = take (6 * from) room ++ (flat ss ++ drop (6 * (from +
 -- "20: strips to be strips_stored exceed the lent strip room"; then those that fit are strips_laid
 unfoldable pub strips_stored : List Trapezoid → List Float → ℕ → Stowed
 strips_stored ss room from = record {
-  answer = cond (ltb (capacity room) (from + length ss)) NoRoom (Count (length ss));
+  answer = cond (ltb (capacity room) (from + length ss)) None (Some (length ss));
   room = strips_laid (take (capacity room - from) ss) room from;
 }

@@ -11,19 +11,16 @@ pub loop-i-init : goal.loop-i-init
 loop-i-init c = (omega arith, refl, refl)
 
 pub loop-i-preserved : goal.loop-i-preserved
-loop-i-preserved c = let c2 = c in
-    let c3 = c2 in (
-      omega arith,
-      ends-stored c2.loop-i.long c3.args.ends.now c2.loop-i.i (omega (arith, c2.loop-i.invariant.2, c3.requires)) (omega arith) c2.loop-i.invariant.1,
-      length-set c2.loop-i.long c2.loop-i.i (get_or c3.args.ends.now c2.loop-i.i 0) ∙ c2.loop-i.invariant.2,
-    )
+loop-i-preserved c = rw c.from.ensures (
+  omega arith,
+  ends-stored c.loop-i.long c.args.ends.now c.loop-i.i (omega (arith, c.loop-i.invariant.2, c.requires)) (omega arith) c.loop-i.invariant.1,
+  length-set c.loop-i.long c.loop-i.i (get_or c.args.ends.now c.loop-i.i 0) ∙ c.loop-i.invariant.2,
+)
 
 pub shape_of-long : goal.shape_of-long
 shape_of-long c = c.loop-i.invariant.2
 
 pub returns : goal.returns
-returns c = let c1 = c in
-    let c2 = c1 in
-    let e : c1.loop-i.i ≡ length c2.args.ends.now = omega arith in
-    subst (λ (k : ℕ). take k c1.loop-i.long ≡ take k c2.args.ends.now) e c1.loop-i.invariant.1 ∙ take_all (length c2.args.ends.now)
-    c2.args.ends.now (omega arith)
+returns c = let e : c.loop-i.i ≡ length c.args.ends.now = omega arith in
+    subst (λ (k : ℕ). take k c.loop-i.long ≡ take k c.args.ends.now) e c.loop-i.invariant.1 ∙ take_all (length c.args.ends.now)
+    c.args.ends.now (omega arith)

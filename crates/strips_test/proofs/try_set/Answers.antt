@@ -3,14 +3,12 @@ use native.Mathlib.Omega.{arith}
 use Rattle.strips_test.proofs.try_set.Goals as goal
 
 pub frame_points-requires : goal.frame_points-requires
-frame_points-requires c = let c6 = c in
-    (c6.requires.1, c6.requires.2, c.loops_lie.ensures c.if-loops_lie.true)
+frame_points-requires c = (c.requires.1, c.requires.2, c.loops_lie.ensures c.if-loops_lie.true)
 
 pub replay-requires : goal.replay-requires
-replay-requires c = let c7 = c in
-    let c10 = c7 in (
-      c7.if-n-gt0.true,
-      c10.requires.0,
-      omega (arith, c10.requires.1, c.frame_points.auto.points),
-      c.loops_lie.ensures c.if-loops_lie.true,
-    )
+replay-requires c = (
+  c.if-n-gt0.true,
+  c.requires.0,
+  omega (arith, c.requires.1, c.frame_points.auto.points),
+  c.loops_lie.ensures c.if-loops_lie.true,
+)

@@ -11,11 +11,7 @@ use Rattle.filling.specs.Fill.{Filling, filled, stopped, fill_order, planned_by}
 use Rattle.nesting.specs.CopyOrder.{copy_order}
 use Rattle.nesting.specs.Rounds.{Swaps, rounds, first_kept, swap_search}
 use Rattle.nesting.specs.Nest.{nested}
-use Rattle.swaps.specs.inner.Turns.{rounds_for}
-
--- what is kept of so many rounds from the first filling on
-abbrev pub searched : Job → Lent → List ℕ → ℕ → Swaps
-searched j l order n = rounds j l (rounds_for (length order) n) (first_kept j order (fill_order j l order))
+use Rattle.swaps.specs.inner.Turns.{rounds_for, searched}
 
 first_planned : (j : Job) (l : Lent) (order : List ℕ) (f : Filling) → nested j l (first_kept j order f) ≡ planned_by j l f
 unfolding nested first_kept planned_by

@@ -3,18 +3,19 @@ use Prim.Native.Nat.{ℕ, ◌+◌, ◌-◌, ◌*◌, ◌≤◌, ◌<◌}
 use native.Mathlib.Omega.{arith}
 use mathlib.Core.Path.{◌≡◌, refl, ap, ap₂, ◌∙◌}
 use mathlib.Core.List.{List}
-use lib.ListN.{take, drop}
+use lib.ListN.{length, take, drop}
 use lib.Ieee.{Float}
 use Rattle.job.specs.Jobs.{Job}
-use Rattle.filling.specs.declared.Verdict.{Verdict}
-use Rattle.filling.specs.declared.Verdict.TheVariants.{Accepted, Refused}
 use Rattle.filling.specs.Shapes.{Planner}
 use Rattle.filling.specs.Rooms.{Lent}
+use Rattle.filling.specs.Fill.{planned_with}
+use Rattle.filling_laws.specs.fill_laws.inner.Prepared.{state_by}
+use Rattle.nesting.specs.Rounds.{kept}
 use Rattle.nesting.specs.Nest.{nested}
 use Rattle.rooms.specs.tracks.inner.Tracks.{field, next_columns, look_counts_from, orientations, xs, ys, gaps, spot_numbers}
-use Rattle.report.specs.inner.Replies.{Reply, reply_of, reported}
+use Rattle.report.specs.inner.Replies.{Reply, reply_of}
 use Rattle.better.specs.declared.Best.{Best}
-use Rattle.better.specs.inner.Keeping.{half, swaps_by, swaps_in, kept_tracks, kept_spots}
+use Rattle.better.specs.inner.Keeping.{half, kept_by, kept_in, kept_tracks, kept_spots}
 
 -- the part of a table that is lent is its half
 pub half-part : {A : Type 0} (w h : ℕ) (table : List A) → take (w * h + w - w * h) (drop (w * h) table) ≡ half w h table
@@ -25,20 +26,20 @@ half-part w h table = let e : w * h + w - w * h ≡ w = cancel (w * h) w in ap (
     cancel a b = omega arith
 
 -- the plan of what is kept
-nested_is : (v : Verdict) (b : Best) (j : Job) (l : Lent) (p : Planner) (order next looks orientation : List ℕ) (x y gap : List Float)
-    → reported v j l p order next looks b.totals orientation x y gap b.improvements ≡ nested j l (swaps_by v b p order next looks orientation x y gap)
+nested_is : (b : Best) (j : Job) (l : Lent) (p : Planner) (order next looks orientation : List ℕ) (x y gap : List Float)
+    → planned_with j l (state_by p order (length order) next looks b.totals orientation x y gap) b.improvements
+    ≡ nested j l (kept (kept_by b p order next looks orientation x y gap))
 unfolding nested
-nested_is Accepted b j l p order next looks orientation x y gap = refl
-nested_is (Refused k) b j l p order next looks orientation x y gap = refl
+nested_is b j l p order next looks orientation x y gap = refl
 
-module _ (v : Verdict) (b : Best) (j : Job) (l : Lent) (p : Planner) (order tracks : List ℕ) (spots : List Float) where
+module _ (b : Best) (j : Job) (l : Lent) (p : Planner) (order tracks : List ℕ) (spots : List Float) where
   abbrev Report : List ℕ → List ℕ → List Float → List Float → List Float → Reply
   Report looks orientation x y gap =
-      reply_of (reported v j l p order (next_columns (kept_tracks b tracks)) looks b.totals orientation x y gap b.improvements)
+      reply_of (planned_with j l (state_by p order (length order) (next_columns (kept_tracks b tracks)) looks b.totals orientation x y gap) b.improvements)
 
   pub kept-reply : (looks orientation : List ℕ) (x y gap : List Float) → looks ≡ look_counts_from (kept_tracks b tracks)
       → orientation ≡ orientations (kept_tracks b tracks) → x ≡ xs (kept_spots b spots) → y ≡ ys (kept_spots b spots) → gap ≡ gaps (kept_spots b spots)
-      → (r : Reply) → r ≡ Report looks orientation x y gap → r ≡ reply_of (nested j l (swaps_in v b p order tracks spots))
+      → (r : Reply) → r ≡ Report looks orientation x y gap → r ≡ reply_of (nested j l (kept (kept_in b p order tracks spots)))
   kept-reply looks orientation x y gap el eo ex ey eg r e =
       let u = look_counts_from (kept_tracks b tracks) in
       let o = orientations (kept_tracks b tracks) in
@@ -49,7 +50,7 @@ module _ (v : Verdict) (b : Best) (j : Job) (l : Lent) (p : Planner) (order trac
       ∙ (ap (λ (z : List Float). Report u o z y gap) ex
       ∙ (ap (λ (z : List Float). Report u o (xs w) z gap) ey
       ∙ (ap (λ (z : List Float). Report u o (xs w) (ys w) z) eg
-      ∙ ap reply_of (nested_is v b j l p order (next_columns (kept_tracks b tracks)) u o (xs w) (ys w) (gaps w)))))))
+      ∙ ap reply_of (nested_is b j l p order (next_columns (kept_tracks b tracks)) u o (xs w) (ys w) (gaps w)))))))
 
 -- ---- what the reads require and give
 pub look_reads : (n w : ℕ) → n ≡ 1024 → w ≡ 6144 → (2 ≤ 4) × (n ≤ 4096) × (1 ≤ 4096) × ((i : ℕ) → i < n → 2 * i + 1 < w)

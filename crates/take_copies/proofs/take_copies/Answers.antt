@@ -10,70 +10,44 @@ pub loop-took-init : goal.loop-took-init
 loop-took-init c = run_first _ _ _ refl
 
 pub overflow_add-at : goal.overflow_add-at
-overflow_add-at c = let c16 = c in
-    let c23 = c16 in
-    let p = c23.requires.0 in
+overflow_add-at c = let p = c.requires.0 in
     let B = p.3 in
     let R = c.loop-took.invariant in record { fits = omega (arith, B.left, B.few, R.within, c.loop-took-test.true) }
 
 pub copy_at-requires : goal.copy_at-requires
-copy_at-requires c = let c16 = c in
-    let c23 = c16 in
-    let p = c23.requires.0 in
+copy_at-requires c = let p = c.requires.0 in
     let B = p.3 in
     let G = c.loop-took.invariant.going p.0 p.1 p.2 B p.4 c.loop-took-test.true in
     (omega (arith, taken-few G, B.long), kind_few G, B.tabled.rows_long, B.tabled.areas_long)
 
 pub take_next-last-requires : goal.take_next-last-requires
-take_next-last-requires c = let c11 = c in
-    let c12 = c11 in
-    let c13 = c12 in
-    let c29 = c13 in
-    let c35 = c29 in
-    let a = c35.args in
-    let p = c35.requires in
+take_next-last-requires c = let a = c.args in
+    let p = c.requires in
     let q = p.0 in
     let B = q.3 in
-    let R = c13.loop-took.invariant in
-    let G = R.going q.0 q.1 q.2 B q.4 c12.loop-took-test.true in (
-      (q.0, q.1, a.order.now, a.rows.now, a.areas.now, q.2, B.tabling, G, c11.copy_at.ensures),
+    let R = c.loop-took.invariant in
+    let G = R.going q.0 q.1 q.2 B q.4 c.loop-took-test.true in (
+      (q.0, q.1, a.order.now, a.rows.now, a.areas.now, q.2, B.tabling, G, c.copy_at.ensures),
       sizes_on _ _ R.alike p.1,
       omega (arith, p.2, R.alike.tracks),
       R.alike.gains ∙ p.3,
     )
 
 pub took_after-took-requires : goal.took_after-took-requires
-took_after-took-requires c = let c16 = c in
-    let c32 = c16 in
-    let c35 = c32 in
-    let c36 = c35 in
-    let c52 = c36 in
-    let c58 = c52 in
-    let B = c58.requires.0.3 in omega (arith, B.left, B.few, c36.loop-took.invariant.within, c35.loop-took-test.true)
+took_after-took-requires c = let B = c.requires.0.3 in omega (arith, B.left, B.few, c.loop-took.invariant.within, c.loop-took-test.true)
 
 pub loop-took-smaller : goal.loop-took-smaller
-loop-took-smaller c = let c16 = c in
-    let c24 = c16 in
-    let c37 = c24 in
-    let c38 = c37 in
-    less_after c38.loop-took.took c38.loop-took.end _ c37.loop-took-test.true c38.loop-took.invariant.within c24.take_next-last.result.verdict
-    c24.take_next-last.result.fits _ _
+loop-took-smaller c = less_after c.loop-took.took c.loop-took.end _ c.loop-took-test.true c.loop-took.invariant.within c.take_next-last.result.verdict
+    c.take_next-last.result.fits _ _
     c.took_after-took.ensures c.end_after-end.ensures
 
 pub loop-took-preserved : goal.loop-took-preserved
-loop-took-preserved c = let c16 = c in
-    let c24 = c16 in
-    let c36 = c24 in
-    let c37 = c36 in
-    let c38 = c37 in
-    let c54 = c38 in
-    let c60 = c54 in
-    let p = c60.requires in
-    let s = c24.take_next-last in
-    let R = c38.loop-took.invariant in
+loop-took-preserved c = let p = c.requires in
+    let s = c.take_next-last in
+    let R = c.loop-took.invariant in
     let k = s.auto in
-    run_next _ _ _ _ _ s.result c38.loop-took.took c38.loop-took.end R c37.loop-took-test.true (sizes_on _ _ R.alike p.1) c36.copy_at.result
-    c36.copy_at.ensures
+    run_next _ _ _ _ _ s.result c.loop-took.took c.loop-took.end R c.loop-took-test.true (sizes_on _ _ R.alike p.1) c.copy_at.result
+    c.copy_at.ensures
     s.ensures.0 s.ensures.1 s.ensures.2
     (record {
       placed = k.placed;
@@ -123,13 +97,11 @@ pub shape_of-firsts : goal.shape_of-firsts
 shape_of-firsts c = c.loop-took.invariant.alike.firsts
 
 pub returns : goal.returns
-returns c = let c16 = c in
-    let c23 = c16 in
-    let l = c.loop-took in
+returns c = let l = c.loop-took in
     let R = l.invariant in
     let h = c.loop-took-test.false in (
       R.equal,
       run_few _ _ _ l.last l.took l.end R h,
       run_whole _ _ _ l.last l.took l.end R h,
-      sizes_on _ _ R.alike c23.requires.1,
+      sizes_on _ _ R.alike c.requires.1,
     )

@@ -1,4 +1,5 @@
 -- The tests of what a copy wrote are the definition's. Assumes nothing.
+use Rattle.std.specs.Prelude.{Some, None, Ok, Err}
 use Prim.Native.Nat.{ℕ, zero, suc, ◌+◌, ◌*◌, ◌<◌}
 use native.Mathlib.Numerals.{add-one}
 use mathlib.Core.Path.{◌≡◌, refl, sym, ap, ap₂, ◌∙◌}
@@ -18,8 +19,7 @@ use Rattle.filling.specs.Consistent.{every, bounded, strips_fit, layout_fits, ga
 use Rattle.rooms.specs.tracks.inner.Tracks.{next_columns, look_counts_from}
 use Rattle.choose.specs.inner.Choosing.{grid_of}
 use Rattle.place.specs.declared.Copy.{Copy}
-use Rattle.place.specs.declared.Outcome.{Outcome}
-use Rattle.place.specs.declared.Outcome.TheVariants.{At, Nowhere, Refused}
+use Rattle.place.specs.inner.Placing.{Outcome}
 use Rattle.place.specs.declared.Step.{Step}
 use Rattle.place.specs.declared.Totals.{Totals}
 use Rattle.place.specs.inner.Placing.{totals_of, orientation_number, outcome_x, y_of, gap_of}
@@ -73,13 +73,13 @@ module _ (t : State) (n : ℕ) where
 
   stands_same : (o : Outcome) → Written t n o → outcome_test o ≡ every place_fits (stands_at t n (get_or t.layout.orientation n 0))
   unfolding outcome_test choice_test
-  stands_same (At p) w =
+  stands_same (Ok (Some p)) w =
       and_both (bounded p.x) (bounded p.y) (gap_fits p.gap)
       ∙ (ap₂ (λ (u v : Float). (bounded u && bounded v) && gap_fits p.gap) (sym w.x) (sym w.y)
       ∙ (ap (λ (u : Float). (bounded (get_or t.layout.x n nan) && bounded (get_or t.layout.y n nan)) && gap_fits u) (sym w.gap)
       ∙ (sym (stands_one p.orientation) ∙ ap (λ (m : ℕ). every place_fits (stands_at t n m)) (sym (w.number ∙ add-one p.orientation)))))
-  stands_same Nowhere w = sym (ap (λ (m : ℕ). every place_fits (stands_at t n m)) w.number ∙ stands-none)
-  stands_same (Refused k) w = sym (ap (λ (m : ℕ). every place_fits (stands_at t n m)) w.number ∙ stands-none)
+  stands_same (Ok None) w = sym (ap (λ (m : ℕ). every place_fits (stands_at t n m)) w.number ∙ stands-none)
+  stands_same (Err k) w = sym (ap (λ (m : ℕ). every place_fits (stands_at t n m)) w.number ∙ stands-none)
 
 -- ---- all
 

@@ -1,4 +1,5 @@
 -- A copy's search writes remembered columns and look counts of its kind's slots alone. Assumes nothing.
+use Rattle.std.specs.Prelude.{None, Ok}
 use Prim.{⊥}
 use Prim.Native.Nat.{ℕ, zero, suc, ◌+◌, ◌<◌, ◌≤◌}
 use native.Mathlib.Omega.{arith}
@@ -9,7 +10,6 @@ use lib.ListN.{get_or}
 use lib.Seq.{get_or-set_other}
 use lib.Ieee.{Float}
 use Rattle.index.specs.declared.Index.{Index}
-use Rattle.choose.specs.declared.Winner.TheVariants as Winners
 use Rattle.choose.specs.inner.Choosing.{Surroundings, Chosen, chosen, won, orientation_of, bettered, choose_from}
 use Rattle.choose.proofs.Turns.{orient_other}
 use Rattle.search.specs.inner.Searching.{search_of, remembering}
@@ -62,7 +62,7 @@ pub place-outside : (ix : Index) (w : Surroundings) (area : Float) (slot n : ℕ
     → Outside slot n (place_of ix w area slot n t placed e s f counts next).counts counts
     × Outside slot n (place_of ix w area slot n t placed e s f counts next).next next
 unfolding place_of place_with
-place-outside ix w area slot n t placed e s f counts next = choose_outside w slot n (chosen Winners.Nowhere counts next)
+place-outside ix w area slot n t placed e s f counts next = choose_outside w slot n (chosen (Ok None) counts next)
 
 -- the same where more slots may differ
 pub outside_of_more : (slot m n : ℕ) (a b : List ℕ) → m ≤ n → Outside slot m a b → Outside slot n a b

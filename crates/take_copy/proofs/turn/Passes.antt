@@ -1,4 +1,6 @@
 -- The test of what a copy more wrote is that of the state after it. Assumes nothing.
+use Rattle.std.specs.Prelude.{Result, Ok}
+use Rattle.filling.specs.declared.Refusal.{Refusal}
 use Prim.Native.Nat.{ℕ, ◌+◌, ◌<◌}
 use native.Mathlib.Omega.{arith}
 use mathlib.Core.Path.{◌≡◌, refl, sym, ap, ◌∙◌}
@@ -8,8 +10,6 @@ use lib.Seq.{get_or-set_same}
 use lib.Ieee.{Float, nan}
 use Rattle.job.specs.Jobs.{Job}
 use Rattle.filling.specs.declared.Tables.{Tables}
-use Rattle.filling.specs.declared.Verdict.{Verdict}
-use Rattle.filling.specs.declared.Verdict.TheVariants.{Accepted}
 use Rattle.choose.specs.declared.Grid.{Grid}
 use Rattle.choose.specs.inner.Choosing.{grid_of}
 use Rattle.place.specs.declared.Copy.{Copy}
@@ -31,7 +31,7 @@ module _ {j : Job} {b : Tables} {order rows : List ℕ} {areas whole : List Floa
   below : (n : ℕ) → n ≡ 4096 → at < n
   below n e = let h = taken-few G in omega arith
 
-  pub turn_passes : (q : Copy) → q ≡ copy_of order rows areas at → (r : Step) (u : Totals) → u ≡ r.totals → (v : Verdict) → v ≡ Accepted
+  pub turn_passes : (q : Copy) → q ≡ copy_of order rows areas at → (r : Step) (u : Totals) → u ≡ r.totals → (v : Result (Unit {0}) Refusal) → v ≡ (Ok tt)
       → (tracks' orientation' : List ℕ) (x' y' gap' placed' : List Float) (entries' firsts' : List ℕ)
       → orientation' ≡ written_at v orientation at (orientation_number r.outcome) → x' ≡ written_at v x at (outcome_x r.outcome)
       → y' ≡ written_at v y at (y_of r.outcome) → gap' ≡ written_at v gap at (gap_of r.outcome)
@@ -52,4 +52,4 @@ module _ {j : Job} {b : Tables} {order rows : List ℕ} {areas whole : List Floa
     where
       at_place : {A : Type 0} (z : A) (l l' : List A) (u : A) → at < length l → l' ≡ written_at v l at u → get_or l' at z ≡ u
       at_place z l l' u h k =
-          ap (λ (m : List _). get_or m at z) (k ∙ ap (λ (v : Verdict). written_at v l at u) a) ∙ get_or-set_same l at u z h
+          ap (λ (m : List _). get_or m at z) (k ∙ ap (λ (v : Result (Unit {0}) Refusal). written_at v l at u) a) ∙ get_or-set_same l at u z h

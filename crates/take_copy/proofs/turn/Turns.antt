@@ -1,4 +1,5 @@
 -- What a copy more asks of a state in arrays, and what it leaves of it. Assumes nothing.
+use Rattle.std.specs.Prelude.{Result, Ok, Err}
 use Prim.Native.Nat.{ℕ, ◌+◌, ◌*◌, ◌/◌, ◌<◌, ◌≤◌, ◌^◌}
 use native.Mathlib.Omega.{arith}
 use mathlib.Core.Path.{◌≡◌, refl, sym, ap, subst, subst⁻¹, ◌∙◌}
@@ -13,8 +14,6 @@ use Rattle.job.specs.Jobs.{Job}
 use Rattle.filling.specs.declared.State.{State}
 use Rattle.filling.specs.declared.Tables.{Tables}
 use Rattle.filling.specs.declared.Refusal.{Refusal}
-use Rattle.filling.specs.declared.Verdict.{Verdict}
-use Rattle.filling.specs.declared.Verdict.TheVariants.{Accepted, Refused}
 use Rattle.filling.specs.Rooms.{Rooms, zeros}
 use Rattle.filling.specs.State.{orientation_counts}
 use Rattle.filling.specs.NextCopy.{core_step}
@@ -26,7 +25,6 @@ use Rattle.choose.specs.inner.Choosing.{grid_of, surroundings_in, bounds_at}
 use Rattle.place.specs.declared.Copy.{Copy}
 use Rattle.place.specs.declared.Totals.{Totals}
 use Rattle.place.specs.declared.Step.{Step}
-use Rattle.place.specs.declared.Outcome.TheVariants as Outcomes
 use Rattle.place.specs.inner.Placing.{copy_of, verdict_of, orientation_number, outcome_x, y_of, gap_of, Placed, done, place_of}
 use Rattle.place.specs.inner.Standing.{Standing, Fixed}
 use Rattle.store.specs.inner.Storing.{FirstsLaid}
@@ -154,20 +152,20 @@ module _ {j : Job} {b : Tables} {order rows : List ℕ} {areas whole : List Floa
 
     -- the totals of a refused copy are as before
     totals_kept : (r : Step) (placed' : List Float) (entries' starts' raw : List ℕ) → done r placed' entries' starts' (look_counts_from raw) (next_columns raw) ≡ Code
-        → (k : Refusal) → verdict_of r.outcome ≡ Refused k → r.totals ≡ t
+        → (k : Refusal) → verdict_of r.outcome ≡ Err k → r.totals ≡ t
     totals_kept r placed' entries' starts' raw e k v =
         let q = copy_of order rows areas at in
-        let o : r.outcome ≡ Outcomes.Refused k = refused_by_lem r.outcome k v in
+        let o : r.outcome ≡ Err k = refused_by_lem r.outcome k v in
         let h = place_kept (grid_of b).index t placed entries starts firsts _ q.area q.slot q.orientations (look_counts_from tracks) (next_columns tracks) k
         (sym (ap (λ (p : Placed). p.left.reply.outcome) e) ∙ o) in
         ap (λ (p : Placed). p.left.reply.totals) e ∙ h.2
 
     -- ---- the state after it
     module _ (r : Step) (raw tracks' orientation' : List ℕ) (x' y' gap' : List Float) where
-      abbrev pub After : Verdict → State
+      abbrev pub After : Result (Unit {0}) Refusal → State
       After v = state_in b order (taken_after v at) tracks' r.totals orientation' x' y' gap'
 
-      abbrev built : Verdict → ℕ → Totals → List ℕ → List ℕ → List ℕ → List Float → List Float → List Float → Stepped
+      abbrev built : Result (Unit {0}) Refusal → ℕ → Totals → List ℕ → List ℕ → List ℕ → List Float → List Float → List Float → Stepped
       built v n u next counts orientation x y gap =
           record {
             verdict = v;
@@ -182,20 +180,20 @@ module _ {j : Job} {b : Tables} {order rows : List ℕ} {areas whole : List Floa
             };
           }
 
-      answer_now : (v : Verdict) → look_counts_from tracks' ≡ kept_of v (look_counts_from tracks) (look_counts_from raw)
+      answer_now : (v : Result (Unit {0}) Refusal) → look_counts_from tracks' ≡ kept_of v (look_counts_from tracks) (look_counts_from raw)
           → next_columns tracks' ≡ kept_of v (next_columns tracks) (next_columns raw) → orientation' ≡ written_at v orientation at (orientation_number r.outcome)
           → x' ≡ written_at v x at (outcome_x r.outcome) → y' ≡ written_at v y at (y_of r.outcome) → gap' ≡ written_at v gap at (gap_of r.outcome)
-          → ((k : Refusal) → v ≡ Refused k → r.totals ≡ t) → ◌≡◌ {A = Stepped} (record { verdict = v; state = After v }) (answer_of S r raw v)
-      answer_now Accepted l n o a c d h = same-six (built Accepted (at + 1) r.totals) n l o a c d
-      answer_now (Refused k) l n o a c d h =
-          same-six (built (Refused k) at r.totals) n l o a c d
-          ∙ ap (λ (u : Totals). built (Refused k) at u (next_columns tracks) (look_counts_from tracks) orientation x y gap) (h k refl)
+          → ((k : Refusal) → v ≡ Err k → r.totals ≡ t) → ◌≡◌ {A = Stepped} (record { verdict = v; state = After v }) (answer_of S r raw v)
+      answer_now (Ok tt) l n o a c d h = same-six (built (Ok tt) (at + 1) r.totals) n l o a c d
+      answer_now (Err k) l n o a c d h =
+          same-six (built (Err k) at r.totals) n l o a c d
+          ∙ ap (λ (u : Totals). built (Err k) at u (next_columns tracks) (look_counts_from tracks) orientation x y gap) (h k refl)
 
       -- the step of the definition
       step_is : (placed' : List Float) (entries' starts' firsts' : List ℕ)
           → done r placed' entries' starts' (look_counts_from raw) (next_columns raw) ≡ Code → FirstsLaid g.index placed' r.totals.placed_strips firsts
           firsts'
-          → (v : Verdict) → v ≡ verdict_of r.outcome → look_counts_from tracks' ≡ kept_of (verdict_of r.outcome) (look_counts_from tracks) (look_counts_from raw)
+          → (v : Result (Unit {0}) Refusal) → v ≡ verdict_of r.outcome → look_counts_from tracks' ≡ kept_of (verdict_of r.outcome) (look_counts_from tracks) (look_counts_from raw)
           → next_columns tracks' ≡ kept_of (verdict_of r.outcome) (next_columns tracks) (next_columns raw)
           → orientation' ≡ written_at v orientation at (orientation_number r.outcome) → x' ≡ written_at v x at (outcome_x r.outcome)
           → y' ≡ written_at v y at (y_of r.outcome) → gap' ≡ written_at v gap at (gap_of r.outcome)
@@ -203,15 +201,15 @@ module _ {j : Job} {b : Tables} {order rows : List ℕ} {areas whole : List Floa
       step_is placed' entries' starts' firsts' e F v f l n o a c d =
           step-answer G intervals counted r placed' entries' starts' raw firsts' e (written_by G intervals counted g B.grid _ _ _ F)
           (record { verdict = v; state = After v })
-          (answer_now v (l ∙ ap (λ (v : Verdict). kept_of v (look_counts_from tracks) (look_counts_from raw)) (sym f))
-          (n ∙ ap (λ (v : Verdict). kept_of v (next_columns tracks) (next_columns raw)) (sym f)) o a c d
+          (answer_now v (l ∙ ap (λ (v : Result (Unit {0}) Refusal). kept_of v (look_counts_from tracks) (look_counts_from raw)) (sym f))
+          (n ∙ ap (λ (v : Result (Unit {0}) Refusal). kept_of v (next_columns tracks) (next_columns raw)) (sym f)) o a c d
           (λ k h. totals_kept r placed' entries' starts' raw e k (sym f ∙ h)) ∙ ap (answer_of S r raw) f) (zeros pos_zero intervals) refl
 
       -- the same with the totals that the turn answers
       pub turn_step : (u : Totals) → u ≡ r.totals → (placed' : List Float) (entries' starts' firsts' : List ℕ)
           → done r placed' entries' starts' (look_counts_from raw) (next_columns raw) ≡ Code → FirstsLaid g.index placed' r.totals.placed_strips firsts
           firsts'
-          → (v : Verdict) → v ≡ verdict_of r.outcome → look_counts_from tracks' ≡ kept_of (verdict_of r.outcome) (look_counts_from tracks) (look_counts_from raw)
+          → (v : Result (Unit {0}) Refusal) → v ≡ verdict_of r.outcome → look_counts_from tracks' ≡ kept_of (verdict_of r.outcome) (look_counts_from tracks) (look_counts_from raw)
           → next_columns tracks' ≡ kept_of (verdict_of r.outcome) (next_columns tracks) (next_columns raw)
           → orientation' ≡ written_at v orientation at (orientation_number r.outcome) → x' ≡ written_at v x at (outcome_x r.outcome)
           → y' ≡ written_at v y at (y_of r.outcome) → gap' ≡ written_at v gap at (gap_of r.outcome)

@@ -1,10 +1,6 @@
-use Prim.Native.Nat.{◌+◌, ◌-◌, ◌*◌, ◌≤◌}
-use Rattle.lines.specs.inner.Writing.{Wrote}
+use Rattle.lines.specs.inner.Writing.{Put}
 use Rattle.text.specs.inner.Tables.{fills_to}
 use Rattle.text.proofs.fill_lines.Given as goal
 
 abbrev pub invariant-loop-k : goal.invariant-loop-k
-invariant-loop-k l = (l.k ≤ l.kinds) × Wrote l.initial.out l.at (fills_to l.rows l.placed l.k) l.out l.end × (l.end ≤ l.at + 47 * l.k)
-
-abbrev pub decreases-loop-k : goal.decreases-loop-k
-decreases-loop-k l = l.kinds - l.k
+invariant-loop-k l = Put l.initial.out (fills_to l.rows l.placed l.k) l.out

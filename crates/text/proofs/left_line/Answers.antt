@@ -1,13 +1,16 @@
 -- `text::left_line` meets its contract. Assumes nothing.
-use Rattle.lines.proofs.Appending.{wrote_none, wrote-same}
+use native.Mathlib.Omega.{arith}
+use mathlib.Core.Logic.{inl, inr}
+use Rattle.lines.proofs.Appending.{put_none, put-same}
 use Rattle.text.proofs.ByKind.{left-fill, left-none, left-some}
 use Rattle.text.proofs.left_line.Goals as goal
 
-pub returns-then-fill : goal.returns-then-fill
-returns-then-fill c = wrote-same (left-fill c.args.k c.args.n c.args.fill c.if-fill.true) (wrote_none c.args.out.now c.args.at)
+pub returns-then-n-gt0 : goal.returns-then-n-gt0
+returns-then-n-gt0 c = put-same (left-some c.args.k c.args.n c.args.fill c.if-not-fill.true (λ z. let h = c.if-n-gt0.true in omega arith)) c.line.ensures
 
-pub returns-then-n-eq0 : goal.returns-then-n-eq0
-returns-then-n-eq0 c = wrote-same (left-none c.args.k c.args.n c.args.fill c.if-fill.false c.if-n-eq0.true) (wrote_none c.args.out.now c.args.at)
-
-pub returns : goal.returns
-returns c = wrote-same (left-some c.args.k c.args.n c.args.fill c.if-fill.false c.if-n-eq0.false) c.pair_line.ensures
+pub returns-else-not-fill : goal.returns-else-not-fill
+returns-else-not-fill c = let a = c.args in
+    elim c.else-not-fill.either [
+      | inl h ↦ put-same (left-none a.k a.n a.fill h.0 (omega (arith, h.1))) (put_none a.out.now)
+      | inr h ↦ put-same (left-fill a.k a.n a.fill h) (put_none a.out.now)
+    ]

@@ -1,4 +1,5 @@
 -- How many positions a whole plan answers: at most 4,096, and no more than its room holds. Assumes nothing.
+use Rattle.std.specs.Prelude.{Result, Ok, Err}
 use Prim.Native.Nat.{ℕ, ◌*◌, ◌≤◌}
 use native.Mathlib.Omega.{arith}
 use mathlib.Core.Path.{◌≡◌, refl}
@@ -12,8 +13,6 @@ use Rattle.numbers.specs.Numbers.{pos_zero}
 use Rattle.job.specs.Jobs.{Job, Answer, accepted, refused, read_job}
 use Rattle.filling.specs.declared.Refusal.{Refusal}
 use Rattle.filling.specs.declared.Refusal.TheVariants as Why
-use Rattle.filling.specs.declared.Verdict.{Verdict}
-use Rattle.filling.specs.declared.Verdict.TheVariants.{Accepted, Refused}
 use Rattle.filling.specs.Shapes.{planner_of}
 use Rattle.filling.specs.Rooms.{Lent, position_capacity, laid, zeros, only_positions}
 use Rattle.filling.specs.State.{standing_to, standing_of}
@@ -46,7 +45,7 @@ unfolding not_planned no_plan
 none-placed r l = record { few = omega arith; fit = omega arith }
 
 module _ (bytes : List ℕ) (j : Job) (e : read_job bytes ≡ accepted j) (l : Lent) where
-  found : (pos : ltb (position_capacity l.positions) j.copies ≡ false) (prep : prepare_verdict (planner_of j) l.rooms ≡ Accepted) (q : Swaps) → Sound bytes j e l pos prep RoomRefusal q → Placed (nested j l q)
+  found : (pos : ltb (position_capacity l.positions) j.copies ≡ false) (prep : prepare_verdict (planner_of j) l.rooms ≡ (Ok tt)) (q : Swaps) → Sound bytes j e l pos prep RoomRefusal q → Placed (nested j l q)
   unfolding nested planned_with plan_of only_positions standing_of
   found pos prep (kept q) (keeps h) =
       let a = stands-few q.state q.state.taken in
@@ -57,9 +56,9 @@ module _ (bytes : List ℕ) (j : Job) (e : read_job bytes ≡ accepted j) (l : L
       record { few = omega arith; fit = omega (arith, f) }
   found pos prep (ended r) s = none-placed r l
 
-  of_job : (v : Verdict) → nest_verdict j l ≡ v → Placed (nest_job j l)
-  of_job (Refused r) d = rw (nest_stops j l r d) (none-placed r l)
-  of_job Accepted d = let t = tested j l d in rw (nest_runs j l d) (found t.0 t.1 (swap_search j l) (search-sound bytes j e l t.0 t.1 RoomRefusal (stopped_is bytes j e l t.0 t.1)))
+  of_job : (v : Result (Unit {0}) Refusal) → nest_verdict j l ≡ v → Placed (nest_job j l)
+  of_job (Err r) d = rw (nest_stops j l r d) (none-placed r l)
+  of_job (Ok tt) d = let t = tested j l d in rw (nest_runs j l d) (found t.0 t.1 (swap_search j l) (search-sound bytes j e l t.0 t.1 RoomRefusal (stopped_is bytes j e l t.0 t.1)))
 
 -- whatever the bytes and the rooms
 pub nest_placed : (bytes : List ℕ) (l : Lent) → Placed (nest_of bytes l)

@@ -26,22 +26,11 @@ use Rattle.filling.specs.Withdraw.{closed_up, strips_left, strips_without, right
 use Rattle.filling_laws.proofs.Ready.{tests_of, taken_upto, strips-within}
 use Rattle.filling_laws.proofs.ReadyOrder.{slots-within}
 use Rattle.close_up.proofs.Left.{left_many}
+use Rattle.filling.proofs.Same.{lies-long}
 use Rattle.withdraw.specs.standing.inner.Standing.{Slotted, strips_at, right_over}
 use Rattle.withdraw.specs.withdraw_copy.inner.Leaving.{strips_before, strips_here, right_found, state_left, taken, Leaving}
 use Rattle.withdraw.proofs.standing.Summing.{strips_more, strips_upto}
 use Rattle.withdraw.proofs.withdraw_copy.Stood as Stood
-
-same-long : (ms ns : List ℕ) → same_numbers ms ns ≡ true → length ms ≡ length ns
-unfolding same_numbers
-same-long [] [] e = refl
-same-long [] (n ∷ ns) e = absurd (clash e refl)
-same-long (m ∷ ms) [] e = absurd (clash e refl)
-same-long (m ∷ ms) (n ∷ ns) e = ap suc (same-long ms ns (both_second (eqb m n) _ e))
-
--- numbers that lie in a room are no more than it holds
-lies-long : (ns room : List ℕ) → numbers_lie ns room ≡ true → length ns ≤ length room
-unfolding numbers_lie
-lies-long ns room e = let a = same-long ns (take (length ns) room) e in let b = length-take (length ns) room in omega arith
 
 module _ {j : Job} {s : State} {w : Rooms} {n copies : ℕ} {placed : List Float} {entries firsts : List ℕ}
     (L : Leaving j s w n copies placed entries firsts) where

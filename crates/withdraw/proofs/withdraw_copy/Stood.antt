@@ -29,19 +29,12 @@ use Rattle.filling.proofs.Steps.{standing_sixfold}
 use Rattle.filling.proofs.AtPlace.{later, others_are, strips_append}
 use Rattle.choose.specs.inner.Choosing.{bounds_at, part_at}
 use Rattle.withdraw.specs.standing.inner.Standing.{Slotted, strips_at, strips_to, right_with, right_over}
+use Rattle.filling.proofs.Same.{same-long}
 use Rattle.filling_laws.proofs.ReadyStrips.{slots-every}
 use Rattle.consistent.proofs.strip_tests.GapTests.{every-both}
 use Rattle.consistent.proofs.copy_tests.SameCopies.{shape_is}
 
 -- ---- lists
-
--- lists that are equal by number are equally long
-same-long : (xs ys : List Float) → same_doubles xs ys ≡ true → length xs ≡ length ys
-unfolding same_doubles
-same-long [] [] e = refl
-same-long [] (y ∷ ys) e = absurd (clash e refl)
-same-long (x ∷ xs) [] e = absurd (clash e refl)
-same-long (x ∷ xs) (y ∷ ys) e = ap suc (same-long xs ys (both_second (eq x y) _ e))
 
 part-capacity : (room : List Float) (a n : ℕ) → leb (a + n) (capacity room) ≡ true → capacity (part_of room a n) ≡ n
 unfolding part_of
@@ -150,7 +143,7 @@ module _ (j : Job) (s : State) (w : Rooms) (sized : (k : ℕ) → k < length (or
   unfolding copies_fit standing_of placed_strips_of capacity
   all_strips h =
       let a = both_second (every Fits (standing_to s s.taken)) _ stood in
-      let b = same-long (take (6 * s.placed_strips) w.placed) (standing_strips P (standing_to s s.taken)) a in
+      let b = same-long eq (take (6 * s.placed_strips) w.placed) (standing_strips P (standing_to s s.taken)) a in
       let c = length-take-le (6 * s.placed_strips) w.placed h in
       sym (strips_are s.taken (omega arith)) ∙ fill (length (standing_strips P (standing_to s s.taken))) s.placed_strips (sym b ∙ c)
     where

@@ -11,22 +11,20 @@ pub slice_bounds-read_set-end : goal.slice_bounds-read_set-end
 slice_bounds-read_set-end c = sym (length-take-le _ _ c.requires)
 
 pub width_of-requires : goal.width_of-requires
-width_of-requires c = let c6 = c in (
-  omega (arith, c6.read_set.auto.ends, length-replicate {A = Float} 1024 (of_bits binary64 0)),
-  points_of_lem _ _ _ _ c6.read_set.ensures.1
-      c.in-Loops.is,
+width_of-requires c = (
+  omega (arith, c.read_set.auto.ends, length-replicate {A = Float} 1024 (of_bits binary64 0)),
+  points_of_lem _ _ _ _ c.read_set.ensures.1
+      c.in-Ok.is,
 )
 
-pub returns-in-Loops : goal.returns-in-Loops
-returns-in-Loops c = let c3 = c in
-    let c7 = c3 in
-    width_read _ _ _ _ _ c7.read_set.ensures.0 _ _ _ _ c3.in-Loops.is (omega (
-      arith,
-      c7.read_set.auto.ends,
-      length-replicate {A = Float} 1024 (of_bits binary64 0),
-      points_of_lem _ _ _ _ c7.read_set.ensures.1
-          c3.in-Loops.is,
-    )) c.width_of.ensures
+pub returns-in-Ok : goal.returns-in-Ok
+returns-in-Ok c = width_read _ _ _ _ _ c.read_set.ensures.0 _ _ _ _ c.in-Ok.is (omega (
+  arith,
+  c.read_set.auto.ends,
+  length-replicate {A = Float} 1024 (of_bits binary64 0),
+  points_of_lem _ _ _ _ c.read_set.ensures.1
+      c.in-Ok.is,
+)) c.width_of.ensures
 
-pub returns-in-NoSet : goal.returns-in-NoSet
-returns-in-NoSet c = width-none _ _ _ _ _ c.read_set.ensures.0 _ _ c.in-NoSet.is
+pub returns-in-Err : goal.returns-in-Err
+returns-in-Err c = width-none _ _ _ _ _ c.read_set.ensures.0 _ _ c.in-Err.is

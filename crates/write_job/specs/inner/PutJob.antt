@@ -1,10 +1,8 @@
 -- Inner functions' contracts only: what is put of a job, and what is known of it then. Definitions only. Assumes nothing.
-use Rattle.std.specs.Prelude.{ℕ, ◌≡◌, List, length, Float}
+use Rattle.std.specs.Prelude.{Option, unwrap_or, Result, Ok, Err, ℕ, ◌≡◌, List, length, Float}
 use Rattle.std.specs.Float.{nan, binary64}
 use Rattle.std.specs.Float.Ieee.{to_bits}
 use Rattle.numbers.specs.Numbers.{double_of}
-use Rattle.numbers.specs.declared.Double.{Double}
-use Rattle.numbers.specs.declared.Double.TheVariants.{Finite, NotFinite}
 use Rattle.bits.specs.declared.Refusal.{Refusal}
 use Rattle.job.specs.declared.Header.{Header}
 use Rattle.job.specs.Jobs.{Job, frame_of}
@@ -12,13 +10,10 @@ use Rattle.bit_writer.specs.declared.BitWriter.{BitWriter}
 use Rattle.bit_writer.specs.inner.BitWriting.{Sound, Wrote}
 use Rattle.job_bits.specs.JobBits.{job_bits}
 use Rattle.job_bits.specs.Given.{Taken, ok, bad, given_set}
-use Rattle.write_job.specs.declared.JobPut.{JobPut}
-use Rattle.write_job.specs.declared.JobPut.TheVariants.{Fields, NoFields}
 
 -- the double of a number as the reader has it
-abbrev pub value_in : Double → Float
-value_in (Finite v) = v
-value_in NotFinite = nan
+abbrev pub value_in : Option Float → Float
+value_in t = unwrap_or t nan
 
 unfoldable pub value_of : Float → Float
 value_of x = value_in (double_of (to_bits binary64 x))
@@ -35,7 +30,7 @@ pub record Fielded (g : Header) (counts : List ℕ) (coordinates : List Float) (
   pub resolution : j.header.resolution ≡ value_of g.resolution
 
 -- the job's fields are put, or their refusal is answered
-pub data PutJob (t : Taken Job) (g : Header) (counts : List ℕ) (coordinates : List Float) (out : List ℕ) : JobPut → List ℕ → Type 0 where
+pub data PutJob (t : Taken Job) (g : Header) (counts : List ℕ) (coordinates : List Float) (out : List ℕ) : Result (BitWriter × ℕ) Refusal → List ℕ → Type 0 where
   went_job : {p : BitWriter} {copies : ℕ} {after : List ℕ} (j : Job) (c x : ℕ) → t ≡ ok j c x → Fielded g counts coordinates out p copies after j
-      → PutJob t g counts coordinates out (Fields p copies) after
-  stopped_job : {k : Refusal} {after : List ℕ} → t ≡ bad k → length after ≡ length out → PutJob t g counts coordinates out (NoFields k) after
+      → PutJob t g counts coordinates out (Ok (p, copies)) after
+  stopped_job : {k : Refusal} {after : List ℕ} → t ≡ bad k → length after ≡ length out → PutJob t g counts coordinates out (Err k) after

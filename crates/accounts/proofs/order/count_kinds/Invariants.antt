@@ -1,9 +1,6 @@
-use Rattle.std.proofs.Common.{◌-◌}
+use Rattle.std.proofs.Common.{length}
 use Rattle.accounts.proofs.order.Counting.{CountedTo}
 use Rattle.accounts.proofs.order.count_kinds.Given as goal
 
-abbrev pub invariant-loop-i : goal.invariant-loop-i
-invariant-loop-i l = CountedTo l.order l.m l.i l.counts
-
-abbrev pub decreases-loop-i : goal.decreases-loop-i
-decreases-loop-i l = l.n - l.i
+abbrev pub invariant-loop-k : goal.invariant-loop-k
+invariant-loop-k l = CountedTo l.order (length l.initial.counts) l.k-index l.counts

@@ -4,6 +4,3 @@ use Rattle.accounts.proofs.order.in_quantity.Given as goal
 
 abbrev pub invariant-loop-k : goal.invariant-loop-k
 invariant-loop-k l = in_quantity l.counts l.rows (l.kinds - l.k) l.k ≡ in_quantity l.counts l.rows l.kinds 0
-
-abbrev pub decreases-loop-k : goal.decreases-loop-k
-decreases-loop-k l = l.kinds - l.k

@@ -1,13 +1,11 @@
 -- For inner functions' contracts only: 31's tests of the standing copies in the code's order. That they are the definition's is proved in
 -- proofs/copy_tests. Definitions only. Assumes nothing.
-use Rattle.std.specs.Prelude.{ℕ, zero, suc, ◌+◌, ◌*◌, Bool, false, cond, ◌&&◌, List, get_or, leb, ltb, eqb, Float}
+use Rattle.std.specs.Prelude.{Option, Some, None, ℕ, zero, suc, ◌+◌, ◌*◌, Bool, false, cond, ◌&&◌, List, get_or, leb, ltb, eqb, Float}
 use Rattle.std.specs.Float.{nan}
 use Rattle.std.specs.Float.Ieee.{eq}
 use Rattle.trapezoid.specs.declared.Trapezoid.{Trapezoid}
 use Rattle.trapezoid.specs.Strip.{strip_at, capacity, moved_by}
 use Rattle.index.specs.Buckets.{up_from}
-use Rattle.index.specs.declared.entries.Walked.{Walked}
-use Rattle.index.specs.declared.entries.Walked.TheVariants.{At, Wrong}
 use Rattle.filling.specs.Consistent.{every, bounded}
 use Rattle.choose.specs.inner.Choosing.{part_at, apart_part}
 
@@ -47,13 +45,13 @@ unfoldable pub copy_test : Held → ℕ → Float → Float → ℕ → ℕ → 
 copy_test w kind x y o at = turn_test w.rows w.kinds kind o && (bounded x && (bounded y && lies_test (apart_of w kind o) x y w.placed at))
 
 -- where its strips end, by the copy's number in the layout: 0 for one without a place
-unfoldable pub past_copy : Held → ℕ → Float → Float → ℕ → ℕ → Walked
-past_copy w kind x y zero at = At at
-past_copy w kind x y (suc o) at = cond (copy_test w kind x y o at) (At (at + capacity (apart_of w kind o))) Wrong
+unfoldable pub past_copy : Held → ℕ → Float → Float → ℕ → ℕ → Option ℕ
+past_copy w kind x y zero at = Some at
+past_copy w kind x y (suc o) at = cond (copy_test w kind x y o at) (Some (at + capacity (apart_of w kind o))) None
 
-unfoldable pub onward : (ℕ → Bool) → Walked → Bool
-onward f (At at) = f at
-onward f Wrong = false
+unfoldable pub onward : (ℕ → Bool) → Option ℕ → Bool
+onward f (Some at) = f at
+onward f None = false
 
 -- the n copies from place i on, the first's strips from strip `at` on; after them no strip is left
 unfoldable pub copies_test : Held → List ℕ → List ℕ → List Float → List Float → ℕ → ℕ → ℕ → Bool

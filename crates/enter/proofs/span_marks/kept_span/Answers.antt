@@ -6,15 +6,15 @@ use Rattle.index.specs.Buckets.{bucket_in}
 use Rattle.index.proofs.Steps.{bucket_top}
 use Rattle.enter.proofs.span_marks.kept_span.Goals as goal
 
-pub overflow_cast-lo : goal.overflow_cast-lo
-overflow_cast-lo c = let g = c.args in
+pub from-lo-requires : goal.from-lo-requires
+from-lo-requires c = let g = c.args in
     let p = c.requires in
     let k = p.4.low (g.i - g.from) (omega (arith, p.0)) c.if-j-lt-KEPT.true in
     let t = bucket_top g.ix (strip_at g.standing.now (g.from + (g.i - g.from))).x0 in
     omega (arith, k, t)
 
-pub overflow_cast-hi : goal.overflow_cast-hi
-overflow_cast-hi c = let g = c.args in
+pub from-hi-requires : goal.from-hi-requires
+from-hi-requires c = let g = c.args in
     let p = c.requires in
     let k = p.4.high (g.i - g.from) (omega (arith, p.0)) c.if-j-lt-KEPT.true in
     let t = bucket_top g.ix (strip_at g.standing.now (g.from + (g.i - g.from))).x1 in
@@ -26,7 +26,7 @@ returns-then-j-lt-KEPT c = let g = c.args in
     let e : g.from + (g.i - g.from) ≡ g.i = omega (arith, p.0) in
     let l = p.4.low (g.i - g.from) (omega (arith, p.0)) c.if-j-lt-KEPT.true in
     let h = p.4.high (g.i - g.from) (omega (arith, p.0)) c.if-j-lt-KEPT.true in
-    (l ∙ ap (λ (k : ℕ). bucket_in g.ix (strip_at g.standing.now k).x0) e, h ∙ ap (λ (k : ℕ). bucket_in g.ix (strip_at g.standing.now k).x1) e)
+    (c.from-lo.ensures ∙ (l ∙ ap (λ (k : ℕ). bucket_in g.ix (strip_at g.standing.now k).x0) e), c.from-hi.ensures ∙ (h ∙ ap (λ (k : ℕ). bucket_in g.ix (strip_at g.standing.now k).x1) e))
 
 pub span_of-requires : goal.span_of-requires
 span_of-requires c = c.requires.1

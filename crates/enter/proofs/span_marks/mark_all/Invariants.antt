@@ -1,5 +1,5 @@
 use mathlib.Core.Path.{◌≡◌}
-use Prim.Native.Nat.{◌-◌, ◌≤◌}
+use Prim.Native.Nat.{◌≤◌}
 use lib.ListN.{length}
 use Rattle.index.specs.Buckets.{buckets}
 use Rattle.enter.proofs.span_marks.Marking.{Marking}
@@ -8,6 +8,3 @@ use Rattle.enter.proofs.span_marks.mark_all.Given as goal
 abbrev pub invariant-loop-i : goal.invariant-loop-i
 invariant-loop-i l = (l.from ≤ l.i) × (l.i ≤ l.to) × (length l.marks ≡ buckets) × Marking l.ix l.standing l.from l.to l.i l.first
     l.end l.marks
-
-abbrev pub decreases-loop-i : goal.decreases-loop-i
-decreases-loop-i l = l.to - l.i

@@ -1,6 +1,7 @@
 -- For inner functions' contracts only: the tables and rooms that a filling is given, that they are a job's, and the state that it leaves. Definitions only.
 -- Assumes nothing.
-use Rattle.std.specs.Prelude.{ℕ, ◌+◌, ◌*◌, ◌≤◌, ◌≡◌, List, length, take, drop, replicate, Float}
+use Rattle.std.specs.Prelude.{Result, Ok, Err, ℕ, ◌+◌, ◌*◌, ◌≤◌, ◌≡◌, List, length, take, drop, replicate, Float}
+use Rattle.filling.specs.declared.Refusal.{Refusal}
 use Rattle.numbers.specs.Numbers.{pos_zero}
 use Rattle.trapezoid.specs.Strip.{capacity}
 use Rattle.index.specs.declared.Index.{Index}
@@ -9,8 +10,6 @@ use Rattle.index.specs.Buckets.{strip_numbers}
 use Rattle.strips.specs.declared.Rect.{Rect}
 use Rattle.job.specs.Jobs.{Job, accepted, read_job}
 use Rattle.filling.specs.declared.State.{State}
-use Rattle.filling.specs.declared.Verdict.{Verdict}
-use Rattle.filling.specs.declared.Verdict.TheVariants.{Accepted, Refused}
 use Rattle.filling.specs.Shapes.{Planner, planner_of}
 use Rattle.filling.specs.Rooms.{Rooms, laid}
 use Rattle.filling.specs.State.{apart_room, inset_room}
@@ -116,15 +115,15 @@ rooms_by p lent placed entries firsts =
     }
 
 -- where copies or turns go on after number i of n
-abbrev pub next_after : Verdict → ℕ → ℕ → ℕ
-next_after Accepted i n = i + 1
-next_after (Refused k) i n = n
+abbrev pub next_after : Result (Unit {0}) Refusal → ℕ → ℕ → ℕ
+next_after (Ok tt) i n = i + 1
+next_after (Err k) i n = n
 
 -- the state at the end, or the refusal first met
-abbrev pub filling_by : Verdict → Planner → List ℕ → List ℕ → List ℕ → Totals → List ℕ → List Float → List Float → List Float → Filling
-filling_by Accepted p order next looks t orientation x y gap = filled (state_by p order (length order) next looks t orientation x y gap)
-filling_by (Refused k) p order next looks t orientation x y gap = stopped k
+abbrev pub filling_by : Result (Unit {0}) Refusal → Planner → List ℕ → List ℕ → List ℕ → Totals → List ℕ → List Float → List Float → List Float → Filling
+filling_by (Ok tt) p order next looks t orientation x y gap = filled (state_by p order (length order) next looks t orientation x y gap)
+filling_by (Err k) p order next looks t orientation x y gap = stopped k
 
 -- the same in a filling's two tables
-abbrev pub filling_in : Verdict → Planner → List ℕ → List ℕ → Totals → List Float → Filling
+abbrev pub filling_in : Result (Unit {0}) Refusal → Planner → List ℕ → List ℕ → Totals → List Float → Filling
 filling_in v p order tracks t spots = filling_by v p order (next_columns tracks) (look_counts_from tracks) t (orientations tracks) (xs spots) (ys spots) (gaps spots)

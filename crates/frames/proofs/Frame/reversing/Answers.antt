@@ -1,10 +1,8 @@
 -- `frames::Frame::reversing` meets its contract. Assumes nothing.
-use mathlib.Core.Path.{sym}
+use mathlib.Core.Path.{refl}
 use Rattle.frames.specs.Frames.{reversing}
 use Rattle.frames.proofs.Frame.reversing.Goals as goal
 
 pub returns : goal.returns
 unfolding reversing
-returns c = let c3 = c in
-    rw (sym c.along_x.ensures, sym c3.from_right.ensures, sym c3.from_top.ensures, sym c.alike-same.ensures)
-    c.alike.ensures
+returns c = rw (c.along_x.ensures, c.from_right.ensures, c.from_top.ensures) refl

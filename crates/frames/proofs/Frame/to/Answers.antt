@@ -5,21 +5,21 @@ use Rattle.frames.proofs.Frame.to.Goals as goal
 
 pub returns-then-along_x : goal.returns-then-along_x
 unfolding to
-returns-then-along_x c = let c5 = c in
+returns-then-along_x c =
     rw (
       sym c.along_x.ensures ∙ c.if-along_x.true,
-      sym c5.from_right.ensures,
+      sym c.from_right.ensures,
       sym c.from_top.ensures,
       c.signed-up.ensures,
       c.signed-across.ensures,
     )
 
-pub returns : goal.returns
+pub returns-else-along_x : goal.returns-else-along_x
 unfolding to
-returns c = let c5 = c in
+returns-else-along_x c =
     rw (
       sym c.along_x.ensures ∙ c.if-along_x.false,
-      sym c5.from_right.ensures,
+      sym c.from_right.ensures,
       sym c.from_top.ensures,
       c.signed-up.ensures,
       c.signed-across.ensures,

@@ -15,19 +15,15 @@ loop-j-init c = let E = c.capacity-count.ensures in
     (E, omega (arith, E), refl, rw e)
 
 pub load-q-requires : goal.load-q-requires
-load-q-requires c = omega (arith, c.loop-j-test.true, c.loop-j.invariant.0)
+load-q-requires c = omega (arith, c.loop-j.invariant.0)
 
 pub list_moving-n-requires : goal.list_moving-n-requires
-list_moving-n-requires c = let c12 = c in
-    c12.requires
+list_moving-n-requires c = c.requires
 
 pub loop-j-preserved : goal.loop-j-preserved
 unfolding listed
-loop-j-preserved c = let c7 = c in
-    let c8 = c7 in
-    let c15 = c8 in
-    let l = c7.loop-j in
-    let g = c15.args in
+loop-j-preserved c = let l = c.loop-j in
+    let g = c.args in
     let M = c.new-m.ensures ∙ ap (λ (p : Trapezoid). moving_of p g.x g.y_low g.y_high)
     c.load-q.ensures in
     let E = c.list_moving-n.ensures ∙ ap (λ (m : Moving). push_all (collected l.room l.n)
@@ -37,7 +33,7 @@ loop-j-preserved c = let c7 = c in
       kept-length l.room _ l.n _ _ E ∙ l.invariant.2,
       turn (λ i. list_moving g.self g.standing.now g.entries.now g.starts.now
           (moving_of (strip_at g.moving.now i) g.x g.y_low g.y_high)) l.room _ l.n _
-          c8.capacity-count.result l.j _ (omega arith) E l.invariant.3,
+          c.capacity-count.result l.j _ (omega arith) E l.invariant.3,
     )
 
 pub shape_of-room : goal.shape_of-room
@@ -45,12 +41,10 @@ shape_of-room c = c.loop-j.invariant.2
 
 pub returns : goal.returns
 unfolding listed
-returns c = let c2 = c in
-    let c9 = c2 in
-    let l = c.loop-j in
-    let g = c9.args in
+returns c = let l = c.loop-j in
+    let g = c.args in
     sym (over_end (λ i. list_moving g.self g.standing.now g.entries.now g.starts.now
-    (moving_of (strip_at g.moving.now i) g.x g.y_low g.y_high)) (collected l.room l.n) c2.capacity-count.result
+    (moving_of (strip_at g.moving.now i) g.x g.y_low g.y_high)) (collected l.room l.n) c.capacity-count.result
     l.j (omega arith)) ∙ (l.invariant.3 ∙ ap (λ (n : ℕ). push_all (collected g.room.now g.start)
     (listed g.self g.y_low g.y_high g.standing.now g.entries.now g.starts.now g.moving.now g.x n 0))
-    c2.capacity-count.ensures)
+    c.capacity-count.ensures)

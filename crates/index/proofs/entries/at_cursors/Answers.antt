@@ -20,20 +20,19 @@ pub loop-b-init : goal.loop-b-init
 loop-b-init c = (omega arith, λ d h l. absurd (omega (arith, h, l)))
 
 pub entry-requires : goal.entry-requires
-entry-requires c = let l = c.loop-b in c.requires.1 l.b l.invariant.0 c.loop-b-test.true
+entry-requires c = let l = c.loop-b in c.requires.1 l.b l.invariant.0 (omega arith)
 
 pub loop-b-preserved : goal.loop-b-preserved
-loop-b-preserved c = let c7 = c in
-    let g = c7.args in
+loop-b-preserved c = let g = c.args in
     let l = c.loop-b in (
       omega (arith, l.invariant.0),
       found g.entries.now g.cursors.now g.number g.lo l.b l.invariant.1
-          (sym c.entry.ensures ∙ c.if-entry-number.true),
+          (sym c.entry.ensures ∙ c.if-entry-number.false),
     )
 
-pub returns-else-entry-number : goal.returns-else-entry-number
-returns-else-entry-number c = let l = c.loop-b in
-    (λ q. absurd (true≢false (sym q)), λ q. (l.b, l.invariant.0, c.loop-b-test.true, λ e. c.if-entry-number.false (c.entry.ensures ∙ e)))
+pub returns-then-entry-number : goal.returns-then-entry-number
+returns-then-entry-number c = let l = c.loop-b in
+    (λ q. absurd (true≢false (sym q)), λ q. (l.b, l.invariant.0, omega arith, λ e. c.if-entry-number.true (c.entry.ensures ∙ e)))
 
 pub returns : goal.returns
-returns c = let l = c.loop-b in (λ q d h k. l.invariant.1 d h (omega (arith, k, c.loop-b-test.false)), λ q. absurd (true≢false q))
+returns c = let l = c.loop-b in (λ q d h k. l.invariant.1 d h (omega (arith, k)), λ q. absurd (true≢false q))

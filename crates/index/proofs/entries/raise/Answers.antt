@@ -16,7 +16,7 @@ loop-b-preserved c = let l = c.loop-b in
       omega (arith, l.invariant.0),
       length-set l.table (l.b + 1) v ∙ l.invariant.1,
       λ d a. get_or-set_other l.table (l.b + 1) (d + 1) v 0 (λ q. omega (arith, q, a)) ∙ l.invariant.2 d (omega arith),
-      sym (raised_on g.hi l.b l.table c.loop-b-test.true) ∙ l.invariant.3,
+      sym (raised_on g.hi l.b l.table (omega arith)) ∙ l.invariant.3,
     )
 
 pub shape_of-table : goal.shape_of-table

@@ -12,16 +12,14 @@ pub loop-b-init : goal.loop-b-init
 loop-b-init c = (omega arith, sym (sum-none c.args.counts.now), omega arith, summed-none c.args.counts.now)
 
 pub loop-b-preserved : goal.loop-b-preserved
-loop-b-preserved c = let c2 = c in
-    let c4 = c2 in
-    let s₀ = c4.args.counts.now in
+loop-b-preserved c = let s₀ = c.args.counts.now in
     let l = c.loop-b in
     let x = l.invariant.3.left l.b (le_refl l.b) in
     let y = sum-next s₀ l.b in (
-      omega (arith, c2.loop-b-test.true),
+      omega arith,
       omega (arith, x, y, l.invariant.1),
       omega (arith, c.if-room-sum.false, l.invariant.2),
-      summed_on s₀ l.b l.sum l.counts (omega (arith, c2.loop-b-test.true, c4.requires)) l.invariant.1 l.invariant.3,
+      summed_on s₀ l.b l.sum l.counts (omega (arith, c.requires)) l.invariant.1 l.invariant.3,
     )
 
 pub returns-then-room-sum : goal.returns-then-room-sum
@@ -29,7 +27,7 @@ returns-then-room-sum c = let s₀ = c.args.counts.now in
     let l = c.loop-b in
     let x = l.invariant.3.left l.b (le_refl l.b) in
     let y = sum-next s₀ l.b in
-    let z = sum-rise s₀ (l.b + 1) buckets (omega (arith, c.loop-b-test.true)) in
+    let z = sum-rise s₀ (l.b + 1) buckets (omega arith) in
     (λ q. absurd (true≢false (sym q)), λ q. omega (arith, x, y, z, l.invariant.1, l.invariant.2, c.if-room-sum.true))
 
 pub shape_of-counts-then-room-sum : goal.shape_of-counts-then-room-sum

@@ -1,5 +1,5 @@
 use mathlib.Core.Path.{◌≡◌}
-use Prim.Native.Nat.{◌-◌, ◌≤◌}
+use Prim.Native.Nat.{◌≤◌}
 use Rattle.index.specs.Buckets.{buckets}
 use Rattle.index.specs.entries.inner.Cursors.{sum_of}
 use Rattle.index.proofs.entries.Raising.{Summed}
@@ -7,6 +7,3 @@ use Rattle.index.proofs.entries.sum_counts.Given as goal
 
 abbrev pub invariant-loop-b : goal.invariant-loop-b
 invariant-loop-b l = (l.b ≤ buckets) × (l.sum ≡ sum_of l.initial.counts l.b) × (l.sum ≤ l.room) × Summed l.initial.counts l.b l.counts
-
-abbrev pub decreases-loop-b : goal.decreases-loop-b
-decreases-loop-b l = buckets - l.b

@@ -1,20 +1,21 @@
 -- `kinds::sets::read_loops` meets its contract. Assumes nothing.
 use Rattle.kinds.proofs.sets.Reading.{loops_on, loops_end, loops_all}
+use Rattle.std.proofs.Common.{arith, rules}
 use Rattle.kinds.proofs.sets.read_loops.Goals as goal
 
-pub returns-in-NoLoop : goal.returns-in-NoLoop
-returns-in-NoLoop c = (
+pub returns-in_err-m : goal.returns-in_err-m
+returns-in_err-m c = search (
+  rules,
   loops_end c.args.bytes.now c.args.at c.args.n c.args.room.now c.args.ends.now c.loop-i.room c.loop-i.ends c.loop-i.i c.loop-i.p c.loop-i.before
-      c.loop-i.invariant c.in-NoLoop.ensures.0 c.loop-i-test.true,
-  tt,
+      c.loop-i.invariant c.in_err-m.ensures.0 (omega arith),
 )
 
 pub loop-i-preserved : goal.loop-i-preserved
 loop-i-preserved c =
     loops_on c.args.bytes.now c.args.at c.args.n c.args.room.now c.args.ends.now c.loop-i.room c.loop-i.ends c.loop-i.i c.loop-i.p c.loop-i.before
-    c.loop-i.invariant c.in-Loop.ensures.0 c.in-Loop.ensures.1 c.read_loop.auto.room c.loop-i-test.true c.requires.1 c.requires.3
+    c.loop-i.invariant c.in_ok-m.ensures.0 c.in_ok-m.ensures.1 c.read_loop.auto.room (omega arith) c.requires.1 c.requires.3
 
 pub returns : goal.returns
 returns c =
     loops_all c.args.bytes.now c.args.at c.args.n c.args.room.now c.args.ends.now c.loop-i.room c.loop-i.ends c.loop-i.i c.loop-i.p c.loop-i.before
-    c.loop-i.invariant c.loop-i-test.false c.requires.1
+    c.loop-i.invariant (omega arith) c.requires.1

@@ -1,9 +1,5 @@
-use Prim.Native.Nat.{◌-◌}
 use Rattle.kinds.proofs.sets.Reading.{LoopsTo}
 use Rattle.kinds.proofs.sets.read_loops.Given as goal
 
 abbrev pub invariant-loop-i : goal.invariant-loop-i
 invariant-loop-i l = LoopsTo l.bytes l.at l.n l.initial.room l.initial.ends l.room l.ends l.i l.p l.before
-
-abbrev pub decreases-loop-i : goal.decreases-loop-i
-decreases-loop-i l = l.n - l.i

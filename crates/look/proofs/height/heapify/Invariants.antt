@@ -3,6 +3,3 @@ use Rattle.look.proofs.height.heapify.Given as goal
 
 abbrev pub invariant-loop-start : goal.invariant-loop-start
 invariant-loop-start l = Rearranged l.n l.initial.room l.room
-
-abbrev pub decreases-loop-start : goal.decreases-loop-start
-decreases-loop-start l = l.start

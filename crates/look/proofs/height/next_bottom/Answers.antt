@@ -11,12 +11,10 @@ use Rattle.look.proofs.height.Clear.{lowered_bottom, lower_on, lower-end}
 use Rattle.look.proofs.height.next_bottom.Goals as goal
 
 pub loop-k-preserved : goal.loop-k-preserved
-loop-k-preserved c = let l = c in
-    let g = c.args in
-    ap (λ (b : Float). lowered g.h b (map (interval_at g.room.now) (up_from (g.n - (l.loop-k.k + 1)) (l.loop-k.k + 1)))) (c.lower_next-next.ensures ∙ ap (lower g.h l.loop-k.next) c.interval-i.ensures) ∙ (sym (lower_on g.room.now g.h g.n l.loop-k.k l.loop-k.next (omega arith)) ∙ l.loop-k.invariant)
+loop-k-preserved c = let g = c.args in
+    ap (λ (b : Float). lowered g.h b (map (interval_at g.room.now) (up_from (g.n - (c.loop-k.k + 1)) (c.loop-k.k + 1)))) (c.lower_next-next.ensures ∙ ap (lower g.h c.loop-k.next) c.interval-i.ensures) ∙ (sym (lower_on g.room.now g.h g.n c.loop-k.k c.loop-k.next (omega arith)) ∙ c.loop-k.invariant)
 
 pub returns : goal.returns
 unfolding intervals
-returns c = let l = c in
-    let g = c.args in
-    sym (lower-end g.room.now g.h g.n l.loop-k.k l.loop-k.next (omega arith)) ∙ (l.loop-k.invariant ∙ (ap (λ (k : ℕ). lowered g.h g.y_high (map (interval_at g.room.now) (up_from k 0))) (sub-zero g.n) ∙ lowered_bottom g.h g.y_high (intervals g.room.now g.n)))
+returns c = let g = c.args in
+    sym (lower-end g.room.now g.h g.n c.loop-k.k c.loop-k.next (omega arith)) ∙ (c.loop-k.invariant ∙ (ap (λ (k : ℕ). lowered g.h g.y_high (map (interval_at g.room.now) (up_from k 0))) (sub-zero g.n) ∙ lowered_bottom g.h g.y_high (intervals g.room.now g.n)))

@@ -8,6 +8,3 @@ use Rattle.look.proofs.height.next_bottom.Given as goal
 
 abbrev pub invariant-loop-k : goal.invariant-loop-k
 invariant-loop-k l = lowered l.h l.next (map (interval_at l.room) (up_from (l.n - l.k) l.k)) ≡ lowered l.h l.y_high (map (interval_at l.room) (up_from (l.n - 0) 0))
-
-abbrev pub decreases-loop-k : goal.decreases-loop-k
-decreases-loop-k l = l.n - l.k

@@ -19,7 +19,6 @@ sift_down-requires c = omega (arith, c.loop-end.invariant.0, c.loop-end.invarian
 pub loop-end-preserved : goal.loop-end-preserved
 loop-end-preserved c = let l = c.loop-end in
     let g = c.args in
-    let t = c.loop-end-test.true in
     let p = c.requires in
     let e = l.invariant.1.size in (
       omega (arith, l.invariant.0),

@@ -4,6 +4,3 @@ use Rattle.look.proofs.height.sort.Given as goal
 
 abbrev pub invariant-loop-end : goal.invariant-loop-end
 invariant-loop-end l = (l.end ≤ l.n) × Rearranged l.n l.initial.room l.room
-
-abbrev pub decreases-loop-end : goal.decreases-loop-end
-decreases-loop-end l = l.end

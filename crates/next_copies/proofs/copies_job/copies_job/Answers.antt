@@ -17,17 +17,14 @@ pub slice_bounds-agree-end-2 : goal.slice_bounds-agree-end-2
 slice_bounds-agree-end-2 c = sym (length-replicate {A = ℕ} 513 0)
 
 pub agree-requires : goal.agree-requires
-agree-requires c = let c15 = c in
-    let a = c15.args in
-    let p = c15.requires.0 in
+agree-requires c = let a = c.args in
+    let p = c.requires.0 in
     let n = numbers p.0 a.rows.now a.areas.now a.kinds a.copies p.1 in
     (n.kinds_few, n.rows_long, n.turns_few, n.copies_few, length-replicate {A = ℕ} 513 0, length-replicate {A = ℕ} 513 0)
 
 pub overflow_sub-copies : goal.overflow_sub-copies
-overflow_sub-copies c = let c16 = c in
-    let c20 = c16 in
-    let a = c20.args in
-    let p = c20.requires.0 in
+overflow_sub-copies c = let a = c.args in
+    let p = c.requires.0 in
     let w = rooms a.shapes.now a.sheet.now a.placed.now a.sheet_entries.now a.entries.now a.sheet_firsts.now a.firsts.now in
     let e = sym (c.agree.ensures.0 p.0 a.areas.now p.1.tabled p.1.kinds_are p.1.copies_are) ∙
     c.if-agree.true in
@@ -37,58 +34,44 @@ pub slice_bounds-take_all-end : goal.slice_bounds-take_all-end
 slice_bounds-take_all-end c = sym (c.agree.auto.sheet_starts ∙ length-replicate {A = ℕ} 513 0)
 
 pub slice_bounds-take_all-end-then-agree : goal.slice_bounds-take_all-end-then-agree
-slice_bounds-take_all-end-then-agree c = let c9 = c in
-    sym (c9.agree.auto.starts ∙ length-replicate {A = ℕ} 513 0)
+slice_bounds-take_all-end-then-agree c = sym (c.agree.auto.starts ∙ length-replicate {A = ℕ} 513 0)
 
 pub take_all-requires : goal.take_all-requires
-take_all-requires c = let c6 = c in
-    let c8 = c6 in
-    let c11 = c8 in
-    let c27 = c11 in
-    let a = c27.args in
-    let p = c27.requires.0 in
-    let g = c11.agree in
-    let h = c8.if-agree.true in
+take_all-requires c = let a = c.args in
+    let p = c.requires.0 in
+    let g = c.agree in
+    let h = c.if-agree.true in
     let w = rooms a.shapes.now a.sheet.now a.placed.now a.sheet_entries.now a.entries.now a.sheet_firsts.now a.firsts.now in
     let e = sym (g.ensures.0 p.0 a.areas.now p.1.tabled p.1.kinds_are p.1.copies_are) ∙ h in
     let L = g.ensures.1 h in (
       p.0,
-      starting p.0 a.state w a.rows.now a.areas.now a.kinds a.copies p.1 e a.n c6.fewer.result c6.fewer.ensures _ _ p.2
+      starting p.0 a.state w a.rows.now a.areas.now a.kinds a.copies p.1 e a.n c.min.result c.min.ensures _ _ p.2
           L.0 L.1
           L.2 L.3,
     )
 
 pub shape_of-placed-then-agree : goal.shape_of-placed-then-agree
-shape_of-placed-then-agree c = let c9 = c in
-    c9.take_all.auto.placed
+shape_of-placed-then-agree c = c.take_all.auto.placed
 
 pub shape_of-entries-then-agree : goal.shape_of-entries-then-agree
-shape_of-entries-then-agree c = let c9 = c in
-    c9.take_all.auto.entries
+shape_of-entries-then-agree c = c.take_all.auto.entries
 
 pub shape_of-intervals-then-agree : goal.shape_of-intervals-then-agree
-shape_of-intervals-then-agree c = let c9 = c in
-    c9.take_all.auto.intervals
+shape_of-intervals-then-agree c = c.take_all.auto.intervals
 
 pub shape_of-firsts-then-agree : goal.shape_of-firsts-then-agree
-shape_of-firsts-then-agree c = let c9 = c in
-    c9.take_all.auto.firsts
+shape_of-firsts-then-agree c = c.take_all.auto.firsts
 
 pub returns-then-agree : goal.returns-then-agree
-returns-then-agree c = let c9 = c in
-    let c16 = c9 in
-    let c18 = c16 in
-    let c21 = c18 in
-    let c37 = c21 in
-    let a = c37.args in
-    let g = c21.agree in
-    let h = c18.if-agree.true in
+returns-then-agree c = let a = c.args in
+    let g = c.agree in
+    let h = c.if-agree.true in
     let w = rooms a.shapes.now a.sheet.now a.placed.now a.sheet_entries.now a.entries.now a.sheet_firsts.now a.firsts.now in
     let L = g.ensures.1 h in
-    let f = c16.fewer in
+    let f = c.min in
     λ j O z.
     let e = sym (g.ensures.0 j a.areas.now O.tabled O.kinds_are O.copies_are) ∙ h in
-    c9.take_all.ensures j (starting j a.state w a.rows.now a.areas.now a.kinds a.copies O e a.n f.result f.ensures _ _ z L.0
+    c.take_all.ensures j (starting j a.state w a.rows.now a.areas.now a.kinds a.copies O e a.n f.result f.ensures _ _ z L.0
     L.1 L.2
     L.3) (most-few j a.state w a.rows.now a.areas.now a.kinds a.copies O e a.n f.result f.ensures)
     (most_all j a.state w a.rows.now a.areas.now a.kinds a.copies O e a.n f.result f.ensures)
@@ -98,9 +81,7 @@ pub shape_of-intervals : goal.shape_of-intervals
 shape_of-intervals c = c.none_taken.auto.intervals
 
 pub returns : goal.returns
-returns c = let c7 = c in
-    let c23 = c7 in
-    let a = c23.args in
+returns c = let a = c.args in
     let w = rooms a.shapes.now a.sheet.now a.placed.now a.sheet_entries.now a.entries.now a.sheet_firsts.now a.firsts.now in
-    λ j O z. c.none_taken.ensures w ∙ none-taken-31 j a.state w a.intervals.now a.n c23.requires.1 _
-    (sym (c7.agree.ensures.0 j a.areas.now O.tabled O.kinds_are O.copies_are) ∙ c.if-agree.false)
+    λ j O z. c.none_taken.ensures w ∙ none-taken-31 j a.state w a.intervals.now a.n c.requires.1 _
+    (sym (c.agree.ensures.0 j a.areas.now O.tabled O.kinds_are O.copies_are) ∙ c.if-agree.false)

@@ -7,22 +7,22 @@ use Rattle.next_copies.proofs.take_all.last_verdict.Goals as goal
 pub returns-then-run-n : goal.returns-then-run-n
 returns-then-run-n c = let a = c.args in
     let r = a.run in
-    sym (ap (λ v. last_verdict v r.last.fits r.took a.n) c.in-Accepted.is
+    sym (ap (λ v. last_verdict v r.last.fits r.took a.n) c.in-Ok.is
     ∙ ap (λ t. ended_by t r.last.fits) (eq-eqb r.took a.n c.if-run-n.true))
 
 pub returns-then-last : goal.returns-then-last
 returns-then-last c = let a = c.args in
     let r = a.run in
-    sym (ap (λ v. last_verdict v r.last.fits r.took a.n) c.in-Accepted.is
+    sym (ap (λ v. last_verdict v r.last.fits r.took a.n) c.in-Ok.is
     ∙ ap₂ (λ t f. ended_by t f) (ne_eqb r.took a.n c.if-run-n.false) c.if-last.true)
 
-pub returns-in-Refused : goal.returns-in-Refused
-returns-in-Refused c = let a = c.args in
+pub returns-in-Err : goal.returns-in-Err
+returns-in-Err c = let a = c.args in
     let r = a.run in
-    sym (ap (λ v. last_verdict v r.last.fits r.took a.n) c.in-Refused.is)
+    sym (ap (λ v. last_verdict v r.last.fits r.took a.n) c.in-Err.is)
 
 pub returns-else-last : goal.returns-else-last
 returns-else-last c = let a = c.args in
     let r = a.run in
-    sym (ap (λ v. last_verdict v r.last.fits r.took a.n) c.in-Accepted.is
+    sym (ap (λ v. last_verdict v r.last.fits r.took a.n) c.in-Ok.is
     ∙ ap₂ (λ t f. ended_by t f) (ne_eqb r.took a.n c.if-run-n.false) c.if-last.false)

@@ -9,46 +9,31 @@ use Rattle.next_copies.proofs.take_all.Begin.{sheet-within, begun, going_in, equ
 use Rattle.next_copies.proofs.take_all.run_state.Goals as goal
 
 pub overflow_mul-end : goal.overflow_mul-end
-overflow_mul-end c = let c16 = c in
-    let c22 = c16 in
-    let a = c22.args in record {
-      fits = six a.state.tables.sheet_strips (length a.sheet.now) (sheet-within c22.requires.0.1)
-          c22.well_formed.1.1.1.1.1.0.0;
-    }
+overflow_mul-end c = let a = c.args in record {
+  fits = six a.state.tables.sheet_strips (length a.sheet.now) (sheet-within c.requires.0.1)
+      c.well_formed.1.1.1.1.1.0.0;
+}
 
 pub slice_bounds-take_copies-end : goal.slice_bounds-take_copies-end
-slice_bounds-take_copies-end c = let c16 = c in
-    let c25 = c16 in
-    let g = c25.well_formed.1.0.1.1 in sym g.1.0.1.0.1
+slice_bounds-take_copies-end c = let g = c.well_formed.1.0.1.1 in sym g.1.0.1.0.1
 
 pub slice_bounds-take_copies-end-2 : goal.slice_bounds-take_copies-end-2
-slice_bounds-take_copies-end-2 c = let c16 = c in
-    let c26 = c16 in
-    let t = c26.well_formed.1.0.1.1.0.1.1 in sym t.1.1.1.1.0.1.0.1
+slice_bounds-take_copies-end-2 c = let t = c.well_formed.1.0.1.1.0.1.1 in sym t.1.1.1.1.0.1.0.1
 
 pub slice_bounds-take_copies-end-3 : goal.slice_bounds-take_copies-end-3
-slice_bounds-take_copies-end-3 c = let c16 = c in
-    let c27 = c16 in
-    let t = c27.well_formed.1.0.1.1.0.1.1 in sym t.1.1.1.1.1.0.1.0.1
+slice_bounds-take_copies-end-3 c = let t = c.well_formed.1.0.1.1.0.1.1 in sym t.1.1.1.1.1.0.1.0.1
 
 pub slice_bounds-take_copies-end-4 : goal.slice_bounds-take_copies-end-4
-slice_bounds-take_copies-end-4 c = let c16 = c in
-    let c28 = c16 in
-    let a = c28.args in sym (length-take-le (6 * a.state.tables.sheet_strips) a.sheet.now (sheet-within c28.requires.0.1))
+slice_bounds-take_copies-end-4 c = let a = c.args in sym (length-take-le (6 * a.state.tables.sheet_strips) a.sheet.now (sheet-within c.requires.0.1))
 
 pub slice_bounds-take_copies-end-5 : goal.slice_bounds-take_copies-end-5
 slice_bounds-take_copies-end-5 c = sym (length-replicate {A = ℕ} 512 0)
 
 pub take_copies-requires : goal.take_copies-requires
-take_copies-requires c = let c15 = c in
-    let c16 = c15 in
-    let c32 = c16 in
-    let c35 = c32 in
-    let c39 = c35 in
-    let a = c39.args in
+take_copies-requires c = let a = c.args in
     let s = a.state in
-    let p = c39.requires in
-    let g = c39.well_formed.1.0.1.1 in
+    let p = c.requires in
+    let g = c.well_formed.1.0.1.1 in
     let t = g.0.1.1 in
     let b = t.1.0.1.1 in
     let i = t.1.1.1.1.0 in
@@ -57,7 +42,7 @@ take_copies-requires c = let c15 = c in
         p.0.0,
         s.tables,
         a.sheet.now,
-        begun B c16.grid_of.result c16.grid_of.ensures i.1.0.1
+        begun B c.grid_of.result c.grid_of.ensures i.1.0.1
             t.1.1.1.1.1.0.1.0.1 g.1.0.1.0.1
             (subst T (sym t.0.1) tt) (record {
               left = subst T (sym b.0.1) tt;
@@ -65,7 +50,7 @@ take_copies-requires c = let c15 = c in
               right = subst T (sym b.1.1.0.1) tt;
               top = subst T (sym b.1.1.1.0.1) tt;
             }) (each-fit s.tables.inset_bounds i.0 i.1.1) c.type_inv.sheet,
-        going_in B a.tracks.now a.orientation.now a.x.now a.y.now a.gap.now p.1 c15.totals_of.result c15.totals_of.ensures,
+        going_in B a.tracks.now a.orientation.now a.x.now a.y.now a.gap.now p.1 c.totals_of.result c.totals_of.ensures,
       ),
       p.2,
       p.3,
@@ -73,26 +58,19 @@ take_copies-requires c = let c15 = c in
     )
 
 pub returns : goal.returns
-returns c = let c16 = c in
-    let c21 = c16 in
-    let c37 = c21 in
-    let c38 = c37 in
-    let c54 = c38 in
-    let c57 = c54 in
-    let c61 = c57 in
-    let a = c61.args in
+returns c = let a = c.args in
     let s = a.state in
-    let p = c61.requires in
-    let g = c61.well_formed.1.0.1.1 in
+    let p = c.requires in
+    let g = c.well_formed.1.0.1.1 in
     let t = g.0.1.1 in
     let b = t.1.0.1.1 in
     let i = t.1.1.1.1.0 in
-    let e = c21.take_copies.ensures in (
+    let e = c.take_copies.ensures in (
       (λ j intervals n B l m.
-          equal_in B a.tracks.now a.orientation.now a.x.now a.y.now a.gap.now p.1 c37.totals_of.result c37.totals_of.ensures _ n
+          equal_in B a.tracks.now a.orientation.now a.x.now a.y.now a.gap.now p.1 c.totals_of.result c.totals_of.ensures _ n
           _
           (e.0 j s.tables a.sheet.now intervals n
-          (begun B c38.grid_of.result c38.grid_of.ensures i.1.0.1
+          (begun B c.grid_of.result c.grid_of.ensures i.1.0.1
           t.1.1.1.1.1.0.1.0.1 g.1.0.1.0.1
           (subst T (sym t.0.1) tt) (record {
             left = subst T (sym b.0.1) tt;
@@ -100,7 +78,7 @@ returns c = let c16 = c in
             right = subst T (sym b.1.1.0.1) tt;
             top = subst T (sym b.1.1.1.0.1) tt;
           }) (each-fit s.tables.inset_bounds i.0 i.1.1) c.type_inv.sheet)
-          (going_in B a.tracks.now a.orientation.now a.x.now a.y.now a.gap.now p.1 c37.totals_of.result c37.totals_of.ensures) l
+          (going_in B a.tracks.now a.orientation.now a.x.now a.y.now a.gap.now p.1 c.totals_of.result c.totals_of.ensures) l
           m)),
       e.1,
       e.2,

@@ -5,6 +5,3 @@ use Rattle.placement.proofs.range.among.Given as goal
 
 abbrev pub invariant-loop-c : goal.invariant-loop-c
 invariant-loop-c l = among_columns (column_x l.k) l.c l.x ≡ among_columns (column_x l.k) l.last l.x
-
-abbrev pub decreases-loop-c : goal.decreases-loop-c
-decreases-loop-c l = l.c

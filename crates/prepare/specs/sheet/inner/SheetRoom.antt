@@ -1,13 +1,13 @@
 -- For inner functions' contracts only: the sheet's rooms after its strips are laid and entered. Definitions only. Assumes nothing.
-use Rattle.std.specs.Prelude.{ℕ, ◌≤◌, ◌<◌, ◌≡◌, List, length, Float}
+use Rattle.std.specs.Prelude.{Result, Ok, Err, ℕ, ◌≤◌, ◌<◌, ◌≡◌, List, length, Float}
 use Rattle.trapezoid.specs.Strip.{capacity}
 use Rattle.index.specs.Buckets.{standing_capacity}
 use Rattle.index.specs.inner.Listing.{Laid, FirstBuckets}
 use Rattle.strips.specs.declared.Rect.{Rect}
 use Rattle.filling.specs.Rooms.{laid}
 use Rattle.filling.specs.Consistent.{sheet_index, entries_for, firsts_for}
-use Rattle.prepare.specs.declared.sheet.SheetLaid.{SheetLaid}
-use Rattle.prepare.specs.declared.sheet.SheetLaid.TheVariants as Sheet
+use Rattle.index.specs.declared.Overrun.{Overrun}
+use Rattle.index.specs.declared.Overrun.TheVariants as Room
 
 -- strips s within the bounds b, their entries, the starts of the buckets, and the strips' first buckets
 pub record SheetIn (b : Rect) (s : List Float) (n : ℕ) (sheet₀ sheet : List Float) (entries₀ entries starts firsts₀ firsts : List ℕ) : Type 0 where
@@ -20,10 +20,10 @@ pub record SheetIn (b : Rect) (s : List Float) (n : ℕ) (sheet₀ sheet : List 
   pub firsts_are : firsts ≡ laid (firsts_for b s) firsts₀
   pub kept : FirstBuckets (sheet_index b) s (capacity s) firsts
 
--- they are laid, or the strips do not fit, or the entries do not
-abbrev pub SheetIs : SheetLaid → Rect → List Float → List Float → List Float → List ℕ → List ℕ → List ℕ → List ℕ → List ℕ → Type 0
-SheetIs (Sheet.Strips r n) b s sheet₀ sheet entries₀ entries starts firsts₀ firsts =
-    (r ≡ b) × SheetIn b s n sheet₀ sheet entries₀ entries starts firsts₀ firsts
-SheetIs Sheet.NoStrips b s sheet₀ sheet entries₀ entries starts firsts₀ firsts = standing_capacity sheet₀ firsts₀ < capacity s
-SheetIs Sheet.NoEntries b s sheet₀ sheet entries₀ entries starts firsts₀ firsts =
+-- they are laid, or the strips do not fit, or the entries do not; no interval is looked for
+abbrev pub SheetIs : Result (Rect × ℕ) Overrun → Rect → List Float → List Float → List Float → List ℕ → List ℕ → List ℕ → List ℕ → List ℕ → Type 0
+SheetIs (Ok (r, n)) b s sheet₀ sheet entries₀ entries starts firsts₀ firsts = (r ≡ b) × SheetIn b s n sheet₀ sheet entries₀ entries starts firsts₀ firsts
+SheetIs (Err Room.StripRoom) b s sheet₀ sheet entries₀ entries starts firsts₀ firsts = standing_capacity sheet₀ firsts₀ < capacity s
+SheetIs (Err Room.EntryRoom) b s sheet₀ sheet entries₀ entries starts firsts₀ firsts =
     (capacity s ≤ standing_capacity sheet₀ firsts₀) × (length entries₀ < length (entries_for b s))
+SheetIs (Err Room.IntervalRoom) b s sheet₀ sheet entries₀ entries starts firsts₀ firsts = ⊥

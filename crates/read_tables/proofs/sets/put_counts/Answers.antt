@@ -5,7 +5,7 @@ use Rattle.read_tables.proofs.sets.put_counts.Goals as goal
 
 pub returns : goal.returns
 returns c = (
-  stored-then _ _ _ _ _ _ _ _ (stored_one _ _ _ _ c.store_number.ensures)
+  stored-then _ _ _ _ _ _ _ _ (stored_one _ _ _ _ c.store.ensures)
       c.put_loops.ensures,
   search rules,
 )

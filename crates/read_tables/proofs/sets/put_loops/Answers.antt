@@ -11,19 +11,15 @@ use borrow.Author.Rules.{rules}
 use Rattle.read_tables.proofs.sets.put_loops.Goals as goal
 
 pub loop-i-init : goal.loop-i-init
-loop-i-init c = let c2 = c in
-    (search rules, stored_as _ _ _ _ _ _ _ (no_loops 0 c2.args.ends.now) (sym (add-zero _)) (stored-none _ _), no_last c2.args.ends.now)
+loop-i-init c = (search rules, stored_as _ _ _ _ _ _ _ (no_loops 0 c.args.ends.now) (sym (add-zero _)) (stored-none _ _), no_last c.args.ends.now)
 
 pub loop-i-preserved : goal.loop-i-preserved
-loop-i-preserved c = let c7 = c in
-    let r = loops_on _ _ _ _ _ _ _ _ c7.loop-i.invariant.1 c7.loop-i.invariant.2 (search rules) c.difference.ensures
-    c.store_number.ensures in (search rules, r.0, r.1)
+loop-i-preserved c = let r = loops_on _ _ _ _ _ _ _ _ c.loop-i.invariant.1 c.loop-i.invariant.2 (search rules) c.saturating_sub.ensures
+    c.store.ensures in (search rules, r.0, r.1)
 
 pub shape_of-counts : goal.shape_of-counts
 shape_of-counts c = stored-long _ _ _ _ _ c.loop-i.invariant.1
 
 pub returns : goal.returns
-returns c = let c1 = c in
-    let c4 = c1 in
-    let e : c1.loop-i.i ≡ c4.args.n = omega (arith, c1.loop-i.invariant.0) in stored_as _ _ _ _ _ _ _
-    (ap (λ (k : ℕ). loop_counts 0 (take k c4.args.ends.now)) e) (ap (λ (k : ℕ). c4.args.at + k) e) c1.loop-i.invariant.1
+returns c = let e : c.loop-i.i ≡ c.args.n = omega (arith, c.loop-i.invariant.0) in stored_as _ _ _ _ _ _ _
+    (ap (λ (k : ℕ). loop_counts 0 (take k c.args.ends.now)) e) (ap (λ (k : ℕ). c.args.at + k) e) c.loop-i.invariant.1

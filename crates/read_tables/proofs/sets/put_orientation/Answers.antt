@@ -6,10 +6,8 @@ use Rattle.read_tables.proofs.sets.put_orientation.Goals as goal
 
 pub returns : goal.returns
 unfolding orientation_at
-returns c = let c8 = c in
-    let c22 = c8 in
-    let c34 = c22 in (
-      orientation-put c34.args.bytes.now c34.args.places.now c34.args.slot _ _ _ _ _ _ _ _ _ c22.put_set-v.ensures.0
-          c8.put_set.ensures.0,
-      (omega (arith, c22.put_set-v.ensures.1.0, c8.put_set.ensures.1.0), omega (arith, c22.put_set-v.ensures.1.1, c8.put_set.ensures.1.1)),
-    )
+returns c = (
+  orientation-put c.args.bytes.now c.args.places.now c.args.slot _ _ _ _ _ _ _ _ _ c.put_set-v.ensures.0
+      c.put_set.ensures.0,
+  (omega (arith, c.put_set-v.ensures.1.0, c.put_set.ensures.1.0), omega (arith, c.put_set-v.ensures.1.1, c.put_set.ensures.1.1)),
+)

@@ -15,17 +15,15 @@ pub loop-i-preserved : goal.loop-i-preserved
 loop-i-preserved c = (
   search rules,
   table_on _ _ _ _ _ _ _ c.loop-i.invariant.1 (search rules)
-      c.store_double.ensures,
+      c.store.ensures,
 )
 
 pub shape_of-out : goal.shape_of-out
 shape_of-out c = stored-long _ _ _ _ _ c.loop-i.invariant.1
 
 pub returns : goal.returns
-returns c = let c1 = c in
-    let c4 = c1 in
-    let e : c1.loop-i.i ≡ c4.args.n = omega (arith, c1.loop-i.invariant.0) in (
-      stored_as _ _ _ _ _ _ _ (ap (λ (k : ℕ). take k c4.args.table.now) e)
-          (ap (λ (k : ℕ). c4.args.at + k) e) c1.loop-i.invariant.1,
-      search rules,
-    )
+returns c = let e : c.loop-i.i ≡ c.args.n = omega (arith, c.loop-i.invariant.0) in (
+  stored_as _ _ _ _ _ _ _ (ap (λ (k : ℕ). take k c.args.table.now) e)
+      (ap (λ (k : ℕ). c.args.at + k) e) c.loop-i.invariant.1,
+  search rules,
+)

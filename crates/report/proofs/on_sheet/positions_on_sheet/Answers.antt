@@ -10,20 +10,13 @@ loop-i-init c = let a = c.args in
     (omega arith, refl, back_none a.f a.room.now)
 
 pub position_on_sheet-requires : goal.position_on_sheet-requires
-position_on_sheet-requires c = omega (arith, c.loop-i.invariant.1, c.loop-i-test.true, c.requires)
-
-pub overflow_add-i : goal.overflow_add-i
-overflow_add-i c = omega (arith, c.loop-i-test.true)
-
-pub loop-i-smaller : goal.loop-i-smaller
-loop-i-smaller c = omega (arith, c.loop-i-test.true)
+position_on_sheet-requires c = omega (arith, c.loop-i.invariant.1, c.requires)
 
 pub loop-i-preserved : goal.loop-i-preserved
-loop-i-preserved c = let c7 = c in
-    let a = c7.args in
+loop-i-preserved c = let a = c.args in
     let l = c.loop-i in
     let p = c.position_on_sheet in (
-      omega (arith, c.loop-i-test.true),
+      omega arith,
       p.auto.room ∙ l.invariant.1,
       p.ensures ∙ back-next a.f a.room.now l.room l.i l.invariant.2,
     )
@@ -34,5 +27,5 @@ shape_of-room c = c.loop-i.invariant.1
 pub returns : goal.returns
 returns c = let a = c.args in
     let l = c.loop-i in
-    let e : l.i ≡ a.n = omega (arith, l.invariant.0, c.loop-i-test.false) in
+    let e : l.i ≡ a.n = omega (arith, l.invariant.0) in
     l.invariant.2 ∙ ap (back_to a.f a.room.now) e

@@ -2,27 +2,9 @@
 use Prim.Native.Nat.{ℕ}
 use native.Mathlib.Omega.{arith}
 use mathlib.Core.Path.{refl}
-use lib.ListN.{length-set, get_or}
-use Rattle.rooms.proofs.tracks.Laying.{Laid, laid_none, laid_on, laid_firsts, laid_seconds}
+use lib.ListN.{get_or}
+use Rattle.rooms.proofs.tracks.Laying.{Laid, laid_firsts, laid_seconds}
 use Rattle.rooms.proofs.tracks.join.Goals as goal
-
-pub loop-i-init : goal.loop-i-init
-loop-i-init c = (omega arith, refl, c.requires.2, laid_none _ _ c.args.tracks.now)
-
-pub bounds-tracks-i-in-loop-i : goal.bounds-tracks-i-in-loop-i
-bounds-tracks-i-in-loop-i c = simp length-set (omega arith)
-
-pub loop-i-preserved : goal.loop-i-preserved
-loop-i-preserved c = let l = c.loop-i in
-    let a = c.args in (
-      omega arith,
-      simp length-set l.invariant.1,
-      simp length-set l.invariant.2,
-      laid_on (λ p. get_or a.next_column.now p 0) (λ p. get_or a.look_counts.now p 0) l.tracks l.i _ _ (omega arith) refl refl l.invariant.3,
-    )
-
-pub shape_of-tracks : goal.shape_of-tracks
-shape_of-tracks c = c.loop-i.invariant.1
 
 pub returns : goal.returns
 returns c = let l = c.loop-i in

@@ -1,4 +1,4 @@
-use Prim.Native.Nat.{◌-◌, ◌≤◌}
+use Prim.Native.Nat.{◌≤◌}
 use mathlib.Core.Path.{◌≡◌}
 use lib.ListN.{length}
 use Rattle.rooms.specs.tracks.inner.Tracks.{slot_numbers}
@@ -7,6 +7,3 @@ use Rattle.rooms.proofs.tracks.reset.Given as goal
 
 abbrev pub invariant-loop-i : goal.invariant-loop-i
 invariant-loop-i l = (l.i ≤ 1024) × (length l.tracks ≡ length l.initial.tracks) × (slot_numbers ≤ length l.tracks) × Laid (λ _. 1) (λ _. 0) l.i l.tracks
-
-abbrev pub decreases-loop-i : goal.decreases-loop-i
-decreases-loop-i l = 1024 - l.i

@@ -1,10 +1,10 @@
 -- For inner functions' contracts only: the shapes by slot in the job's frame, as its tables tell them. `rows` has four numbers to a kind, the last its
 -- orientations; `places` has two to a slot, where its apart set begins and where its inset set begins. Definitions only. Assumes nothing.
-use Rattle.std.specs.Prelude.{ℕ, zero, suc, ◌+◌, ◌*◌, ◌/◌, ◌%◌, ◌≤◌, ◌<◌, ◌≡◌, ◌≢◌, Bool, true, false, ◌&&◌, List, [], ◌++◌, length, get_or, ltb, Float}
+use Rattle.std.specs.Prelude.{Option, Some, None, ℕ, zero, suc, ◌+◌, ◌*◌, ◌/◌, ◌%◌, ◌≤◌, ◌<◌, ◌≡◌}
+use Rattle.std.specs.Prelude.{◌≢◌, Bool, true, false, ◌&&◌, List, [], ◌++◌, length, get_or, ltb, Float}
 use Rattle.trapezoid.specs.declared.Trapezoid.{Trapezoid}
 use Rattle.trapezoid.specs.Strip.{flat, capacity}
 use Rattle.strips.specs.declared.Rect.{Rect}
-use Rattle.strips.specs.declared.Stored.{Stored}
 use Rattle.strips.specs.inner.Tables as Tables
 use Rattle.filling.specs.Shapes.{Shape, set_bounds, no_bounds}
 use Rattle.filling.specs.State.{bounds_at}
@@ -23,7 +23,8 @@ slot_strips f bytes rows places kinds which i = elim (in_use rows kinds i) [ tru
 
 -- the inset bounds of slot i
 unfoldable pub slot_bounds : Frame → List ℕ → List ℕ → List ℕ → ℕ → ℕ → Rect
-slot_bounds f bytes rows places kinds i = elim (in_use rows kinds i) [ true ↦ set_bounds (framed f (set_at bytes (get_or places (2 * i + 1) 0))) | false ↦ no_bounds ]
+slot_bounds f bytes rows places kinds i =
+    elim (in_use rows kinds i) [ true ↦ set_bounds (framed f (set_at bytes (get_or places (2 * i + 1) 0))) | false ↦ no_bounds ]
 
 -- the shape of slot i
 unfoldable pub slot_of : Frame → List ℕ → List ℕ → List ℕ → ℕ → ℕ → Shape
@@ -49,10 +50,10 @@ pub record Column (which : ℕ) (f : ℕ → List Trapezoid) (n : ℕ) (old new 
   pub other : (i r : ℕ) → r < 4 → r ≢ 2 * which → r ≢ 2 * which + 1 → get_or new (4 * i + r) 0 ≡ get_or old (4 * i + r) 0
 
 -- the strips of n slots lie in the room from strip number `from` on, or do not fit
-abbrev pub SlotsLaid : Stored → ℕ → (ℕ → List Trapezoid) → ℕ → ℕ → List Float → List Float → List ℕ → List ℕ → Type 0
-SlotsLaid (Stored.Count m) which f n from room₀ room parts₀ parts =
+abbrev pub SlotsLaid : Option ℕ → ℕ → (ℕ → List Trapezoid) → ℕ → ℕ → List Float → List Float → List ℕ → List ℕ → Type 0
+SlotsLaid (Some m) which f n from room₀ room parts₀ parts =
     (m ≡ length (strips_to f n)) × (6 * (from + m) ≤ length room₀) × (room ≡ Tables.strips_laid (strips_to f n) room₀ from) × Column which f n parts₀ parts
-SlotsLaid Stored.NoRoom which f n from room₀ room parts₀ parts = capacity room₀ < from + length (strips_to f n)
+SlotsLaid None which f n from room₀ room parts₀ parts = capacity room₀ < from + length (strips_to f n)
 
 -- the bounds of the first n slots
 pub record BoundsTo (f : ℕ → Rect) (n : ℕ) (old new : List Float) : Type 0 where

@@ -1,5 +1,4 @@
-use Prim.Native.Nat.{◌≤◌, ◌-◌}
-use lib.ListN.{length}
+use Prim.Native.Nat.{◌-◌}
 use lib.Ieee.{lt}
 use mathlib.Core.Path.{◌≡◌}
 use Rattle.slabs.proofs.Sorting.{over}
@@ -9,7 +8,4 @@ use Rattle.slabs.proofs.xs.Lines.{at}
 use Rattle.slabs.proofs.xs.insert_x.Given as goal
 
 abbrev pub invariant-loop-k : goal.invariant-loop-k
-invariant-loop-k l = (l.k ≤ l.n) × (length l.line ≡ length l.initial.line) × (over (at l.line) l.k (l.n - l.k) (insert lt l.x (down (at l.line) l.k)) ≡ insert lt l.x (down (at l.initial.line) l.n))
-
-abbrev pub decreases-loop-k : goal.decreases-loop-k
-decreases-loop-k l = l.k
+invariant-loop-k l = over (at l.line) l.k (l.n - l.k) (insert lt l.x (down (at l.line) l.k)) ≡ insert lt l.x (down (at l.initial.line) l.n)

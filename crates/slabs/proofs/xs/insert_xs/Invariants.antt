@@ -1,5 +1,4 @@
 use Prim.Native.Nat.{◌+◌, ◌≤◌, ◌-◌}
-use lib.ListN.{length}
 use lib.Ieee.{Float, lt}
 use mathlib.Core.Path.{◌≡◌}
 use mathlib.Core.List.{List, ◌++◌}
@@ -10,7 +9,4 @@ use Rattle.slabs.specs.xs.inner.Xs.{x_at}
 use Rattle.slabs.proofs.xs.insert_xs.Given as goal
 
 abbrev pub invariant-loop-i : goal.invariant-loop-i
-invariant-loop-i w = (w.first ≤ w.i) × (w.i ≤ w.n) × (w.k ≡ w.m + (w.n - w.i)) × (length w.line ≡ length w.initial.line) × ((l : List Float) → down (at w.initial.line) w.m ≡ sort lt l → down (at w.line) w.k ≡ sort lt (up (x_at w.points) w.i (w.n - w.i) ++ l))
-
-abbrev pub decreases-loop-i : goal.decreases-loop-i
-decreases-loop-i l = l.i
+invariant-loop-i w = (w.first ≤ w.i) × (w.k ≡ w.m + (w.n - w.i)) × ((l : List Float) → down (at w.initial.line) w.m ≡ sort lt l → down (at w.line) w.k ≡ sort lt (up (x_at w.points) w.i (w.n - w.i) ++ l))

@@ -1,7 +1,6 @@
 -- How points lie, for inner functions' contracts. No sentence of document 01 stands here. Assumes nothing.
-use Rattle.std.specs.Prelude.{ℕ, ◌*◌, ◌≡◌, Bool, true, cond, List, [], ◌∷◌, get_or, T, Float}
-use Rattle.std.specs.Float.{nan, binary64}
-use Rattle.std.specs.Float.Ieee.{eq, fits}
+use Rattle.std.specs.Prelude.{ℕ, ◌*◌, Bool, cond, List, [], ◌∷◌, get_or, Float}
+use Rattle.std.specs.Float.{nan}
 
 -- the x of point i, where points lie as x, y, x, y, ..
 unfoldable pub x_at : List Float → ℕ → Float
@@ -10,7 +9,3 @@ x_at pts i = get_or pts (2 * i) nan
 -- two numbers, or none
 unfoldable pub sides : Bool → Float → Float → List Float
 sides two left right = cond two (left ∷ right ∷ []) []
-
--- a double that equals itself, so no NaN
-unfoldable pub Number : Float → Type 0
-Number x = T (fits binary64 x) × (eq x x ≡ true)

@@ -6,28 +6,24 @@ use Rattle.take_copy.proofs.copy_tests.Testing.{told-strips, copy-strips, copy-l
 use Rattle.take_copy.proofs.copy_tests.copy_fits.Goals as goal
 
 pub returns-then-not-strips_fit : goal.returns-then-not-strips_fit
-returns-then-not-strips_fit c = let c8 = c in
-    let a = c8.args in
+returns-then-not-strips_fit c = let a = c.args in
     sym (copy-strips a.g a.copy a.taken a.strips a.step a.inset_bounds.now a.placed.now a.tracks.now
     (failed (told-strips a.g a.copy a.taken a.strips a.step a.inset_bounds.now a.placed.now a.tracks.now
     c.strips_fit.ensures)
     (ap not c.if-not-strips_fit.true)))
 
 pub returns-then-not-layout_fits : goal.returns-then-not-layout_fits
-returns-then-not-layout_fits c = let c10 = c in
-    let a = c10.args in
+returns-then-not-layout_fits c = let a = c.args in
     sym (copy-layout a.g a.copy a.taken a.strips a.step a.inset_bounds.now a.placed.now a.tracks.now
     (passed (told-strips a.g a.copy a.taken a.strips a.step a.inset_bounds.now a.placed.now a.tracks.now
     c.strips_fit.ensures)
     (ap not c.if-not-strips_fit.false)) (failed c.layout_fits.ensures (ap not c.if-not-layout_fits.true)))
 
 pub tracks_fit-requires : goal.tracks_fit-requires
-tracks_fit-requires c = let c10 = c in
-    let p = c10.requires in (p.2, p.3, p.4, p.5, p.6, p.7, p.8)
+tracks_fit-requires c = let p = c.requires in (p.2, p.3, p.4, p.5, p.6, p.7, p.8)
 
 pub returns-then-not-tracks_fit : goal.returns-then-not-tracks_fit
-returns-then-not-tracks_fit c = let c12 = c in
-    let a = c12.args in
+returns-then-not-tracks_fit c = let a = c.args in
     sym (copy_tracks a.g a.copy a.taken a.strips a.step a.inset_bounds.now a.placed.now a.tracks.now
     (passed (told-strips a.g a.copy a.taken a.strips a.step a.inset_bounds.now a.placed.now a.tracks.now
     c.strips_fit.ensures)
@@ -35,8 +31,7 @@ returns-then-not-tracks_fit c = let c12 = c in
     (failed c.tracks_fit.ensures (ap not c.if-not-tracks_fit.true)))
 
 pub returns : goal.returns
-returns c = let c13 = c in
-    let a = c13.args in
+returns c = let a = c.args in
     c.outcome_fits.ensures ∙ copy_outcome a.g a.copy a.taken a.strips a.step a.inset_bounds.now a.placed.now a.tracks.now
     (passed (told-strips a.g a.copy a.taken a.strips a.step a.inset_bounds.now a.placed.now a.tracks.now
     c.strips_fit.ensures)

@@ -6,14 +6,14 @@ use Rattle.take_copy.proofs.turn.back_if_refused.Goals as goal
 pub put_back-requires : goal.put_back-requires
 put_back-requires c = c.requires
 
-pub returns-in-Accepted : goal.returns-in-Accepted
-returns-in-Accepted c = ((λ h. refl), (λ k h. absurd (accepted≢refused (sym c.in-Accepted.is ∙ h))))
+pub returns-in-Ok : goal.returns-in-Ok
+returns-in-Ok c = ((λ h. refl), (λ k h. absurd (accepted≢refused (sym c.in-Ok.is ∙ h))))
 
 pub shape_of-tracks : goal.shape_of-tracks
 shape_of-tracks c = c.put_back.auto.tracks
 
-pub returns-in-Refused : goal.returns-in-Refused
-returns-in-Refused c = (
-  (λ h. absurd (refused≢accepted (sym c.in-Refused.is ∙ h))),
+pub returns-in-Err : goal.returns-in-Err
+returns-in-Err c = (
+  (λ h. absurd (refused≢accepted (sym c.in-Err.is ∙ h))),
   (λ k h. c.put_back.ensures),
 )

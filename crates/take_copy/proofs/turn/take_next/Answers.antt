@@ -7,18 +7,13 @@ use borrow.Author.Rules.{rules}
 use Rattle.step.proofs.Allowed.{taken-few, slots-few}
 use Rattle.take_copy.proofs.turn.KeptTurn.{grown}
 use Rattle.take_copy.proofs.turn.Passes.{turn_passes}
-use Rattle.take_copy.proofs.turn.Turns.{doubles, slot_room, few-turns, turn_counts, turn_fixed, turn_standing, turn_apart}
-use Rattle.take_copy.proofs.turn.Turns.{turn_sheet_firsts, turn_firsts}
+use Rattle.take_copy.proofs.turn.Turns.{doubles, slot_room, few-turns, turn_counts, turn_fixed, turn_standing, turn_apart, turn_sheet_firsts, turn_firsts}
 use Rattle.take_copy.proofs.turn.Turns.{turn_bounds, turn_resolving, turn_long, turn_shapes, code_now, turn_step, laid_by, kept_by}
 use Rattle.take_copy.proofs.turn.take_next.Goals as goal
 
 pub place_kept-step-requires : goal.place_kept-step-requires
-place_kept-step-requires c = let c16 = c in
-    let c18 = c16 in
-    let c22 = c18 in
-    let c25 = c22 in
-    let a = c25.args in
-    let p = c25.requires in
+place_kept-step-requires c = let a = c.args in
+    let p = c.requires in
     let q = p.0 in
     let B = q.6 in
     let G = q.7 in
@@ -37,19 +32,13 @@ place_kept-step-requires c = let c16 = c in
     )
 
 pub turned-requires : goal.turned-requires
-turned-requires c = let c16 = c in
-    let c20 = c16 in
-    let c36 = c20 in
-    let c39 = c36 in
-    let c43 = c39 in
-    let c46 = c43 in
-    let a = c46.args in
-    let p = c46.requires in
+turned-requires c = let a = c.args in
+    let p = c.requires in
     let q = p.0 in
     let B = q.6 in
     let G = q.7 in
     let k = a.tracks.now in
-    let s = c20.place_kept-step in
+    let s = c.place_kept-step in
     let D = doubles B k G c.type_inv.shapes (search rules) in (
       grown _ _ _ _ _ _ _ _ _ _ _ _ _ _ _ _ _ _ s.ensures.0.1,
       s.ensures.1.room,
@@ -65,21 +54,16 @@ turned-requires c = let c16 = c in
     )
 
 pub returns : goal.returns
-returns c = let c8 = c in
-    let c24 = c8 in
-    let c29 = c24 in
-    let c45 = c29 in
-    let c55 = c45 in
-    let a = c55.args in
-    let s = c29.place_kept-step in
-    let u = c8.turned in
+returns c = let a = c.args in
+    let s = c.place_kept-step in
+    let u = c.turned in
     let k = a.tracks.now in
     let e = u.ensures in (
       (λ j b order rows areas whole intervals B G f l. (
         turn_step B k G intervals s.result s.ensures.0.0 _ _ _ _ _ u.result.totals e.1 _ _ _ _
             (s.ensures.0.1 ∙ code_now B k G intervals a.room.now l a.copy f)
             s.ensures.3 u.result.verdict e.0 s.ensures.0.2 s.ensures.0.3 e.3 e.4 e.5 e.6,
-        (λ h. e.2 h ∙ turn_passes B k G c55.requires.1 a.copy f s.result u.result.totals e.1 u.result.verdict h _ _ _ _ _ _ _ _
+        (λ h. e.2 h ∙ turn_passes B k G c.requires.1 a.copy f s.result u.result.totals e.1 u.result.verdict h _ _ _ _ _ _ _ _
             e.3 e.4 e.5 e.6),
       )),
       laid_by _ _ _ _ _ s.result.totals e.1 s.ensures.1,

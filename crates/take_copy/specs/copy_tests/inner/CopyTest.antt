@@ -1,5 +1,6 @@
 -- For inner functions' contracts only: 31's tests of what a copy wrote, in the code's order. That they are the definition's is proved in
 -- proofs/copy_tests. Definitions only. Assumes nothing.
+use Rattle.std.specs.Prelude.{Some, None, Ok, Err}
 use Rattle.std.specs.Prelude.{ℕ, ◌+◌, ◌*◌, Bool, true, ◌&&◌, List, get_or, take, drop, Float}
 use Rattle.strips.specs.declared.Rect.{Rect}
 use Rattle.index.specs.Buckets.{up_from}
@@ -10,8 +11,7 @@ use Rattle.choose.specs.declared.Choice.{Choice}
 use Rattle.choose.specs.declared.Grid.{Grid}
 use Rattle.choose.specs.inner.Choosing.{bounds_at}
 use Rattle.place.specs.declared.Copy.{Copy}
-use Rattle.place.specs.declared.Outcome.{Outcome}
-use Rattle.place.specs.declared.Outcome.TheVariants.{At, Nowhere, Refused}
+use Rattle.place.specs.inner.Placing.{Outcome}
 use Rattle.place.specs.declared.Step.{Step}
 use Rattle.consistent.specs.slot_tests.inner.Slots.{last_for, track_test}
 
@@ -31,9 +31,9 @@ choice_test p = bounded p.x && (bounded p.y && gap_fits p.gap)
 
 -- a copy without a place has neither
 unfoldable pub outcome_test : Outcome → Bool
-outcome_test (At p) = choice_test p
-outcome_test Nowhere = true
-outcome_test (Refused k) = true
+outcome_test (Ok (Some p)) = choice_test p
+outcome_test (Ok None) = true
+outcome_test (Err k) = true
 
 -- what a copy wrote: r's totals are those after it, before it `strips` strips were placed
 unfoldable pub copy_test : Grid → Copy → ℕ → ℕ → Step → List Float → List Float → List ℕ → Bool

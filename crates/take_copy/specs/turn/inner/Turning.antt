@@ -1,12 +1,11 @@
 -- For inner functions' contracts only: a state that lies in arrays, and what one copy more leaves of it. Definitions only. Assumes nothing.
-use Rattle.std.specs.Prelude.{ℕ, ◌+◌, ◌*◌, ◌≡◌, List, length, set, take, T, Float}
+use Rattle.std.specs.Prelude.{Result, Ok, Err, ℕ, ◌+◌, ◌*◌, ◌≡◌, List, length, set, take, T, Float}
+use Rattle.filling.specs.declared.Refusal.{Refusal}
 use Rattle.std.specs.Float.{binary64}
 use Rattle.std.specs.Float.Ieee.{fits}
 use Rattle.numbers.specs.Numbers.{pos_zero}
 use Rattle.filling.specs.declared.State.{State}
 use Rattle.filling.specs.declared.Tables.{Tables}
-use Rattle.filling.specs.declared.Verdict.{Verdict}
-use Rattle.filling.specs.declared.Verdict.TheVariants.{Accepted, Refused}
 use Rattle.filling.specs.Rooms.{Rooms, zeros}
 use Rattle.filling.specs.NextCopy.{Step}
 use Rattle.rooms.specs.tracks.inner.Tracks.{next_columns, look_counts_from}
@@ -30,20 +29,20 @@ state_in b order taken tracks t orientation x y gap =
     }
 
 -- a refused copy changes nothing
-abbrev pub kept_of : Verdict → List ℕ → List ℕ → List ℕ
-kept_of Accepted before after = after
-kept_of (Refused k) before after = before
+abbrev pub kept_of : Result (Unit {0}) Refusal → List ℕ → List ℕ → List ℕ
+kept_of (Ok tt) before after = after
+kept_of (Err k) before after = before
 
-abbrev pub written_at : {A : Type 0} → Verdict → List A → ℕ → A → List A
-written_at Accepted l n a = set l n a
-written_at (Refused k) l n a = l
+abbrev pub written_at : {A : Type 0} → Result (Unit {0}) Refusal → List A → ℕ → A → List A
+written_at (Ok tt) l n a = set l n a
+written_at (Err k) l n a = l
 
-abbrev pub taken_after : Verdict → ℕ → ℕ
-taken_after Accepted n = n + 1
-taken_after (Refused k) n = n
+abbrev pub taken_after : Result (Unit {0}) Refusal → ℕ → ℕ
+taken_after (Ok tt) n = n + 1
+taken_after (Err k) n = n
 
 -- a verdict with state and rooms after it
-abbrev pub step_in : Verdict → State → Rooms → List Float → Step
+abbrev pub step_in : Result (Unit {0}) Refusal → State → Rooms → List Float → Step
 step_in v s w intervals = record { verdict = v; state = s; rooms = w; intervals = zeros pos_zero intervals }
 
 -- tables and sheet are what the state's tables say; the sheet's room is `whole`

@@ -5,33 +5,19 @@ use native.Mathlib.Omega.{arith}
 use mathlib.Core.Path.{sym, ◌∙◌}
 use lib.ListN.{length}
 use Rattle.job.proofs.Whole.{read_as}
+use Rattle.lines.proofs.Appending.{put-same}
+use Rattle.filling.specs.declared.Refusal.TheVariants as Why
+use Rattle.text.proofs.ByKind.{refusal-most}
+use Rattle.text.proofs.Replies.{reply-most, reply_is}
 use Rattle.text.proofs.printed.Printing.{kinds_few, turns_few, told, of_plan, of_refusal}
 use Rattle.text.proofs.printed.print_reply.Goals as goal
 
-pub slice_bounds-reply_text-end : goal.slice_bounds-reply_text-end
-slice_bounds-reply_text-end c = sym c.read-j.ensures.1
-
-pub slice_bounds-reply_text-end-in-Good : goal.slice_bounds-reply_text-end-in-Good
-slice_bounds-reply_text-end-in-Good c = let c14 = c in
-    sym c14.well_formed.1.1.0.1.1.1.1.1.0.1.0.1
-
-pub slice_bounds-reply_text-end-in-Good-2 : goal.slice_bounds-reply_text-end-in-Good-2
-slice_bounds-reply_text-end-in-Good-2 c = let c15 = c in
-    sym c15.well_formed.1.1.0.1.1.1.1.1.1.0.1.0.1
-
-pub slice_bounds-reply_text-end-in-Good-3 : goal.slice_bounds-reply_text-end-in-Good-3
-slice_bounds-reply_text-end-in-Good-3 c = let c16 = c in
-    sym c16.well_formed.1.1.0.1.1.1.1.1.1.1.0.1.0.1
-
 pub reply_text-requires : goal.reply_text-requires
-reply_text-requires c = let c9 = c in
-    let c16 = c9 in
-    let a = c16.args in
-    let g = c16.well_formed.1.1.0.1.1 in
-    let p = c16.requires in
-    let j = c9.read-j in
+reply_text-requires c = let g = c.well_formed.1.1.0.1.1 in
+    let p = c.requires in
+    let j = c.read-j in
     let r : 256 ≤ length j.result.rows = le_of_eq (sym j.ensures.1) in
-    let e = read_as _ j.result j.ensures.0 c.in-Good.is in
+    let e = read_as _ j.result j.ensures.0 c.in-Ok.is in
     let f = kinds_few _ _ _ _ _ _ _ e in
     let u = g.1.1.1.0.1.0.1 in
     let v = g.1.1.1.1.0.1.0.1 in
@@ -47,21 +33,24 @@ reply_text-requires c = let c9 = c in
       omega (arith, f, w),
     )
 
-pub returns-in-Good : goal.returns-in-Good
-returns-in-Good c = let c9 = c in
-    let c12 = c9 in
-    let c19 = c12 in
-    let a = c19.args in
-    let j = c12.read-j in
-    let t = c.reply_text in
-    let e = read_as _ j.result j.ensures.0 c.in-Good.is in
-    let b = told _ _ _ _ _ _ _ e (le_of_eq (sym j.ensures.1)) (le_of_eq (sym j.ensures.2)) in
-    (t.ensures.0, λ l f. t.ensures.1 _ _ l (λ v. b) f ∙ sym (of_plan _ _ _ _ _ _ _ e (record { verdict = a.verdict; plan = a.plan; lent = l })))
+pub returns-in-Ok : goal.returns-in-Ok
+returns-in-Ok c = let a = c.args in
+    let j = c.read-j in
+    let t = c.reply_text.ensures in
+    let r : 256 ≤ length j.result.rows = le_of_eq (sym j.ensures.1) in
+    let s : 64 ≤ length j.result.areas = le_of_eq (sym j.ensures.2) in
+    let e = read_as _ j.result j.ensures.0 c.in-Ok.is in
+    let m = reply-most j.result.rows c.in-Ok.h.kinds a.positions.now a.plan a.verdict (kinds_few _ _ _ _ _ _ _ e) c.requires.0
+    (turns_few _ _ _ _ _ _ _ e r s) in
+    let b = told _ _ _ _ _ _ _ e r s in (
+      omega (arith, m, t.wrote.next),
+      λ l f. put-same (reply_is _ _ _ b.0 _ b.1 a.verdict a.plan l a.positions.now f
+          ∙ sym (of_plan _ _ _ _ _ _ _ e (record { verdict = a.verdict; plan = a.plan; lent = l }))) t,
+    )
 
-pub returns-in-NoJob : goal.returns-in-NoJob
-returns-in-NoJob c = let c8 = c in
-    let c15 = c8 in
-    let a = c15.args in
-    let t = c.refusal_text in
-    let e = read_as _ c8.read-j.result c8.read-j.ensures.0 c.in-NoJob.is in
-    (let b = t.ensures.0 in omega arith, λ l f. t.ensures.1 ∙ sym (of_refusal _ _ e (record { verdict = a.verdict; plan = a.plan; lent = l })))
+pub returns-in-Err : goal.returns-in-Err
+returns-in-Err c = let a = c.args in
+    let t = c.refusal_text.ensures in
+    let e = read_as _ c.read-j.result c.read-j.ensures.0 c.in-Err.is in
+    let m = refusal-most (Why.Job c.in-Err.k) in
+    (omega (arith, m, t.wrote.next), λ l f. put-same (sym (of_refusal _ _ e (record { verdict = a.verdict; plan = a.plan; lent = l }))) t)

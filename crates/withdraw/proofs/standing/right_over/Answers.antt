@@ -9,42 +9,32 @@ use Rattle.withdraw.proofs.standing.Summing.{right-none, right_more}
 use Rattle.withdraw.proofs.standing.right_over.Goals as goal
 
 pub loop-i-init : goal.loop-i-init
-loop-i-init c = let c4 = c in
-    let a = c4.args in
-    (omega arith, c4.requires.1, right-none a.inset_bounds.now a.order.now a.orientation.now a.x.now a.right a.from a.from refl)
+loop-i-init c = let a = c.args in
+    (omega arith, c.requires.1, right-none a.inset_bounds.now a.order.now a.orientation.now a.x.now a.right a.from a.from refl)
 
 pub bounds-x-i : goal.bounds-x-i
-bounds-x-i c = let c7 = c in
-    omega (arith, c.loop-i-test.true, c7.requires.4)
+bounds-x-i c = omega (arith, c.requires.4)
 
 pub bounds-order-i : goal.bounds-order-i
-bounds-order-i c = let c8 = c in
-    omega (arith, c.loop-i-test.true, c8.requires.2)
+bounds-order-i c = omega (arith, c.requires.2)
 
 pub bounds-orientation-i : goal.bounds-orientation-i
-bounds-orientation-i c = let c9 = c in
-    omega (arith, c.loop-i-test.true, c9.requires.3)
+bounds-orientation-i c = omega (arith, c.requires.3)
 
 pub right_with-reach-requires : goal.right_with-reach-requires
-right_with-reach-requires c = let c9 = c in
-    (c9.requires.0, λ o e. c9.requires.5 c.loop-i.i o c.loop-i-test.true e)
-
-pub loop-i-smaller : goal.loop-i-smaller
-loop-i-smaller c = omega (arith, c.loop-i-test.true)
+right_with-reach-requires c = (c.requires.0, λ o e. c.requires.5 c.loop-i.i o (omega arith) e)
 
 pub loop-i-preserved : goal.loop-i-preserved
-loop-i-preserved c = let c10 = c in
-    let a = c10.args in
+loop-i-preserved c = let a = c.args in
     let l = c.loop-i in (
       omega (arith, l.invariant.0),
-      omega (arith, c.loop-i-test.true),
+      omega arith,
       c.right_with-reach.ensures ∙ (ap (λ r. right_with a.inset_bounds.now r (get_or a.x.now l.i nan) (get_or a.order.now l.i 0)
           (get_or a.orientation.now l.i 0)) l.invariant.2
           ∙ right_more a.inset_bounds.now a.order.now a.orientation.now a.x.now a.right a.from l.i l.invariant.0),
     )
 
 pub returns : goal.returns
-returns c = let c1 = c in
-    let a = c.args in
-    let e : c1.loop-i.i ≡ a.to = omega (arith, c1.loop-i.invariant.1, c.loop-i-test.false) in
-    c1.loop-i.invariant.2 ∙ ap (λ (i : ℕ). right_over a.inset_bounds.now a.order.now a.orientation.now a.x.now a.right a.from (i - a.from)) e
+returns c = let a = c.args in
+    let e : c.loop-i.i ≡ a.to = omega (arith, c.loop-i.invariant.1) in
+    c.loop-i.invariant.2 ∙ ap (λ (i : ℕ). right_over a.inset_bounds.now a.order.now a.orientation.now a.x.now a.right a.from (i - a.from)) e

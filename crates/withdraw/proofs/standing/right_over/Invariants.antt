@@ -5,6 +5,3 @@ use Rattle.withdraw.proofs.standing.right_over.Given as goal
 
 abbrev pub invariant-loop-i : goal.invariant-loop-i
 invariant-loop-i l = (l.from ≤ l.i) × (l.i ≤ l.to) × (l.reach ≡ right_over l.inset_bounds l.order l.orientation l.x l.right l.from (l.i - l.from))
-
-abbrev pub decreases-loop-i : goal.decreases-loop-i
-decreases-loop-i l = l.to - l.i

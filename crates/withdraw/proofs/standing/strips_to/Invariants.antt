@@ -5,6 +5,3 @@ use Rattle.withdraw.proofs.standing.strips_to.Given as goal
 
 abbrev pub invariant-loop-i : goal.invariant-loop-i
 invariant-loop-i l = (l.i ≤ l.n) × (l.strips ≡ strips_to l.parts l.order l.orientation l.i)
-
-abbrev pub decreases-loop-i : goal.decreases-loop-i
-decreases-loop-i l = l.n - l.i

@@ -17,30 +17,25 @@ pub slice_bounds-agree-end-2 : goal.slice_bounds-agree-end-2
 slice_bounds-agree-end-2 c = sym (length-replicate {A = ℕ} 513 0)
 
 pub agree-requires : goal.agree-requires
-agree-requires c = let c13 = c in
-    let a = c13.args in
-    let p = c13.requires in
+agree-requires c = let a = c.args in
+    let p = c.requires in
     let n = numbers p.0 a.rows.now p.1 a.kinds a.copies p.2 in
     (n.kinds_few, n.rows_long, n.turns_few, n.copies_few, length-replicate {A = ℕ} 513 0, length-replicate {A = ℕ} 513 0)
 
 pub stands-requires : goal.stands-requires
-stands-requires c = let c16 = c in
-    let c17 = c16 in
-    let a = c17.args in
-    let p = c17.requires in
+stands-requires c = let a = c.args in
+    let p = c.requires in
     let w = rooms_of a.shapes.now a.sheet.now a.placed.now a.sheet_entries.now a.entries.now a.sheet_firsts.now a.firsts.now in
     le_trans (taken_upto p.0 a.state w (sym (c.agree.ensures.0 p.0 p.1 p.2.tabled p.2.kinds_are
     p.2.copies_are) ∙ c.if-agree.true)) p.2.few
 
 pub withdraw_copy-after-requires : goal.withdraw_copy-after-requires
-withdraw_copy-after-requires c = let c8 = c in
-    let c22 = c8 in
-    let a = c22.args in
-    let p = c22.requires in
+withdraw_copy-after-requires c = let a = c.args in
+    let p = c.requires in
     let w = rooms_of a.shapes.now a.sheet.now a.placed.now a.sheet_entries.now a.entries.now a.sheet_firsts.now a.firsts.now in (
       p.0,
       w,
-      leaving p.0 a.state w a.place p.2 (sym (c8.agree.ensures.0 p.0 p.1 p.2.tabled p.2.kinds_are p.2.copies_are) ∙
+      leaving p.0 a.state w a.place p.2 (sym (c.agree.ensures.0 p.0 p.1 p.2.tabled p.2.kinds_are p.2.copies_are) ∙
           c.if-agree.true) (sym c.stands.ensures ∙
           c.if-stands.true),
     )
@@ -55,22 +50,15 @@ pub shape_of-firsts-then-stands : goal.shape_of-firsts-then-stands
 shape_of-firsts-then-stands c = c.withdraw_copy-after.auto.firsts
 
 pub returns-then-stands : goal.returns-then-stands
-returns-then-stands c = let c10 = c in
-    let c11 = c10 in
-    let c12 = c11 in
-    let c15 = c12 in
-    let c29 = c15 in
-    let a = c29.args in
+returns-then-stands c = let a = c.args in
     let w = rooms_of a.shapes.now a.sheet.now a.placed.now a.sheet_entries.now a.entries.now a.sheet_firsts.now a.firsts.now in
     λ j areas O.
-    let e = sym (c15.agree.ensures.0 j areas O.tabled O.kinds_are O.copies_are) ∙ c12.if-agree.true in
+    let e = sym (c.agree.ensures.0 j areas O.tabled O.kinds_are O.copies_are) ∙ c.if-agree.true in
     c.withdraw_copy-after.ensures j w
-    (leaving j a.state w a.place O e (sym c11.stands.ensures ∙ c10.if-stands.true)) ∙ sym (withdraw-consistent j a.state w a.place e)
+    (leaving j a.state w a.place O e (sym c.stands.ensures ∙ c.if-stands.true)) ∙ sym (withdraw-consistent j a.state w a.place e)
 
 pub returns-then-agree : goal.returns-then-agree
-returns-then-agree c = let c16 = c in
-    let c20 = c16 in
-    let a = c20.args in
+returns-then-agree c = let a = c.args in
     let w = rooms_of a.shapes.now a.sheet.now a.placed.now a.sheet_entries.now a.entries.now a.sheet_firsts.now a.firsts.now in
     λ j areas O.
     let e = sym (c.agree.ensures.0 j areas O.tabled O.kinds_are O.copies_are) ∙
@@ -78,9 +66,7 @@ returns-then-agree c = let c16 = c in
     c.refuse.ensures w ∙ sym (stands-none j a.state w a.place e (sym c.stands.ensures ∙ c.if-stands.false))
 
 pub returns : goal.returns
-returns c = let c16 = c in
-    let c18 = c16 in
-    let a = c18.args in
+returns c = let a = c.args in
     let w = rooms_of a.shapes.now a.sheet.now a.placed.now a.sheet_entries.now a.entries.now a.sheet_firsts.now a.firsts.now in
     λ j areas O.
     c.refuse-2.ensures w ∙ sym (withdraw_inconsistent j a.state w a.place

@@ -1,10 +1,9 @@
 -- For inner functions' contracts only: what a withdrawal is given once 31 and 24 are past, and what it makes of the state. That it is the
 -- definition's is proved in proofs/. Definitions only. Assumes nothing.
-use Rattle.std.specs.Prelude.{ℕ, suc, ◌+◌, ◌-◌, ◌<◌, ◌≤◌, ◌≡◌, true, List, get_or, replicate, Float}
+use Rattle.std.specs.Prelude.{Ok, ℕ, suc, ◌+◌, ◌-◌, ◌<◌, ◌≤◌, ◌≡◌, true, List, get_or, replicate, Float}
 use Rattle.job.specs.Jobs.{Job}
 use Rattle.job.proofs.Accepted.{GoodJob}
 use Rattle.filling.specs.declared.State.{State}
-use Rattle.filling.specs.declared.Verdict.TheVariants.{Accepted}
 use Rattle.filling.specs.Rooms.{Rooms}
 use Rattle.filling.specs.Consistent.{consistent}
 use Rattle.filling.specs.Withdraw.{Reply, closed_up, layout_without}
@@ -52,4 +51,4 @@ pub record Leaving (j : Job) (s : State) (w : Rooms) (n copies : ℕ) (placed : 
 
 -- the reply of a withdrawal that is not refused
 abbrev pub taken : State → Rooms → Reply
-taken s w = record { verdict = Accepted; state = s; rooms = w }
+taken s w = record { verdict = Ok tt; state = s; rooms = w }

@@ -1,8 +1,0 @@
--- `slabs::winding::turned` meets its contract. Assumes nothing.
-use Rattle.slabs.proofs.winding.turned.Goals as goal
-
-pub returns-then-d : goal.returns-then-d
-returns-then-d c = rw c.if-d.true
-
-pub returns-else-d : goal.returns-else-d
-returns-else-d c = rw c.if-d.false
