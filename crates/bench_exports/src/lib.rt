@@ -20,6 +20,7 @@ ghost use Rattle.enter.specs.inner.EntryRoom.{enter_of, FirstsWritten};
 ghost use Rattle.enter.specs.inner.Gaps.{rooms, entering};
 
 use index::{Bucket, Entry, Index, Overrun};
+use look::height::Look;
 
 // The next draw, and the state moved on.
 #[unsafe(no_mangle)]
@@ -64,12 +65,12 @@ pub extern "C" fn panel_judge(bytes: &[u8]) -> u64
 
 // A look's height and the gap above it: 1e300 and 0 where it is full, -1e300 and 0 where the room does
 // not hold its intervals.
-fn height_and_gap(a: Result<Option<(f64, f64)>, Overrun>) -> (f64, f64)
+fn height_and_gap(a: Result<Look, Overrun>) -> (f64, f64)
     ensures { (result.0 ≡ look_told a) × (result.1 ≡ gap_seen a) }
 {
     match a {
-        Ok(Some(seen)) => seen,
-        Ok(None) => (1.0e300, 0.0),
+        Ok(Look::Free(h, gap)) => (h, gap),
+        Ok(Look::Full) => (1.0e300, 0.0),
         Err(_) => (-1.0e300, 0.0),
     }
 }

@@ -5,13 +5,12 @@ use native.Mathlib.Omega.{arith}
 use native.Mathlib.Numerals.{add-one}
 use native.Mathlib.Nat.{le_of_suc-le-suc, eq-or-lt_of_le, div-div-eq-div-mul, le_trans, lt_of_lt_of_le, mul-le-mul_right, mod-lt, add-zero}
 use mathlib.Core.List.{List, [], ◌∷◌, ◌++◌, append_assoc, append-nil}
-use lib.ListN.{length, get_or, set, take, drop, replicate, length-append, length-set, length-take, length-replicate}
+use lib.ListN.{length, get_or, set, take, replicate, length-append, length-set, length-take, length-replicate, get_or-replicate, get_or-append}
 use mathlib.Core.Logic.{inl, inr}
-use lib.Seq.{get_or-set_same, get_or-set_other, take-suc, length-take-le}
-use borrow.Rule.Slice.PartMut.{put_mid}
-use Rattle.std.proofs.lemmas.List.{drop_all, take_all, length-drop}
+use lib.Seq.{get_or-set_same, get_or-set_other, take-suc, ext_get_or, get_or-take, get_or-append-add, length-take-le}
 use lib.Dec.{lit<}
 use lib.Pow.{pow-add, pow_pos, pow_mono}
+use Rattle.numbers.proofs.Truth.{below_or_not}
 use Rattle.bit_writer.specs.declared.BitWriter.{BitWriter}
 use Rattle.bit_writer.specs.Packed.{binary, number_at, byte_at, bytes_up_to, bytes_for, packed, in_room}
 use Rattle.bit_writer.specs.inner.BitWriting.{Sound, written, Wrote, Put, Closed}
@@ -260,19 +259,50 @@ closed_fits p S =
         v a b h = omega arith
 
 -- ---- zeros behind
--- what a fill of the places from n on leaves
-pub filled_from : {X : Type 0} (x : X) (n : ℕ) (xs ys : List X) → n ≤ length xs → ys ≡ replicate (length (take (length xs - n) (drop n xs))) x →
-    put_mid n (length xs - n) xs ys ≡ take n xs ++ replicate (length xs - n) x
-filled_from x n xs ys h e =
-    let t : length (take (length xs - n) (drop n xs)) ≡ length xs - n = length-take-le (length xs - n) (drop n xs) (omega (arith, length-drop n xs)) in
-    ap (λ l. take n xs ++ (ys ++ l)) (drop_all (length xs - n) (drop n xs) (omega (arith, length-drop n xs)))
-    ∙ ap (λ l. take n xs ++ l) (append-nil ys ∙ e ∙ ap (λ (m : ℕ). replicate m x) t)
+-- the places passed are zeros, and those before n are as they were
+pub record Clearing (out₀ : List ℕ) (n : ℕ) (out : List ℕ) (i : ℕ) : Type 0 where
+  pub long : length out ≡ length out₀
+  pub from : n ≤ i
+  pub kept : (k : ℕ) → k < n → get_or out k 0 ≡ get_or out₀ k 0
+  pub zeros : (k : ℕ) → n ≤ k → k < i → k < length out₀ → get_or out k 0 ≡ 0
 
--- behind the end there are none
-pub none_from : {X : Type 0} (x : X) (n : ℕ) (xs : List X) → length xs ≤ n → xs ≡ take n xs ++ replicate (length xs - n) x
-none_from x n xs h =
-    let z : length xs - n ≡ 0 = omega arith in
-    sym (ap (λ (m : ℕ). take n xs ++ replicate m x) z ∙ append-nil (take n xs) ∙ take_all n xs h)
+pub clear-start : (out : List ℕ) (n : ℕ) → Clearing out n out n
+clear-start out n = record { long = refl; from = omega arith; kept = λ k h. refl; zeros = λ k a b l. absurd (omega arith) }
+
+pub clear_on : (out₀ : List ℕ) (n : ℕ) (out : List ℕ) (i : ℕ) → Clearing out₀ n out i → i < length out → Clearing out₀ n (set out i 0) (i + 1)
+clear_on out₀ n out i C h =
+    record {
+      long = length-set out i 0 ∙ C.long;
+      from = omega (arith, C.from);
+      kept = λ k a. get_or-set_other out i k 0 0 (z (lt_of_lt_of_le a C.from)) ∙ C.kept k a;
+      zeros = λ k a b l. elim (eq-or-lt_of_le (le_of_suc-le-suc (subst (λ (m : ℕ). k < m) (add-one i) b)))
+          [ inl y ↦ ap (λ (x : ℕ). get_or (set out i 0) x 0) y ∙ get_or-set_same out i 0 0 h | inr y ↦ get_or-set_other out i k 0 0 (z y) ∙ C.zeros k a y l ];
+    }
+  where
+    z : {j b : ℕ} → j < b → j ≡ b → ⊥
+    z {j} {b} h e = omega arith
+
+pub clear-end : (out₀ : List ℕ) (n : ℕ) (out : List ℕ) (i : ℕ) → Clearing out₀ n out i → length out ≤ i → out ≡ take n out₀ ++ replicate (length out₀ - n) 0
+clear-end out₀ n out i C h = ext_get_or 0 out (take n out₀ ++ replicate (length out₀ - n) 0) long same
+  where
+    long : length out ≡ length (take n out₀ ++ replicate (length out₀ - n) 0)
+    long = simp (length-append, length-take, length-replicate) (omega (arith, C.long))
+
+    same : (k : ℕ) → k < length out → get_or out k 0 ≡ get_or (take n out₀ ++ replicate (length out₀ - n) 0) k 0
+    same k l =
+        elim (below_or_not k n) [
+          | inl a ↦
+              C.kept k a
+              ∙ sym (get_or-take n out₀ k 0 a)
+              ∙ sym (get_or-append (take n out₀) (replicate (length out₀ - n) 0) 0 k (simp length-take (omega (arith, C.long))))
+          | inr a ↦
+              let t : length (take n out₀) ≡ n = length-take-le n out₀ (omega (arith, C.long)) in
+              let s : k ≡ length (take n out₀) + (k - n) = omega arith in
+              C.zeros k a (omega arith) (omega (arith, C.long))
+              ∙ sym (get_or-replicate (length out₀ - n) (k - n) 0 0 (omega (arith, C.long)))
+              ∙ sym (get_or-append-add (take n out₀) (replicate (length out₀ - n) 0) (k - n) 0)
+              ∙ ap (λ (x : ℕ). get_or (take n out₀ ++ replicate (length out₀ - n) 0) x 0) (sym s)
+        ]
 
 pub finished : (out mid after bits : List ℕ) (r : ℕ) → Closed out bits mid r → after ≡ take r mid ++ replicate (length mid - r) 0 → (r ≡ length (packed bits)) ×
     (r ≤ length out → after ≡ in_room 0 (packed bits) (length out)) × (length after ≡ length out)

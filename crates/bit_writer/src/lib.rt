@@ -2,7 +2,7 @@
 // counted. The functions are called by this project's crates alone.
 #![tactic(auto)]
 
-ghost use Rattle.std.specs.Prelude.{◌≡◌, ℕ, ◌+◌, ◌*◌, ◌-◌, ◌/◌, ◌%◌, ◌^◌, ◌≤◌, ◌<◌, List, [], length, set};
+ghost use Rattle.std.specs.Prelude.{◌≡◌, ℕ, ◌+◌, ◌*◌, ◌-◌, ◌/◌, ◌%◌, ◌^◌, ◌≤◌, ◌<◌, List, [], ◌++◌, length, set, take, replicate};
 ghost use Rattle.bit_writer.specs.Packed.{binary, packed, in_room};
 ghost use Rattle.bit_writer.specs.inner.BitWriting.{Sound, written, Wrote, Put, Closed};
 
@@ -92,6 +92,15 @@ fn close(out: &mut [u8], p: BitWriter) -> usize
     p.bytes + 1
 }
 
+// Zeros from byte n on. By hand: an edit of one byte's zero stands in the loop.
+pub fn clear_from(out: &mut [u8], n: usize)
+    ensures { out.new ≡ take n out.old ++ replicate (length out.old - n) 0 }
+{
+    for i in n..out.len() {
+        out[i] = 0;
+    }
+}
+
 // The last byte, and zeros behind it: the number of bytes.
 pub fn finish(out: &mut [u8], p: BitWriter) -> usize
     requires { Sound p }
@@ -100,8 +109,6 @@ pub fn finish(out: &mut [u8], p: BitWriter) -> usize
         × (length out.new ≡ length out.old) }
 {
     let n = close(out, p);
-    if n < out.len() {
-        out[n..].fill(0);
-    }
+    clear_from(out, n);
     n
 }

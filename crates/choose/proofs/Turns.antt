@@ -20,6 +20,8 @@ use Rattle.choose.specs.declared.Choice.{Choice}
 use Rattle.search.specs.columns.inner.Stands.{columns_of, column_x, last_of}
 use Rattle.search.specs.inner.Searching.{Answer, Found, answer_at, Looked, after_look, after_answer, counted, search_from, tracked, remembering, search_of}
 use Rattle.choose.specs.inner.Choosing.{Winner, bounds_at, part_at, inset_part, apart_part, winner_of, wins_of, first_of, better_of, Surroundings, surroundings_in, columns_at, looks_at, Ready, Chosen, chosen, won, orientation_of, bettered, choose_from}
+use Rattle.look.specs.declared.height.Look.{Look}
+use Rattle.look.specs.declared.height.Look.TheVariants.{Free, Full}
 
 pub first-true : (a b : Choice) → wins_of b a ≡ true → first_of a b ≡ Ok (Some b)
 unfolding first_of
@@ -78,10 +80,10 @@ search-other f slot j h (suc n) c counts = go (f c) (search-other f slot j h n (
     once : get_or (counted slot counts) j 0 ≡ get_or counts j 0
     once = get_or-set_other counts slot j (get_or counts slot 0 + 1) 0 h
 
-    seen : (l : Option (Float × Float)) (s : Looked) → get_or s.counts j 0 ≡ get_or (counted slot counts) j 0 → get_or (after_look l c (counted slot counts) s).counts j 0 ≡ get_or
+    seen : (l : Look) (s : Looked) → get_or s.counts j 0 ≡ get_or (counted slot counts) j 0 → get_or (after_look l c (counted slot counts) s).counts j 0 ≡ get_or
         counts j 0
-    seen (Some (y, g)) s e = unfold after_look in once
-    seen None s e = unfold after_look in (e ∙ once)
+    seen (Free y g) s e = unfold after_look in once
+    seen Full s e = unfold after_look in (e ∙ once)
 
     go : (v : Answer) → get_or (search_from f slot n (c + 1) (counted slot counts)).counts j 0 ≡ get_or (counted slot counts) j 0 → get_or
         (after_answer v c (counted slot counts) (search_from f slot n (c + 1) (counted slot counts))).counts j 0 ≡ get_or counts j 0

@@ -1,6 +1,6 @@
 -- What the planner promises, each claim with its whole statement, in the words of specs/. Every proof is a citation. Assumes nothing.
 -- That the code does what the definitions say stands in the contracts of the public operations: one equation each, for every input.
-use Rattle.std.specs.Prelude.{Some, Ok, Err}
+use Rattle.std.specs.Prelude.{Ok, Err}
 use Prim.Native.Nat.{ℕ, ◌+◌, ◌*◌, ◌≤◌, ◌<◌}
 use mathlib.Core.Path.{◌≡◌}
 use mathlib.Core.Logic.{◌⊎◌}
@@ -73,6 +73,7 @@ use Rattle.claims.proofs.Gaps as ProvedGaps
 use Rattle.claims.proofs.Copies as ProvedCopies
 use Rattle.claims.proofs.ExactLines as ProvedLines
 use Rattle.claims.proofs.Reader as ProvedReader
+use Rattle.look.specs.declared.height.Look.TheVariants.{Free}
 
 -- ---- Demand 1. "A job within document 01's limits gets a plan, or the refusal for the kind of lent room it overran. Every other job, and every call
 -- ---- made at the wrong moment, is refused by its number in document 01, with no number left non-finite and the lent rooms left as stated there."
@@ -327,7 +328,7 @@ false-first-refused bytes j e s w iv f = (KeptFirsts.false-refused bytes j e s w
 
 -- what it means: every height from the one answered up to that bottom lies in no interval
 pub gap-clear : (y_low y_high : Float) (is : List Interval) → is_finite y_low ≡ true → is_finite y_high ≡ true → every ends_finite is ≡ true
-    → (h g : Float) → height_of y_low y_high is ≡ Some (h, g)
+    → (h g : Float) → height_of y_low y_high is ≡ Free h g
     → (g ≡ plus_zero (next_bottom y_high is h) ⊖ h)
     × ((z : Float) → is_finite z ≡ true → le h z ≡ true → le z (next_bottom y_high is h) ≡ true → outside is z ≡ true)
 gap-clear y_low y_high is a b c h g e = (ProvedGaps.gap_is y_low y_high is a b c h g e, ProvedGaps.clear_to_next y_low y_high is a b c h g e)
@@ -341,7 +342,7 @@ gap-order y_low y_high is js a b c d = ProvedGaps.any_order y_low y_high is a b 
 
 -- a gap is finite, not minus zero and not below zero, of every look within 31's limits
 pub gap-number : (y_low y_high : Float) (is : List Interval) → is_finite y_low ≡ true → is_finite y_high ≡ true → every ends_finite is ≡ true
-    → bounded y_low ≡ true → bounded y_high ≡ true → (h g : Float) → height_of y_low y_high is ≡ Some (h, g) → (is_number g ≡ true) × (le pos_zero g ≡ true)
+    → bounded y_low ≡ true → bounded y_high ≡ true → (h g : Float) → height_of y_low y_high is ≡ Free h g → (is_number g ≡ true) × (le pos_zero g ≡ true)
 gap-number y_low y_high is a b c l m h g e = ProvedGaps.gap-number y_low y_high is a b c h g e l m
 
 -- every standing copy's gap is in 0..1,000,000 after an accepted start and every list of calls, a filling and the whole plan's kept filling

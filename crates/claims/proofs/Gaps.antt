@@ -1,5 +1,5 @@
 -- Document 02, W7: what is promised of a gap. Assumes nothing.
-use Rattle.std.specs.Prelude.{Some, Ok}
+use Rattle.std.specs.Prelude.{Ok}
 use Prim.Native.Nat.{ℕ, ◌+◌, ◌*◌, ◌≤◌, ◌<◌}
 use native.Mathlib.Omega.{arith}
 use mathlib.Core.Path.{◌≡◌, refl, sym, ap, subst}
@@ -41,6 +41,7 @@ use Rattle.filling.proofs.WithinBoundsNumbers.{tested_bounded}
 use Rattle.filling.proofs.promises.Doubles.{number_is}
 use Rattle.filling.proofs.promises.Left.{calls_held, fill-held}
 use Rattle.claims.specs.LookNumbers.{is_finite, ends_finite}
+use Rattle.look.specs.declared.height.Look.TheVariants.{Free}
 
 -- ---- one look
 
@@ -76,7 +77,7 @@ module _ (yl yh : Float) (is : List Interval) (L : is_finite yl ≡ true) (H : i
       → ((i : Interval) → Memᴰ i js → Memᴰ i is) → height_of yl yh is ≡ height_of yl yh js
   any_order js E' to back = same_look yl yh (is_finite_lem yl L) (is_finite_lem yh H) is js F (ends_finite_lem js E') to back
 
-  module _ (h g : Float) (e : height_of yl yh is ≡ Some (h, g)) where
+  module _ (h g : Float) (e : height_of yl yh is ≡ Free h g) where
     pub gap_is : g ≡ plus_zero (next_bottom yh is h) ⊖ h
     unfolding clear_above
     gap_is = height_clear yl yh is (is_finite_lem yl L) (is_finite_lem yh H) F h g e

@@ -1,5 +1,5 @@
 -- The first free column of some, and a full column that stays full where more copies stand. Assumes nothing.
-use Rattle.std.specs.Prelude.{Option, Some, None}
+use Rattle.std.specs.Prelude.{Some, None}
 use mathlib.Core.Path.{◌≡◌, refl, sym, ap, ◌∙◌}
 use mathlib.Core.Logic.{◌⊎◌, inl, inr}
 use mathlib.Core.Bool.{Bool, true, false}
@@ -28,27 +28,29 @@ use Rattle.filling.specs.Search.{at, nowhere, first_free, ranges_of, intervals_a
 use Rattle.filling.proofs.Lists.{Within, keep-within, append_within, mem_flat_map}
 use Rattle.filling.proofs.FullStays.{Counts, AllCount, full_stays}
 use Rattle.filling.proofs.Reading.{Sixfold}
+use Rattle.look.specs.declared.height.Look.{Look}
+use Rattle.look.specs.declared.height.Look.TheVariants.{Free, Full}
 
 -- ---- the first free column
 
 nowhere≢at : {c : ℕ} {y g : Float} → nowhere ≡ at c y g → ⊥
 nowhere≢at e = let z : ◌≡◌ {A = ℕ} 0 1 = cc in omega arith
 
-answers : (l : Option (Float × Float)) → (l ≡ None) ⊎ ((y : Float) × (g : Float) × (l ≡ Some (y, g)))
-answers None = inl refl
-answers (Some (y, g)) = inr (y, g, refl)
+answers : (l : Look) → (l ≡ Full) ⊎ ((y : Float) × (g : Float) × (l ≡ Free y g))
+answers Full = inl refl
+answers (Free y g) = inr (y, g, refl)
 
-module _ (f : ℕ → Option (Float × Float)) where
-  pub first_full : (n c : ℕ) → f c ≡ None → first_free f (suc n) c ≡ first_free f n (suc c)
+module _ (f : ℕ → Look) where
+  pub first_full : (n c : ℕ) → f c ≡ Full → first_free f (suc n) c ≡ first_free f n (suc c)
   unfolding first_free
   first_full n c e = rw (e, first_free)
 
-  pub first_free_lem : (n c : ℕ) (y g : Float) → f c ≡ Some (y, g) → first_free f (suc n) c ≡ at c y g
+  pub first_free_lem : (n c : ℕ) (y g : Float) → f c ≡ Free y g → first_free f (suc n) c ≡ at c y g
   unfolding first_free
   first_free_lem n c y g e = rw (e, first_free)
 
   abbrev pub FullFrom : ℕ → ℕ → Type 0
-  FullFrom b e = (d : ℕ) → b ≤ d → d < e → f d ≡ None
+  FullFrom b e = (d : ℕ) → b ≤ d → d < e → f d ≡ Full
 
   pub skip : (k n b m : ℕ) → m ≡ k + n → FullFrom b (b + k) → first_free f m b ≡ first_free f n (b + k)
   skip zero n b m e h = ap (λ x. first_free f x b) (low m n e) ∙ ap (first_free f n) (high b)
@@ -77,21 +79,21 @@ module _ (f : ℕ → Option (Float × Float)) where
     pub from : b ≤ c
     pub before : c < e
     pub fulls : FullFrom b c
-    pub frees : f c ≡ Some (y, g)
+    pub frees : f c ≡ Free y g
 
   pub found_at : (n b c : ℕ) (y g : Float) → first_free f n b ≡ at c y g → FoundAt b (b + n) c y g
   unfolding first_free
   found_at zero b c y g e = absurd (nowhere≢at e)
   found_at (suc n) b c y g e = go (found_at n (suc b) c y g) (answers (f b))
     where
-      go : (first_free f n (suc b) ≡ at c y g → FoundAt (suc b) (suc b + n) c y g) → (f b ≡ None) ⊎ ((z : Float) × (v : Float) × (f b ≡ Some (z, v))) → FoundAt b (b + suc n) c y g
+      go : (first_free f n (suc b) ≡ at c y g → FoundAt (suc b) (suc b + n) c y g) → (f b ≡ Full) ⊎ ((z : Float) × (v : Float) × (f b ≡ Free z v)) → FoundAt b (b + suc n) c y g
       go below (inl h) =
           let r = below (sym (first_full n b h) ∙ e) in
           let i = r.from in
           let j = r.before in
           record { from = omega arith; before = omega arith; fulls = λ d p q. first (λ p' q'. r.fulls d p' q') q h (eq-or-lt_of_le p); frees = r.frees }
         where
-          first : {d : ℕ} → (suc b ≤ d → d < c → f d ≡ None) → d < c → f b ≡ None → (b ≡ d) ⊎ (b < d) → f d ≡ None
+          first : {d : ℕ} → (suc b ≤ d → d < c → f d ≡ Full) → d < c → f b ≡ Full → (b ≡ d) ⊎ (b < d) → f d ≡ Full
           first r q h (inl z) = ap f (sym z) ∙ h
           first r q h (inr z) = r z q
       go below (inr h) =
@@ -103,7 +105,7 @@ module _ (f : ℕ → Option (Float × Float)) where
   found_nowhere zero b e d p q = absurd (omega arith)
   found_nowhere (suc n) b e d p q = go (λ e' p'. found_nowhere n (suc b) e' d p' (omega arith)) (answers (f b)) (eq-or-lt_of_le p)
     where
-      go : (first_free f n (suc b) ≡ nowhere → suc b ≤ d → f d ≡ None) → (f b ≡ None) ⊎ ((z : Float) × (v : Float) × (f b ≡ Some (z, v))) → (b ≡ d) ⊎ (b < d) → f d ≡ None
+      go : (first_free f n (suc b) ≡ nowhere → suc b ≤ d → f d ≡ Full) → (f b ≡ Full) ⊎ ((z : Float) × (v : Float) × (f b ≡ Free z v)) → (b ≡ d) ⊎ (b < d) → f d ≡ Full
       go below (inl h) (inl z) = ap f (sym z) ∙ h
       go below (inl h) (inr z) = below (sym (first_full n b h) ∙ e) z
       go below (inr h) w = absurd (nowhere≢at (sym e ∙ first_free_lem n b h.0 h.1 h.2))
@@ -207,7 +209,7 @@ module _ (yl yh : Float) where
       go (inr n) = b i n
 
 -- "Placed parts only add obstacles": a column that is full stays full
-pub look_grows : (p : Planner) (st st' : List Float) (s : Shape) (c : ℕ) → Grows st st' → look_at p st s c ≡ None → look_at p st' s c ≡ None
+pub look_grows : (p : Planner) (st st' : List Float) (s : Shape) (c : ℕ) → Grows st st' → look_at p st s c ≡ Full → look_at p st' s c ≡ Full
 unfolding look_at intervals_at counted_in ranges_of ranges
 look_grows p st st' s c g e =
     let r = ranges_of p s in

@@ -1,5 +1,4 @@
 -- A full look stays full where more intervals count: of all doubles, with no premise on their size. Assumes nothing.
-use Rattle.std.specs.Prelude.{Option, Some, None}
 use Prim.Native.Nat.{ℕ, ◌≤◌}
 use native.Mathlib.Omega.{arith}
 use mathlib.Core.Path.{◌≡◌, refl, sym, ap, ◌∙◌, subst}
@@ -14,6 +13,8 @@ use Rattle.numbers.proofs.Doubles.{k}
 use Rattle.index.specs.declared.Interval.{Interval}
 use Rattle.index.specs.Buckets.{keep}
 use Rattle.index.specs.Intervals.{counts_of}
+use Rattle.look.specs.declared.height.Look.{Look}
+use Rattle.look.specs.declared.height.Look.TheVariants.{Free, Full}
 use Rattle.look.proofs.height.SmallestHeight.{Real, le_is_true, is_le, outside_of, of_outside, keep_mem, mem_keep, lowest_full, RealEnd, candidate_real, nearest}
 use Rattle.look.specs.height.Smallest.{outside, candidates, free_at, lowest, height_of}
 use Rattle.filling.proofs.Lists.{Within}
@@ -42,7 +43,7 @@ le_reals (fin s m d) (fin t n c) e = (tt, tt)
 
 -- ---- the look
 
-lowest-some : (yh : Float) (is : List Interval) (cs : List Float) (h g : Float) → lowest yh is cs ≡ Some (h, g) → (c : Float) × Memᴰ c cs
+lowest-some : (yh : Float) (is : List Interval) (cs : List Float) (h g : Float) → lowest yh is cs ≡ Free h g → (c : Float) × Memᴰ c cs
 unfolding lowest free_at
 lowest-some yh is [] h g e = absurd (let z : ◌≡◌ {A = ℕ} 0 1 = cc in omega arith)
 lowest-some yh is (c ∷ cs) h g e = (c, Memᴰ.head refl)
@@ -80,7 +81,7 @@ module _ (yl yh : Float) (fl : T (fits binary64 yl)) (fh : T (fits binary64 yh))
   real? (inf s) = inl tt
   real? (fin s m e) = inl tt
 
-  pub full_stays : (is js : List Interval) → AllCount yl yh is → AllCount yl yh js → Within is js → height_of yl yh is ≡ None → height_of yl yh js ≡ None
+  pub full_stays : (is js : List Interval) → AllCount yl yh is → AllCount yl yh js → Within is js → height_of yl yh is ≡ Full → height_of yl yh js ≡ Full
   unfolding height_of
   full_stays is js ci cj w e = go (height_of yl yh js) refl (real? yl)
     where
@@ -100,13 +101,13 @@ module _ (yl yh : Float) (fl : T (fits binary64 yl)) (fh : T (fits binary64 yh))
           lowest_full yh is (keep (λ c. le c yh && outside is c) (candidates yl is)) e d.0
           (mem_keep (λ c. le c yh && outside is c) d.0 (candidates yl is) d.1 (rw (is_le D.0 H (omega arith), d.3)))
 
-      go : (l : Option (Float × Float)) → height_of yl yh js ≡ l → T (Keys.real yl) ⊎ (yl ≡ nan) → height_of yl yh js ≡ None
-      go None f L = f
-      go (Some (h, g)) f (inl L) =
+      go : (l : Look) → height_of yl yh js ≡ l → T (Keys.real yl) ⊎ (yl ≡ nan) → height_of yl yh js ≡ Full
+      go Full f L = f
+      go (Free h g) f (inl L) =
           let s = lowest-some yh js (keep (λ c. le c yh && outside js c) (candidates yl js)) h g f in
           let m = keep_mem (λ c. le c yh && outside js c) s.0 (candidates yl js) s.1 in
           absurd (height s.0 m.0 m.1 L)
-      go (Some (h, g)) f (inr z) =
+      go (Free h g) f (inr z) =
           let a : is ≡ [] = no_members is (λ i m. none z i (ci i m)) in
           let b : js ≡ [] = no_members js (λ i m. none z i (cj i m)) in
           ap (height_of yl yh) (b ∙ sym a) ∙ e

@@ -1,6 +1,5 @@
 -- The numbers that 31 judges, along every copy taken, if a job's own are within its bounds (WithinBounds.antt): the planner's, a copy's at each free place of
 -- a column, and sums of areas. Assumes nothing.
-use Rattle.std.specs.Prelude.{Some}
 use mathlib.Core.Path.{◌≡◌, refl, sym, ap, subst, ◌∙◌}
 use mathlib.Core.Logic.{◌⊎◌, inl, inr}
 use mathlib.Core.Bool.{Bool, true, false, not, cond}
@@ -27,6 +26,7 @@ use Rattle.filling.proofs.FirstFree.{found_at, grows_append}
 use Rattle.filling.proofs.Reading.{Sixfold, capacity_append}
 use Rattle.filling.proofs.Steps.{new_sixfold, standing_sixfold, standing_more}
 use Rattle.filling.proofs.Searches.{search_open, search-reversed}
+use Rattle.look.specs.declared.height.Look.TheVariants.{Free}
 
 -- a place that a search can yield: a column, a height that a look found free there, and the clear height above it
 pub record Yielded (p : Planner) (s : Shape) (x y g : Float) : Type 0 where
@@ -35,7 +35,7 @@ pub record Yielded (p : Planner) (s : Shape) (x y g : Float) : Type 0 where
   pub within : column_number ≤ last_of p s
   pub x_is : x ≡ column_at p.resolution (ranges_of p s) column_number
   pub standing : List Float
-  pub freed : look_at p standing s column_number ≡ Some (y, g)
+  pub freed : look_at p standing s column_number ≡ Free y g
 
 -- areas, added in order
 unfoldable pub summed : Planner → Float → List Copy → Float

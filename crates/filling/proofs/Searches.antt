@@ -1,6 +1,5 @@
 -- One orientation: what its remembered column and look count say of the standing strips and of the plain planner's searches, and that its next search finds
 -- what the plain planner finds. Assumes nothing.
-use Rattle.std.specs.Prelude.{Option, None}
 use mathlib.Core.Path.{◌≡◌, refl, sym, ap, ◌∙◌}
 use mathlib.Core.Logic.{◌⊎◌, inl, inr}
 use mathlib.Core.Bool.{Bool, true, false}
@@ -10,6 +9,8 @@ use native.Mathlib.Omega.{arith}
 use lib.ListN.{length}
 use lib.Ieee.{Float}
 use Rattle.numbers.proofs.Truth.{either, below_or_not}
+use Rattle.look.specs.declared.height.Look.{Look}
+use Rattle.look.specs.declared.height.Look.TheVariants.{Full}
 use Rattle.index.proofs.Flat.{length-up_from}
 use Rattle.filling.specs.Shapes.{Planner, Shape}
 use Rattle.filling.specs.Search.{Found, at, nowhere, column, none, Track, first_free, look_at, last_of, reversed_for, search, remembered, columns_from, looks}
@@ -17,10 +18,10 @@ use Rattle.filling.specs.Search.{searched}
 use Rattle.filling.specs.Plain.{plain_search, plain_searched, finds, expected_looks, plain_looks}
 use Rattle.filling.proofs.FirstFree.{FullFrom, FoundAt, skip, none_free, found_at, found_nowhere, Grows, look_grows}
 
-join : (f : ℕ → Option (Float × Float)) (c e : ℕ) → FullFrom f 0 c → FullFrom f c e → FullFrom f 0 e
+join : (f : ℕ → Look) (c e : ℕ) → FullFrom f 0 c → FullFrom f c e → FullFrom f 0 e
 join f c e h k d i j = go (below_or_not d c)
   where
-    go : (d < c) ⊎ (c ≤ d) → f d ≡ None
+    go : (d < c) ⊎ (c ≤ d) → f d ≡ Full
     go (inl l) = h d i l
     go (inr l) = k d l j
 

@@ -1,5 +1,5 @@
 -- The places that a search can yield, whatever strips stand: x within 610,000, y within 200,000, the clear height from 0 to 400,000. Assumes nothing.
-use Rattle.std.specs.Prelude.{Option, Some, None}
+use Rattle.std.specs.Prelude.{Some, None}
 use mathlib.Core.Path.{◌≡◌, refl, sym, ap, subst, ◌∙◌}
 use mathlib.Core.Bool.{Bool, true, false, not, ◌&&◌, ◌||◌, cond}
 use mathlib.Core.List.{List, [], ◌∷◌, map, flat_map}
@@ -35,6 +35,7 @@ use Rattle.filling.specs.Search.{ranges_of, reversed_for, intervals_at, look_at}
 use Rattle.filling.proofs.FullStays.{le_reals}
 use Rattle.filling.proofs.Numbers31.{Yielded}
 use Rattle.filling.proofs.WithinBoundsNumbers.{column_upto}
+use Rattle.look.specs.declared.height.Look.TheVariants.{Free}
 
 -- ---- lists
 
@@ -112,15 +113,13 @@ least_in Q a (b ∷ l) p h = least_in Q (cond (lt b a) b a) l (go (lt b a)) h.1
     go true = h.0
     go false = p
 
-free_parts : {a b c d : Float} → ◌≡◌ {A = Option (Float × Float)} (Some (a, b)) (Some (c, d)) → (a ≡ c) × (b ≡ d)
-free_parts {a} {b} {c} {d} e = let p : ◌≡◌ {A = Float × Float} (a, b) (c, d) = cc in (ap (λ q. q.0) p, ap (λ q. q.1) p)
-
-lowest_in : (Q : Float → Type 0) (yh : Float) (is : List Interval) (cs : List Float) (y g : Float) → All Q cs → lowest yh is cs ≡ Some (y, g) → (c : Float) × Q c × (y ≡ plus_zero c) × (g ≡ clear_above yh is y)
+lowest_in : (Q : Float → Type 0) (yh : Float) (is : List Interval) (cs : List Float) (y g : Float) → All Q cs → lowest yh is cs ≡ Free y g → (c : Float) × Q c × (y ≡ plus_zero c) × (g ≡ clear_above yh is y)
 unfolding lowest free_at
 lowest_in Q yh is [] y g h e = absurd (let z : ◌≡◌ {A = ℕ} 0 1 = cc in omega arith)
 lowest_in Q yh is (d ∷ cs) y g h e =
-    let p = free_parts e in
-    (least d cs, least_in Q d cs h.0 h.1, sym p.0, sym p.1 ∙ ap (clear_above yh is) p.0)
+    let z : plus_zero (least d cs) ≡ y = cc in
+    let v : clear_above yh is (plus_zero (least d cs)) ≡ g = cc in
+    (least d cs, least_in Q d cs h.0 h.1, sym z, sym v ∙ ap (clear_above yh is) z)
 
 module _ (yl yh : Float) (L : Finite yl) (H : Finite yh) where
   -- a double from the lowest on, if it is no NaN
@@ -159,7 +158,7 @@ module _ (yl yh : Float) (L : Finite yl) (H : Finite yh) where
       w : (c h : ℕ) → c ≤ h → h < o + o → c < o + o
       w c h p q = omega arith
 
-  pub height_between : (is : List Interval) → Fitted is → (y g : Float) → height_of yl yh is ≡ Some (y, g) → Number y × (k yl ≤ k y) × (k y ≤ k yh) × (g ≡ clear_above yh is y)
+  pub height_between : (is : List Interval) → Fitted is → (y g : Float) → height_of yl yh is ≡ Free y g → Number y × (k yl ≤ k y) × (k y ≤ k yh) × (g ≡ clear_above yh is y)
   unfolding height_of
   height_between is h y g e =
       let w = lowest_in To yh is (keep (λ c. le c yh && outside is c) (candidates yl is)) y g (all_kept From To (λ c. le c yh && outside is c) (candidates yl is) (candidates-from is h) (from_to is)) e in

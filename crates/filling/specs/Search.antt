@@ -1,7 +1,9 @@
 -- Document 01, "Filling": the look at a column, the search from the remembered column, and its list of columns. Definitions only. Assumes nothing.
-use Rattle.std.specs.Prelude.{Option, Some, None, ℕ, zero, suc, ◌+◌, ◌-◌, Bool, true, false, List, [], ◌∷◌, length, Float}
+use Rattle.std.specs.Prelude.{ℕ, zero, suc, ◌+◌, ◌-◌, Bool, true, false, List, [], ◌∷◌, length, Float}
 use Rattle.index.specs.declared.Interval.{Interval}
 use Rattle.index.specs.Buckets.{up_from}
+use Rattle.look.specs.declared.height.Look.{Look}
+use Rattle.look.specs.declared.height.Look.TheVariants.{Free, Full}
 use Rattle.look.specs.height.Smallest.{height_of}
 use Rattle.look.specs.Looking.{counted_in}
 use Rattle.filling.specs.Columns.{Ranges, ranges, reversed, last_column, column_at}
@@ -28,7 +30,7 @@ intervals_at p standing s c =
     counted_in (column_at p.resolution r c) r.y_low r.y_high s.inset s.apart p.sheet standing
 
 -- "A look answers free with its height, or full."
-unfoldable pub look_at : Planner → List Float → Shape → ℕ → Option (Float × Float)
+unfoldable pub look_at : Planner → List Float → Shape → ℕ → Look
 look_at p standing s c = let r = ranges_of p s in height_of r.y_low r.y_high (intervals_at p standing s c)
 
 -- ---- a search
@@ -39,9 +41,9 @@ pub data Found : Type 0 where
   nowhere : Found
 
 -- "it yields the first column with a free height and stops there": of the n columns from c on
-unfoldable pub first_free : (ℕ → Option (Float × Float)) → ℕ → ℕ → Found
+unfoldable pub first_free : (ℕ → Look) → ℕ → ℕ → Found
 first_free look zero c = nowhere
-first_free look (suc n) c = elim (look c) [ Some (y, g) ↦ at c y g | None ↦ first_free look n (suc c) ]
+first_free look (suc n) c = elim (look c) [ Free y g ↦ at c y g | Full ↦ first_free look n (suc c) ]
 
 -- the remembered column (document 01): nesting.rs's next_column, where the next search starts, or "none"
 pub data Remembered : Type 0 where

@@ -36,6 +36,8 @@ use Rattle.search.proofs.columns.Same as Same
 use Rattle.search.specs.inner.Searching.{Found}
 use Rattle.search.specs.inner.Searching.{answer_at, Looked, looked, counted, search_from, next_of, Tracked, tracked, remembering, search_of}
 use Rattle.search.proofs.Turns.{search-end, search_overflow, search_free, search_full}
+use Rattle.look.specs.declared.height.Look.{Look}
+use Rattle.look.specs.declared.height.Look.TheVariants.{Free, Full}
 
 -- what the definition finds, as the code says it
 abbrev pub found_of : Filling.Found → Found
@@ -43,16 +45,16 @@ found_of (Filling.at c y g) = Ok (Some (c, y, g))
 found_of Filling.nowhere = Ok None
 
 -- ---- the looks of the n columns from c on, to the first that is free
-unfoldable pub looks_to : (ℕ → Option (Float × Float)) → ℕ → ℕ → List ℕ
+unfoldable pub looks_to : (ℕ → Look) → ℕ → ℕ → List ℕ
 looks_to look zero c = []
-looks_to look (suc n) c = c ∷ elim (look c) [ Some (y, g) ↦ [] | None ↦ looks_to look n (suc c) ]
+looks_to look (suc n) c = c ∷ elim (look c) [ Free y g ↦ [] | Full ↦ looks_to look n (suc c) ]
 
-module _ (look : ℕ → Option (Float × Float)) where
-  looks_free : (n c : ℕ) (y g : Float) → look c ≡ Some (y, g) → looks_to look (suc n) c ≡ c ∷ []
+module _ (look : ℕ → Look) where
+  looks_free : (n c : ℕ) (y g : Float) → look c ≡ Free y g → looks_to look (suc n) c ≡ c ∷ []
   unfolding looks_to
   looks_free n c y g e = rw (e, looks_to)
 
-  looks_full : (n c : ℕ) → look c ≡ None → looks_to look (suc n) c ≡ c ∷ looks_to look n (suc c)
+  looks_full : (n c : ℕ) → look c ≡ Full → looks_to look (suc n) c ≡ c ∷ looks_to look n (suc c)
   unfolding looks_to
   looks_full n c e = rw (e, looks_to)
 
@@ -72,9 +74,9 @@ module _ (look : ℕ → Option (Float × Float)) where
       same : (d : ℕ) → d ≤ d
       same d = omega arith
 
-      go : (l : Option (Float × Float)) → look c ≡ l → From (suc c) (first_free look n (suc c)) → From c (first_free look (suc n) c)
-      go (Some (y, g)) e h = subst (From c) (sym (first_free_lem look n c y g e)) (same c)
-      go None e h = subst (From c) (sym (first_full look n c e)) (from_more c (first_free look n (suc c)) h)
+      go : (l : Look) → look c ≡ l → From (suc c) (first_free look n (suc c)) → From c (first_free look (suc n) c)
+      go (Free y g) e h = subst (From c) (sym (first_free_lem look n c y g e)) (same c)
+      go Full e h = subst (From c) (sym (first_full look n c e)) (from_more c (first_free look n (suc c)) h)
 
   columns_cons : (c last : ℕ) (f : Filling.Found) → c ≤ last → From (suc c) f → columns_from c last f ≡ c ∷ columns_from (suc c) last f
   unfolding columns_from up_from
@@ -97,12 +99,12 @@ module _ (look : ℕ → Option (Float × Float)) where
       inside : c ≤ last
       inside = omega (arith, h)
 
-      go : (l : Option (Float × Float)) → look c ≡ l → columns_from (suc c) last (first_free look n (suc c)) ≡ looks_to look n (suc c) → From (suc c) (first_free look n (suc c)) → columns_from c last (first_free look (suc n) c) ≡ looks_to look (suc n) c
-      go (Some (y, v)) e b g = ap (columns_from c last) (first_free_lem look n c y v e) ∙ (columns-one c last y v ∙ sym (looks_free n c y v e))
-      go None e b g = ap (columns_from c last) (first_full look n c e) ∙ (columns_cons c last (first_free look n (suc c)) inside g ∙ (ap (λ (z : List ℕ). c ∷ z) b ∙ sym (looks_full n c e)))
+      go : (l : Look) → look c ≡ l → columns_from (suc c) last (first_free look n (suc c)) ≡ looks_to look n (suc c) → From (suc c) (first_free look n (suc c)) → columns_from c last (first_free look (suc n) c) ≡ looks_to look (suc n) c
+      go (Free y v) e b g = ap (columns_from c last) (first_free_lem look n c y v e) ∙ (columns-one c last y v ∙ sym (looks_free n c y v e))
+      go Full e b g = ap (columns_from c last) (first_full look n c e) ∙ (columns_cons c last (first_free look n (suc c)) inside g ∙ (ap (λ (z : List ℕ). c ∷ z) b ∙ sym (looks_full n c e)))
 
 -- ---- the n columns from c on
-module _ (f : ℕ → Answer) (look : ℕ → Option (Float × Float)) (capacity : ℕ) (count : ℕ → ℕ)
+module _ (f : ℕ → Answer) (look : ℕ → Look) (capacity : ℕ) (count : ℕ → ℕ)
     (yes : (c : ℕ) → ltb capacity (count c) ≡ true → f c ≡ (Err IntervalRoom)) (no : (c : ℕ) → ltb capacity (count c) ≡ false → f c ≡ Ok (look c)) (slot : ℕ) where
   above_cons : (c : ℕ) (cs : List ℕ) → any_above capacity (map count (c ∷ cs)) ≡ (ltb capacity (count c) || any_above capacity (map count cs))
   unfolding any_above
@@ -131,11 +133,11 @@ module _ (f : ℕ → Answer) (look : ℕ → Option (Float × Float)) (capacity
   over_found zero c counts h = absurd (true≢false (sym h ∙ above-start c))
   over_found (suc n) c counts h = go (either (ltb capacity (count c))) (look c) refl (over_found n (c + 1) (counted slot counts))
     where
-      go : (ltb capacity (count c) ≡ true) ⊎ (ltb capacity (count c) ≡ false) → (l : Option (Float × Float)) → look c ≡ l
+      go : (ltb capacity (count c) ≡ true) ⊎ (ltb capacity (count c) ≡ false) → (l : Look) → look c ≡ l
           → (any_above capacity (map count (looks_to look n (c + 1))) ≡ true → (search_from f slot n (c + 1) (counted slot counts)).found ≡ (Err IntervalRoom)) → (search_from f slot (suc n) c counts).found ≡ Err IntervalRoom
       go (inl e) l q b = ap (λ (z : Looked). z.found) (search_overflow f slot c counts (suc n) n IntervalRoom refl (yes c e))
-      go (inr e) (Some (y, g)) q b = absurd (true≢false (sym h ∙ (ap (λ (z : List ℕ). any_above capacity (map count z)) (looks_free look n c y g q) ∙ (above-rest c [] e ∙ above-none))))
-      go (inr e) None q b =
+      go (inr e) (Free y g) q b = absurd (true≢false (sym h ∙ (ap (λ (z : List ℕ). any_above capacity (map count z)) (looks_free look n c y g q) ∙ (above-rest c [] e ∙ above-none))))
+      go (inr e) Full q b =
           ap (λ (z : Looked). z.found) (search_full f slot c counts (suc n) n refl (no c e ∙ ap Ok q))
           ∙ b (ap (λ (z : ℕ). any_above capacity (map count (looks_to look n z))) (add-one c) ∙ (sym (above-rest c (looks_to look n (suc c)) e) ∙ (sym (ap (λ (z : List ℕ). any_above capacity (map count z)) (looks_full look n c q)) ∙ h)))
 
@@ -148,22 +150,22 @@ module _ (f : ℕ → Answer) (look : ℕ → Option (Float × Float)) (capacity
       more : (a b m : ℕ) → a ≡ b + 1 → a + m ≡ b + suc m
       more a b m e = omega arith
 
-      first : (y g : Float) → look c ≡ Some (y, g) → looked (Ok (Some (c, y, g))) (counted slot counts) ≡ looked (found_of (first_free look (suc n) c)) (set counts slot (get_or counts slot 0 + length (looks_to look (suc n) c)))
+      first : (y g : Float) → look c ≡ Free y g → looked (Ok (Some (c, y, g))) (counted slot counts) ≡ looked (found_of (first_free look (suc n) c)) (set counts slot (get_or counts slot 0 + length (looks_to look (suc n) c)))
       first y g q = sym (ap (λ (z : Filling.Found). looked (found_of z) (set counts slot (get_or counts slot 0 + length (looks_to look (suc n) c)))) (first_free_lem look n c y g q) ∙ ap (λ (z : List ℕ). looked (Ok (Some (c, y, g))) (set counts slot (get_or counts slot 0 + length z))) (looks_free look n c y g q))
 
-      rest : look c ≡ None → looked (found_of (first_free look n (c + 1))) (set (counted slot counts) slot (get_or (counted slot counts) slot 0 + length (looks_to look n (c + 1)))) ≡ looked (found_of (first_free look (suc n) c)) (set counts slot (get_or counts slot 0 + length (looks_to look (suc n) c)))
+      rest : look c ≡ Full → looked (found_of (first_free look n (c + 1))) (set (counted slot counts) slot (get_or (counted slot counts) slot 0 + length (looks_to look n (c + 1)))) ≡ looked (found_of (first_free look (suc n) c)) (set counts slot (get_or counts slot 0 + length (looks_to look (suc n) c)))
       rest q =
           ap (λ (z : ℕ). looked (found_of (first_free look n z)) (set (counted slot counts) slot (get_or (counted slot counts) slot 0 + length (looks_to look n z)))) (add-one c)
           ∙ (ap (looked (found_of (first_free look n (suc c)))) (set-set counts slot (get_or counts slot 0 + 1) _ ∙ ap (set counts slot) (more (get_or (counted slot counts) slot 0) (get_or counts slot 0) (length (looks_to look n (suc c))) (get_or-set_same counts slot (get_or counts slot 0 + 1) 0 b)))
           ∙ sym (ap (λ (z : Filling.Found). looked (found_of z) (set counts slot (get_or counts slot 0 + length (looks_to look (suc n) c)))) (first_full look n c q) ∙ ap (λ (z : List ℕ). looked (found_of (first_free look n (suc c))) (set counts slot (get_or counts slot 0 + length z))) (looks_full look n c q)))
 
-      go : (ltb capacity (count c) ≡ true) ⊎ (ltb capacity (count c) ≡ false) → (l : Option (Float × Float)) → look c ≡ l
+      go : (ltb capacity (count c) ≡ true) ⊎ (ltb capacity (count c) ≡ false) → (l : Look) → look c ≡ l
           → (any_above capacity (map count (looks_to look n (c + 1))) ≡ false → search_from f slot n (c + 1) (counted slot counts) ≡ looked (found_of (first_free look n (c + 1))) (set (counted slot counts) slot (get_or (counted slot counts) slot 0 + length (looks_to look n (c + 1)))))
           → search_from f slot (suc n) c counts ≡ looked (found_of (first_free look (suc n) c)) (set counts slot (get_or counts slot 0 + length (looks_to look (suc n) c)))
-      go (inl e) (Some (y, g)) q r = absurd (true≢false (sym (ap (λ (z : List ℕ). any_above capacity (map count z)) (looks_free look n c y g q) ∙ above-first c [] e) ∙ h))
-      go (inl e) None q r = absurd (true≢false (sym (ap (λ (z : List ℕ). any_above capacity (map count z)) (looks_full look n c q) ∙ above-first c (looks_to look n (suc c)) e) ∙ h))
-      go (inr e) (Some (y, g)) q r = search_free f slot c counts (suc n) n y g refl (no c e ∙ ap Ok q) ∙ first y g q
-      go (inr e) None q r =
+      go (inl e) (Free y g) q r = absurd (true≢false (sym (ap (λ (z : List ℕ). any_above capacity (map count z)) (looks_free look n c y g q) ∙ above-first c [] e) ∙ h))
+      go (inl e) Full q r = absurd (true≢false (sym (ap (λ (z : List ℕ). any_above capacity (map count z)) (looks_full look n c q) ∙ above-first c (looks_to look n (suc c)) e) ∙ h))
+      go (inr e) (Free y g) q r = search_free f slot c counts (suc n) n y g refl (no c e ∙ ap Ok q) ∙ first y g q
+      go (inr e) Full q r =
           search_full f slot c counts (suc n) n refl (no c e ∙ ap Ok q)
           ∙ (r (ap (λ (z : ℕ). any_above capacity (map count (looks_to look n z))) (add-one c) ∙ (sym (above-rest c (looks_to look n (suc c)) e) ∙ (sym (ap (λ (z : List ℕ). any_above capacity (map count z)) (looks_full look n c q)) ∙ h)))
           ∙ rest q)
@@ -210,7 +212,7 @@ module _ (p : Planner) (standing : List Float) (s : Shape) (capacity : ℕ) wher
   unfolding Filling.last_of ranges_of
   last_is e = rw (e, Filling.last_of) (sym (Same.last-same p.bounds s.bounds p.resolution))
 
-  abbrev pub look_for : ℕ → Option (Float × Float)
+  abbrev pub look_for : ℕ → Look
   look_for = look_at p standing s
 
   search-reversed : (m : Remembered) → reversed_for p s ≡ true → Filling.search p standing s m ≡ Filling.nowhere

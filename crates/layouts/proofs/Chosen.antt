@@ -1,5 +1,4 @@
 -- A copy that the planner places is legal against everything that stands. Assumes nothing.
-use Rattle.std.specs.Prelude.{Some}
 use Prim.Native.Nat.{ℕ, zero, suc, ◌+◌, ◌-◌, ◌*◌, ◌/◌, ◌≤◌, ◌<◌}
 use native.Mathlib.Nat.{eq-or-lt_of_le}
 use native.Mathlib.Omega.{arith}
@@ -23,6 +22,7 @@ use Rattle.strips.proofs.Sizes.{Framed}
 use Rattle.index.specs.Buckets.{up_from}
 use Rattle.index.specs.Intervals.{forbidden_of}
 use Rattle.index.specs.inner.Listing.{Bounded}
+use Rattle.look.specs.declared.height.Look.TheVariants.{Free}
 use Rattle.look.specs.height.Smallest.{outside, height_of}
 use Rattle.look.specs.Looking.{counted_in}
 use Rattle.look.specs.inner.Ready.{BoundedStrips, forbidden_in}
@@ -86,7 +86,7 @@ module _ (p : Planner) (st : List Float) (k : ℕ) where
     pub column_number : ℕ
     pub within : column_number ≤ last_of p (shape_of p k c.orientation)
     pub x_is : c.x ≡ column_at p.resolution (ranges_of p (shape_of p k c.orientation)) column_number
-    pub freed : look_at p st (shape_of p k c.orientation) column_number ≡ Some (c.y, c.gap)
+    pub freed : look_at p st (shape_of p k c.orientation) column_number ≡ Free c.y c.gap
 
   -- what orientation o found at a column
   abbrev Chose : ℕ → Shape → ℕ → Float → Float → Float → Float → Choice
@@ -235,7 +235,7 @@ module _ (bytes : List ℕ) (j : Job) (e : read_job bytes ≡ accepted j) where
         let apart = strips_in S.apart (shape j g k c.orientation).apart_numbers (both_first (strips_fit S.apart) _ f) in
         let inset = strips_in S.inset (shape j g k c.orientation).inset_numbers
         (both_first (strips_fit S.inset) _ (both_second (strips_fit S.apart) _ f)) in
-        let look : height_of R.y_low R.y_high (counted_in c.x R.y_low R.y_high S.inset S.apart P.sheet st) ≡ Some (c.y, c.gap) =
+        let look : height_of R.y_low R.y_high (counted_in c.x R.y_low R.y_high S.inset S.apart P.sheet st) ≡ Free c.y c.gap =
         ap (λ (v : Float). height_of R.y_low R.y_high (counted_in v R.y_low R.y_high S.inset S.apart P.sheet st)) H.x_is ∙ H.freed in
         let t = free_smallest c.x R.y_low R.y_high S.inset S.apart P.sheet st Hs.0 Hs.1 B inset apart sheet_in (strips_in st N F) c.y
         c.gap look in

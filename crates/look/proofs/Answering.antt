@@ -1,5 +1,5 @@
 -- What the room holds after both listings gives the look of the definition. Assumes nothing.
-use Rattle.std.specs.Prelude.{Option, Ok, Err}
+use Rattle.std.specs.Prelude.{Ok, Err}
 use Prim.Native.Nat.{ℕ, ◌+◌, ◌/◌, ◌≤◌, ◌<◌}
 use native.Mathlib.Omega.{arith}
 use mathlib.Core.Path.{◌≡◌, sym, ap, ◌∙◌}
@@ -28,6 +28,7 @@ use Rattle.look.specs.Looking.{counted_in}
 use Rattle.look.specs.inner.Ready.{BoundedStrips, Lookable, answer_of}
 use Rattle.look.proofs.IntervalEnds.{widen, moved-x0, moved-x1}
 use Rattle.look.proofs.Counted.{same_look, counted_finite}
+use Rattle.look.specs.declared.height.Look.{Look}
 
 answer_over : (cap : ℕ) (yl yh : Float) (is : List Interval) → cap < length is → answer_of cap yl yh is ≡ Err IntervalRoom
 unfolding answer_of
@@ -73,7 +74,7 @@ module _ (r r' : List Float) (n : ℕ) (l is : List Interval) (E : collected r' 
     pub refused : length r / 2 < n → Err IntervalRoom ≡ answer_of (length r / 2) yl yh is
     refused h = sym (answer_over (length r / 2) yl yh is (let a = over h in omega (arith, perm_length P)))
 
-    pub seen : n ≤ length r / 2 → (v : Option (Float × Float)) → v ≡ height_of yl yh (intervals r' n) → Ok v ≡ answer_of (length r / 2) yl yh is
+    pub seen : n ≤ length r / 2 → (v : Look) → v ≡ height_of yl yh (intervals r' n) → Ok v ≡ answer_of (length r / 2) yl yh is
     seen h v e =
         let c = counts-right h in
         let same = same_look yl yh L H l is (λ i m. G i (perm_mem P i m)) G (λ i m. perm_mem P i m) (λ i m. perm_mem (Permᴰ.symm P) i m) in

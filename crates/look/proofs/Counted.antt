@@ -1,5 +1,4 @@
 -- Intervals that do not count change no look's height; the same intervals in any order give the same look; more intervals never lower its height. Assumes nothing.
-use Rattle.std.specs.Prelude.{Option, Some, None}
 use Prim.Native.Nat.{ℕ, ◌≤◌, ◌<◌}
 use native.Mathlib.Omega.{arith}
 use mathlib.Core.Path.{◌≡◌, refl, sym, ap, ◌∙◌, subst}
@@ -16,6 +15,8 @@ use Rattle.index.specs.declared.Interval.{Interval}
 use Rattle.index.specs.Buckets.{keep}
 use Rattle.index.specs.Intervals.{forbidden_of, counts_of, counted_of}
 use Rattle.index.specs.inner.Listing.{Bounded}
+use Rattle.look.specs.declared.height.Look.{Look}
+use Rattle.look.specs.declared.height.Look.TheVariants.{Free, Full}
 use Rattle.look.specs.height.Smallest.{inside, outside, clear_above, height_of}
 use Rattle.look.specs.height.inner.Raising.{FiniteEnd, FiniteEnds, height_in}
 use Rattle.look.proofs.height.SmallestHeight.{Real, real_of, le_is_true, is_lt, is_le, inside-key, outside_of, of_outside, keep_mem, mem_keep, Smallest, height_free, height_full, free_height, full_height, real-end}
@@ -38,24 +39,24 @@ module _ (yl yh : Float) (L : Finite yl) (H : Finite yh) where
   -- both full, or free at one height, each with the clear height of its own list
   abbrev Alike : List Interval → List Interval → Type 0
   Alike is js =
-      ((height_of yl yh is ≡ None) × (height_of yl yh js ≡ None))
-      ⊎ ((h : Float) × (height_of yl yh is ≡ Some (h, (clear_above yh is h))) × (height_of yl yh js ≡ Some (h, (clear_above yh js h))))
+      ((height_of yl yh is ≡ Full) × (height_of yl yh js ≡ Full))
+      ⊎ ((h : Float) × (height_of yl yh is ≡ Free h (clear_above yh is h)) × (height_of yl yh js ≡ Free h (clear_above yh js h)))
 
   -- two lists that leave the same heights from y-low to y-high give the same height
   pub answers : (is js : List Interval) → FiniteEnds is → FiniteEnds js
       → ((z : Float) → Real z → k yl ≤ k z → k z ≤ k yh → outside is z ≡ true → outside js z ≡ true)
       → ((z : Float) → Real z → k yl ≤ k z → k z ≤ k yh → outside js z ≡ true → outside is z ≡ true)
-      → ((height_of yl yh is ≡ None) × (height_of yl yh js ≡ None))
-      ⊎ ((h : Float) × (height_of yl yh is ≡ Some (h, (clear_above yh is h))) × (height_of yl yh js ≡ Some (h, (clear_above yh js h))))
+      → ((height_of yl yh is ≡ Full) × (height_of yl yh js ≡ Full))
+      ⊎ ((h : Float) × (height_of yl yh is ≡ Free h (clear_above yh is h)) × (height_of yl yh js ≡ Free h (clear_above yh js h)))
   answers is js F G to back = go (height_of yl yh is) refl
     where
       first : (h : Float) → Smallest yl yh is h → (z : Float) → Real z → k yl ≤ k z → outside js z ≡ true → (k yh < k z) ⊎ (k z ≤ k yh) → k h ≤ k z
       first h S z Z a c (inl l) = let b = S.upto in omega arith
       first h S z Z a c (inr l) = S.first z Z a (back z Z a l c)
 
-      go : (l : Option (Float × Float)) → height_of yl yh is ≡ l → Alike is js
-      go None e = inl (e, full_height yl yh js L H G (λ z Z a l c. height_full yl yh is L H F e z Z a l (back z Z a l c)))
-      go (Some (h, g)) e =
+      go : (l : Look) → height_of yl yh is ≡ l → Alike is js
+      go Full e = inl (e, full_height yl yh js L H G (λ z Z a l c. height_full yl yh is L H F e z Z a l (back z Z a l c)))
+      go (Free h g) e =
           let S = height_free yl yh is L H F h g e in
           let R = real_of (finite S.number) in
           let o = to h R S.from S.upto S.out in
@@ -79,28 +80,28 @@ module _ (yl yh : Float) (L : Finite yl) (H : Finite yh) where
     where
       go : Alike is js → height_of yl yh is ≡ height_of yl yh js
       go (inl w) = w.0 ∙ sym w.1
-      go (inr w) = w.1 ∙ (ap (λ (g : Float). Some (w.0, g)) (clear-same yh w.0 H is js F G to back) ∙ sym w.2)
+      go (inr w) = w.1 ∙ (ap (Free w.0) (clear-same yh w.0 H is js F G to back) ∙ sym w.2)
 
   -- where the heights are the same, the one look is free, or full, as the other is
   pub free_too : (is js : List Interval) → height_in (height_of yl yh is) ≡ height_in (height_of yl yh js) → (h g : Float)
-      → height_of yl yh is ≡ Some (h, g) → (c : Float) × (height_of yl yh js ≡ Some (h, c))
+      → height_of yl yh is ≡ Free h g → (c : Float) × (height_of yl yh js ≡ Free h c)
   unfolding height_in
   free_too is js s h g e = go (height_of yl yh js) refl
     where
-      go : (l : Option (Float × Float)) → height_of yl yh js ≡ l → (c : Float) × (height_of yl yh js ≡ Some (h, c))
-      go None f = absurd (one≢none (sym (ap height_in e) ∙ (s ∙ ap height_in f)))
-      go (Some (y, c)) f =
+      go : (l : Look) → height_of yl yh js ≡ l → (c : Float) × (height_of yl yh js ≡ Free h c)
+      go Full f = absurd (one≢none (sym (ap height_in e) ∙ (s ∙ ap height_in f)))
+      go (Free y c) f =
           let q : ◌≡◌ {A = List Float} (h ∷ []) (y ∷ []) = sym (ap height_in e) ∙ (s ∙ ap height_in f) in
           let z : y ≡ h = cc in
-          (c, f ∙ ap (λ (v : Float). Some (v, c)) z)
+          (c, f ∙ ap (λ (v : Float). Free v c) z)
 
-  pub full_too : (is js : List Interval) → height_in (height_of yl yh is) ≡ height_in (height_of yl yh js) → height_of yl yh is ≡ None → height_of yl yh js ≡ None
+  pub full_too : (is js : List Interval) → height_in (height_of yl yh is) ≡ height_in (height_of yl yh js) → height_of yl yh is ≡ Full → height_of yl yh js ≡ Full
   unfolding height_in
   full_too is js s e = go (height_of yl yh js) refl
     where
-      go : (l : Option (Float × Float)) → height_of yl yh js ≡ l → height_of yl yh js ≡ None
-      go None f = f
-      go (Some (y, c)) f = absurd (one≢none (sym (ap height_in f) ∙ (sym s ∙ ap height_in e)))
+      go : (l : Look) → height_of yl yh js ≡ l → height_of yl yh js ≡ Full
+      go Full f = f
+      go (Free y c) f = absurd (one≢none (sym (ap height_in f) ∙ (sym s ∙ ap height_in e)))
 
   -- an interval that does not count holds no height from y-low to y-high
   uncounted : (i : Interval) → FiniteEnd i → counts_of yl yh i ≡ false → (z : Float) → Real z → k yl ≤ k z → k z ≤ k yh → inside z i ≡ true → ⊥
@@ -123,11 +124,11 @@ module _ (yl yh : Float) (L : Finite yl) (H : Finite yh) where
       at i m z Z a b c (inr e) (inr t) = t
 
   -- more intervals leave full what is full
-  pub more_full : (is js : List Interval) → FiniteEnds is → FiniteEnds js → Within is js → height_of yl yh is ≡ None → height_of yl yh js ≡ None
+  pub more_full : (is js : List Interval) → FiniteEnds is → FiniteEnds js → Within is js → height_of yl yh is ≡ Full → height_of yl yh js ≡ Full
   more_full is js F G w e = full_height yl yh js L H G (λ z Z a b c. height_full yl yh is L H F e z Z a b (outside-within is js w z c))
 
   -- and never lower the height
-  pub more_higher : (is js : List Interval) → FiniteEnds is → FiniteEnds js → Within is js → (h c g d : Float) → height_of yl yh is ≡ Some (h, c) → height_of yl yh js ≡ Some (g, d) → le h g ≡ true
+  pub more_higher : (is js : List Interval) → FiniteEnds is → FiniteEnds js → Within is js → (h c g d : Float) → height_of yl yh is ≡ Free h c → height_of yl yh js ≡ Free g d → le h g ≡ true
   more_higher is js F G w h c g d e f =
       let S = height_free yl yh is L H F h c e in
       let R = height_free yl yh js L H G g d f in
@@ -159,7 +160,7 @@ module _ (x yl yh : Float) (inset apart sheet placed : List Float) (L : Finite y
   counted_height = rw (← counted_is x yl yh inset apart sheet placed) (keep_height yl yh L H (forbidden_in x inset apart sheet placed) all_finite)
 
   -- where the look is free, its height is the smallest of all doubles from y-low on that lie in no forbidden interval of any pair, counted or not
-  pub free_smallest : (h g : Float) → height_of yl yh (counted_in x yl yh inset apart sheet placed) ≡ Some (h, g)
+  pub free_smallest : (h g : Float) → height_of yl yh (counted_in x yl yh inset apart sheet placed) ≡ Free h g
       → (le yl h ≡ true) × (le h yh ≡ true) × (outside (forbidden_in x inset apart sheet placed) h ≡ true)
       × ((z : Float) → T (fits binary64 z) → le yl z ≡ true → outside (forbidden_in x inset apart sheet placed) z ≡ true → le h z ≡ true)
   free_smallest h g e =
@@ -172,7 +173,7 @@ module _ (x yl yh : Float) (inset apart sheet placed : List Float) (L : Finite y
       no_nan z f l = record { fit = f; is_real = le-real yl z (subst T (sym l) tt) }
 
   -- where it is full, no double from y-low to y-high lies in none
-  pub full_none : height_of yl yh (counted_in x yl yh inset apart sheet placed) ≡ None
+  pub full_none : height_of yl yh (counted_in x yl yh inset apart sheet placed) ≡ Full
       → (z : Float) → T (fits binary64 z) → le yl z ≡ true → le z yh ≡ true → outside (forbidden_in x inset apart sheet placed) z ≡ true → ⊥
   full_none e z f l g c =
       let Z : Real z = record { fit = f; is_real = le-real yl z (subst T (sym l) tt) } in

@@ -7,6 +7,13 @@ ghost use Rattle.look.specs.height.inner.Raising.{lift, raised, lower, from_last
 
 use index::Interval;
 
+// A look's answer (document 01; 02, W7): a free height and the clear height above it, or full.
+#[derive(Clone, Copy)]
+pub enum Look {
+    Free(f64, f64),
+    Full,
+}
+
 // The pass after which the intervals are sorted: a few passes settle most looks.
 const SORTED_AT: usize = 4;
 
@@ -157,7 +164,7 @@ fn next_bottom(room: &[f64], n: usize, h: f64, y_high: f64) -> f64
 
 // The smallest height from y_low to y_high that lies in none of the first n intervals of the room,
 // which are left in some other order, and how far it is from there up to the next interval.
-pub fn height(room: &mut [f64], n: usize, y_low: f64, y_high: f64) -> Option<(f64, f64)>
+pub fn height(room: &mut [f64], n: usize, y_low: f64, y_high: f64) -> Look
     requires { (2 * n ≤ length room.old) × Finite y_low × Finite y_high × FiniteEnds (intervals room.old n) }
     ensures { result ≡ height_of y_low y_high (intervals room.old n) }
 {
@@ -167,7 +174,7 @@ pub fn height(room: &mut [f64], n: usize, y_low: f64, y_high: f64) -> Option<(f6
     // passes go on until one raises nothing: no `for`
     while y < z {
         if y_high < z {
-            return None;
+            return Look::Full;
         }
         turn = next_turn(room, n, turn);
         y = z;
@@ -176,7 +183,7 @@ pub fn height(room: &mut [f64], n: usize, y_low: f64, y_high: f64) -> Option<(f6
     if y <= y_high {
         let h = numbers::plus_zero(y);
         let next = numbers::plus_zero(next_bottom(room, n, h, y_high));
-        return Some((h, next - h));
+        return Look::Free(h, next - h);
     }
-    None
+    Look::Full
 }

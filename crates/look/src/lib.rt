@@ -9,10 +9,11 @@ ghost use Rattle.trapezoid.specs.Strip.{capacity};
 ghost use Rattle.index.specs.inner.Listing.{FirstBuckets};
 ghost use Rattle.look.specs.inner.Ready.{Lookable, look_of};
 
+use crate::height::Look;
 use index::{Bucket, Entry, Index, Overrun};
 
-// The look at x, with heights from y_low to y_high: a free height and the clear height above it, or none
-// that is free; or that its counted intervals exceed the room, whose contents are used up.
+// The look at x, with heights from y_low to y_high; or that its counted intervals exceed the room,
+// whose contents are used up.
 // Only crates of ours call it: the entries and the kept buckets must be those of the strips.
 pub fn look_at(
     ix: Index,
@@ -30,7 +31,7 @@ pub fn look_at(
     room: &mut [f64],
     sheet_firsts: &[Bucket],
     placed_firsts: &[Bucket],
-) -> Result<Option<(f64, f64)>, Overrun>
+) -> Result<Look, Overrun>
     requires { Lookable ix x y_low y_high inset.now apart.now sheet.now placed.now sheet_entries.now sheet_starts.now
         placed_entries.now placed_starts.now × FirstBuckets ix sheet.now (capacity sheet.now) sheet_firsts.now
         × FirstBuckets ix placed.now (capacity placed.now) placed_firsts.now }

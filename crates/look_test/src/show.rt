@@ -1,5 +1,6 @@
 // The lines of look_test: a look's answer.
 use index::Overrun;
+use look::height::Look;
 
 fn show_free(h: f64, gap: f64) {
     io::write_all(1, b"free ");
@@ -9,10 +10,10 @@ fn show_free(h: f64, gap: f64) {
     io::write_all(1, b"\n");
 }
 
-pub fn show(a: Result<Option<(f64, f64)>, Overrun>) {
+pub fn show(a: Result<Look, Overrun>) {
     match a {
-        Ok(Some((h, gap))) => show_free(h, gap),
-        Ok(None) => {
+        Ok(Look::Free(h, gap)) => show_free(h, gap),
+        Ok(Look::Full) => {
             io::write_all(1, b"full\n");
         }
         Err(_) => {

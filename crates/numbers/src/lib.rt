@@ -1,10 +1,10 @@
-// Numbers (document 01, module 1): smaller, larger and rounding down of doubles, and a double from a
-// job's bits. Their order is `<`. Contracts speak of IEEE 754 as the kit's lib.Ieee states it.
+// Numbers (document 01, module 1): smaller, larger, order and rounding down of doubles, and a
+// double from a job's bits. Contracts speak of IEEE 754 as the kit's lib.Ieee states it.
 #![tactic(auto)]
 
 ghost use Rattle.std.specs.Prelude.{◌≡◌, from_bits, to_bits};
 ghost use Rattle.std.specs.Float.{binary64};
-ghost use Rattle.std.specs.Float.Ieee.{to_unsigned};
+ghost use Rattle.std.specs.Float.Ieee.{lt, to_unsigned};
 ghost use Rattle.std.specs.Float.Ieee.Scale.{finite};
 ghost use Rattle.numbers.specs.Numbers.{smaller, larger, plus_zero, double_of};
 
@@ -24,6 +24,13 @@ pub fn larger(a: f64, b: f64) -> f64
     if a < b { b } else { a }
 }
 
+// The order: whether a is below b.
+pub fn less(a: f64, b: f64) -> bool
+    ensures { result ≡ lt a b }
+{
+    a < b
+}
+
 // A minus zero becomes plus zero.
 #[tactic(auto, unfolding(crate::specs::Numbers::plus_zero))]
 pub fn plus_zero(x: f64) -> f64
@@ -36,7 +43,13 @@ pub fn plus_zero(x: f64) -> f64
 pub fn floor(x: f64) -> u64
     ensures { result ≡ to_unsigned 64 x }
 {
-    std::num::saturating_f64_to_u64(x)
+    if x >= 18446744073709551616.0 {
+        return 0xffff_ffff_ffff_ffff;
+    }
+    if x >= 1.0 {
+        return std::num::truncating_f64_to_u64(x);
+    }
+    0 // below one, or a NaN
 }
 
 // The double with the bit pattern n, if it is finite; a minus zero becomes plus zero.

@@ -23,14 +23,14 @@ pub struct Spot {
     pub gap: f64,
 }
 
-// The spot of a copy of n orientations.
-pub fn spot_of(o: Outcome, n: usize) -> Spot
-    requires { Under n o × (n ≤ 1024) }
-    ensures { (result.number ≡ orientation_number o) × (result.x ≡ outcome_x o) × (result.y ≡ y_of o) × (result.gap ≡ gap_of o) }
+// The spot of a copy; its number where the orientation is one of at most 1,024.
+pub fn spot_of(o: Outcome) -> Spot
+    ensures { ((n : ℕ) → Under n o → n ≤ 1024 → result.number ≡ orientation_number o) × (result.x ≡ outcome_x o)
+        × (result.y ≡ y_of o) × (result.gap ≡ gap_of o) }
 {
     match o {
         Ok(Some(p)) => Spot {
-            number: p.orientation + 1,
+            number: p.orientation.wrapping_add(1),
             x: p.x,
             y: p.y,
             gap: p.gap,
@@ -107,7 +107,7 @@ pub fn place_next(
         sheet_firsts,
         firsts,
     );
-    let spot = spot_of(step.outcome, copy.orientations);
+    let spot = spot_of(step.outcome);
     tracks[2048 + at] = spot.number;
     spots[3 * at] = spot.x;
     spots[3 * at + 1] = spot.y;

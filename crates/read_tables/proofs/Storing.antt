@@ -4,12 +4,12 @@ use Prim.Native.Nat.{ℕ, suc, ◌+◌, ◌-◌, ◌≤◌, ◌<◌}
 use native.Mathlib.Omega.{arith}
 use native.Mathlib.Nat.{add-zero}
 use native.Mathlib.Numerals.{add-one}
-use mathlib.Core.List.{List, [], ◌∷◌, ◌++◌}
+use mathlib.Core.List.{List, [], ◌∷◌, ◌++◌, append-nil}
 use lib.ListN.{length, get_or, set, take, drop, replicate, length-append}
-use lib.Seq.{sets, sets-eq, length-sets, take_at, take-suc}
+use lib.Seq.{sets, sets-eq, length-sets, take_at, take-suc, length-take-le}
 use borrow.Rule.Slice.PartMut.{put_mid}
+use Rattle.std.proofs.lemmas.List.{drop_all, length-drop}
 use Rattle.bit_writer.specs.Packed.{in_room}
-use Rattle.bit_writer.proofs.Writing.{filled_from}
 use Rattle.read_tables.specs.inner.Laying.{Stored, cleared}
 
 module _ {A : Type 0} where
@@ -80,4 +80,7 @@ module _ {A : Type 0} where
   pub fill-cleared : (v : A) (n : ℕ) (b c : List A) → n ≤ length b → c ≡ replicate (length (take (length b - n) (drop n b))) v
       → put_mid n (length b - n) b c ≡ cleared v n b
   unfolding cleared
-  fill-cleared v n b c h e = filled_from v n b c h e
+  fill-cleared v n b c h e =
+      let t : length (take (length b - n) (drop n b)) ≡ length b - n = length-take-le (length b - n) (drop n b) (omega (arith, length-drop n b)) in
+      ap (λ l. take n b ++ (c ++ l)) (drop_all (length b - n) (drop n b) (omega (arith, length-drop n b)))
+      ∙ ap (λ l. take n b ++ l) (append-nil c ∙ e ∙ ap (λ (m : ℕ). replicate m v) t)

@@ -3,7 +3,7 @@
 #![tactic(auto)]
 
 mod sets;
-mod stores;
+pub mod stores;
 
 ghost use Rattle.std.specs.Prelude.{Ok, ◌≡◌, ℕ, ◌+◌, ◌*◌, ◌-◌, ◌≤◌, ◌<◌, ◌&&◌, List, length, leb, Float};
 ghost use Rattle.kinds.specs.inner.Tables.{tabulate, kind_at};

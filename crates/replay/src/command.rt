@@ -1,6 +1,6 @@
 // The commands of a script: a letter, a byte, four bytes and eight bytes, most significant first;
 // after some of them so many bytes more.
-use crate::records;
+use crate::lend;
 
 // What a command's letter says.
 #[derive(Clone, Copy, Debug, PartialEq, Eq)]
@@ -69,16 +69,25 @@ pub fn next() -> Option<Command> {
     })
 }
 
+// The next n bytes, or as many as there are; none where they do not fit.
+fn read_part(room: &mut [u8], n: usize) -> &[u8] {
+    let Some(part) = room.get_mut(..n) else {
+        return &[];
+    };
+    let got = io::read_full(0, part);
+    lend::lent(part, got)
+}
+
 // A line of text, printed as it is.
 pub fn read_title(n: usize) {
     let mut text = [0u8; 256];
-    io::write_all(1, records::read_into(&mut text, n).unwrap_or(&[]));
+    io::write_all(1, read_part(&mut text, n));
     io::write_all(1, b"\n");
 }
 
 // Reads a job; how many bytes there were, none where they do not fit.
 pub fn read_job(n: usize, bytes: &mut [u8]) -> usize {
-    records::read_into(bytes, n).map_or(0, |job| job.len())
+    read_part(bytes, n).len()
 }
 
 // Reads an order, its numbers of two bytes each; how many there were, none where they do not fit.
@@ -87,7 +96,7 @@ pub fn read_order(n: usize, order: &mut [usize]) -> usize {
     if n > 4100 {
         return 0;
     }
-    let got = records::read_into(&mut text, 2 * n).map_or(0, |t| t.len());
+    let got = read_part(&mut text, 2 * n).len();
     for (k, pair) in order.iter_mut().zip(text.as_chunks::<2>().0) {
         *k = usize::from(u16::from_be_bytes(*pair));
     }

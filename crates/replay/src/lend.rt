@@ -1,4 +1,6 @@
 // What is lent: commands that fill, change or print rooms, and those that give job, order and lengths.
+ghost use Rattle.std.specs.Prelude.{◌≤◌, length};
+
 use crate::command::{Command, Step};
 use crate::slot::Slot;
 use crate::{command, edit, show};
@@ -8,11 +10,15 @@ use index::{Bucket, Entry};
 pub type Lengths = [usize; 11];
 
 // The slots of a room that are lent: n, at most all.
-pub fn lent<T>(room: &[T], n: usize) -> &[T] {
+pub fn lent<T>(room: &[T], n: usize) -> &[T]
+    ensures { length result.now ≤ length room.now }
+{
     &room[..n.min(room.len())]
 }
 
-pub fn lent_mut<T>(room: &mut [T], n: usize) -> &mut [T] {
+pub fn lent_mut<T>(room: &mut [T], n: usize) -> &mut [T]
+    ensures { length result.now ≤ length room.old }
+{
     let m = n.min(room.len());
     &mut room[..m]
 }

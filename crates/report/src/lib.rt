@@ -30,7 +30,7 @@ pub struct NestResult {
     pub plan: Plan,
 }
 
-fn no_plan() -> Plan
+pub fn no_plan() -> Plan
     ensures { result ≡ no_plan }
 {
     Plan {

@@ -8,12 +8,13 @@ use mathlib.Core.Bool.{Bool, true, false, ◌||◌}
 use lib.ListN.{length, get_or, set, length-set}
 use lib.Seq.{get_or-set_same, set-set, set-get_or}
 use Rattle.search.specs.inner.Searching.{Answer, Found, after_look, after_answer, counted, search_from}
+use Rattle.look.specs.declared.height.Look.TheVariants.{Free, Full}
 
 -- the columns after one with this answer are looked at only if it is full
 abbrev pub onward : Answer → List ℕ → List ℕ
 onward (Err r) cs = []
-onward (Ok (Some (y, g))) cs = []
-onward (Ok None) cs = cs
+onward (Ok (Free y g)) cs = []
+onward (Ok Full) cs = cs
 
 unfoldable pub looks_made : (ℕ → Answer) → ℕ → ℕ → List ℕ
 looks_made f zero c = []
@@ -45,8 +46,8 @@ module _ (f : ℕ → Answer) (slot : ℕ) where
       go : (v : Answer) → (search_from f slot n (c + 1) (counted slot counts)).counts ≡ set (counted slot counts) slot (get_or (counted slot counts) slot 0 + length (looks_made f n (c + 1)))
           → (after_answer v c (counted slot counts) (search_from f slot n (c + 1) (counted slot counts))).counts ≡ set counts slot (get_or counts slot 0 + length (c ∷ onward v (looks_made f n (c + 1))))
       go (Err r) e = unfold after_answer in one
-      go (Ok (Some (y, g))) e = unfold after_answer in (unfold after_look in one)
-      go (Ok None) e = unfold after_answer in (unfold after_look in (e ∙ (set-set counts slot (get_or counts slot 0 + 1) _ ∙ ap (set counts slot) (more (get_or (counted slot counts) slot 0) (get_or counts slot 0) (length (looks_made f n (c + 1))) (get_or-set_same counts slot (get_or counts slot 0 + 1) 0 h)))))
+      go (Ok (Free y g)) e = unfold after_answer in (unfold after_look in one)
+      go (Ok Full) e = unfold after_answer in (unfold after_look in (e ∙ (set-set counts slot (get_or counts slot 0 + 1) _ ∙ ap (set counts slot) (more (get_or (counted slot counts) slot 0) (get_or counts slot 0) (length (looks_made f n (c + 1))) (get_or-set_same counts slot (get_or counts slot 0 + 1) 0 h)))))
         where
           more : (a b m : ℕ) → a ≡ b + 1 → a + m ≡ b + suc m
           more a b m e = omega arith
@@ -60,5 +61,5 @@ module _ (f : ℕ → Answer) (slot : ℕ) where
       go : (v : Answer) → f c ≡ v → is_overflow (search_from f slot n (c + 1) (counted slot counts)).found ≡ any_lacks_room f (looks_made f n (c + 1))
           → is_overflow (after_answer v c (counted slot counts) (search_from f slot n (c + 1) (counted slot counts))).found ≡ (lacks_room (f c) || any_lacks_room f (onward v (looks_made f n (c + 1))))
       go (Err r) q e = unfold after_answer in (rw q)
-      go (Ok (Some (y, g))) q e = unfold after_answer in (unfold after_look in (rw q))
-      go (Ok None) q e = unfold after_answer in (unfold after_look in (rw q e))
+      go (Ok (Free y g)) q e = unfold after_answer in (unfold after_look in (rw q))
+      go (Ok Full) q e = unfold after_answer in (unfold after_look in (rw q e))

@@ -13,6 +13,7 @@ use Rattle.index.specs.declared.Overrun.{Overrun}
 use Rattle.search.specs.declared.columns.Columns.{Columns}
 use Rattle.search.specs.columns.inner.Stands.{last_of, start_of}
 use Rattle.search.specs.inner.Searching.{remembering, next_of, tracked, search_of, Answer, Found, answer_at, looked, counted, after_look, after_answer, search_from}
+use Rattle.look.specs.declared.height.Look.TheVariants.{Free, Full}
 
 module _ (f : ℕ → Answer) (slot c : ℕ) (counts : List ℕ) where
   pub search-end : (n : ℕ) → n ≡ 0 → search_from f slot n c counts ≡ looked (Ok None) counts
@@ -23,11 +24,11 @@ module _ (f : ℕ → Answer) (slot c : ℕ) (counts : List ℕ) where
   unfolding search_from after_answer
   search_overflow n m r e l = rw (e, l)
 
-  pub search_free : (n m : ℕ) (y g : Float) → n ≡ suc m → f c ≡ Ok (Some (y, g)) → search_from f slot n c counts ≡ looked (Ok (Some (c, y, g))) (counted slot counts)
+  pub search_free : (n m : ℕ) (y g : Float) → n ≡ suc m → f c ≡ Ok (Free y g) → search_from f slot n c counts ≡ looked (Ok (Some (c, y, g))) (counted slot counts)
   unfolding search_from after_answer after_look
   search_free n m y g e l = rw (e, l)
 
-  pub search_full : (n m : ℕ) → n ≡ suc m → f c ≡ Ok None → search_from f slot n c counts ≡ search_from f slot m (c + 1) (counted slot counts)
+  pub search_full : (n m : ℕ) → n ≡ suc m → f c ≡ Ok Full → search_from f slot n c counts ≡ search_from f slot m (c + 1) (counted slot counts)
   unfolding search_from after_answer after_look
   search_full n m e l = rw (e, l)
 
@@ -72,11 +73,11 @@ module _ (k : Columns) (inset apart sheet placed room₀ : List Float) (slot las
       pub at_overflow : (r : Overrun) → v ≡ Err r → looked (Err r) counts' ≡ search_from look_of_lem slot (last + 1 - from) from counts₀
       at_overflow r q = ap (looked (Err r)) l ∙ (sym (search_overflow look_of_lem slot c counts (last + 1 - c) (last - c) r left (same_look (Err r) q)) ∙ g.same)
 
-      pub at_free : (y gap : Float) → v ≡ Ok (Some (y, gap)) → looked (Ok (Some (c, y, gap))) counts' ≡ search_from look_of_lem slot (last + 1 - from) from counts₀
+      pub at_free : (y gap : Float) → v ≡ Ok (Free y gap) → looked (Ok (Some (c, y, gap))) counts' ≡ search_from look_of_lem slot (last + 1 - from) from counts₀
       at_free y gap q = ap (looked (Ok (Some (c, y, gap)))) l ∙ (sym (search_free look_of_lem slot c counts (last + 1 - c) (last - c) y gap left
-          (same_look (Ok (Some (y, gap))) q)) ∙ g.same)
+          (same_look (Ok (Free y gap)) q)) ∙ g.same)
 
-      pub at_full : slot < 1024 → length room' ≡ length room → length tracks' ≡ length tracks → v ≡ Ok None → Goes room' tracks' (c + 1)
+      pub at_full : slot < 1024 → length room' ≡ length room → length tracks' ≡ length tracks → v ≡ Ok Full → Goes room' tracks' (c + 1)
       at_full s w t q =
           record {
             on = (let o = g.on in omega arith);
@@ -86,7 +87,7 @@ module _ (k : Columns) (inset apart sheet placed room₀ : List Float) (slot las
             small = fewer h (get_or counts' slot 0) (get_or counts slot 0) (ap (λ (x : List ℕ). get_or x slot 0) l ∙ get_or-set_same counts slot
                 (get_or counts slot 0 + 1) 0 (subst (λ (n : ℕ). slot < n) (sym (length-field 0 2 1 1024 tracks)) s)) g.small;
             same = ap (search_from look_of_lem slot (last + 1 - (c + 1)) (c + 1)) l ∙
-                (sym (search_full look_of_lem slot c counts (last + 1 - c) (last + 1 - (c + 1)) (less h) (same_look (Ok None) q)) ∙ g.same);
+                (sym (search_full look_of_lem slot c counts (last + 1 - c) (last + 1 - (c + 1)) (less h) (same_look (Ok Full) q)) ∙ g.same);
           }
         where
           less : c ≤ last → last + 1 - c ≡ suc (last + 1 - (c + 1))

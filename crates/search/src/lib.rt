@@ -14,6 +14,7 @@ ghost use Rattle.search.specs.inner.Searching.{answer_at, looked, search_from, W
 
 use crate::columns::Columns;
 use index::{Bucket, Entry, Index, Overrun};
+use look::height::Look;
 
 // The column that a search yields, with its free height and the clear height above it, or none; or
 // that a look's intervals exceed the room.
@@ -37,7 +38,7 @@ fn column_step(
     tracks: &mut [usize],
     sheet_firsts: &[Bucket],
     placed_firsts: &[Bucket],
-) -> Result<Option<(f64, f64)>, Overrun>
+) -> Result<Look, Overrun>
     requires { Lookable ix (column_x k c) k.y_low k.y_high inset.now apart.now sheet.now placed.now
         sheet_entries.now sheet_starts.now placed_entries.now placed_starts.now
         × (k.count ≤ 4000000000) × (slot < 1024) × (slot_numbers ≤ length tracks.old) × (get_or (look_counts_from tracks.old) slot 0 + 1 < 2 ^ 64)
@@ -100,8 +101,13 @@ fn column_search(
         slot (last + 1 - from) from (look_counts_from tracks.old))
         × (next_columns tracks.new ≡ next_columns tracks.old) × Within last result }
 {
-    for c in from..=last {
-        let look = column_step(
+    // document 01 names this form: a loop that yields the column by `break`
+    let mut c = from;
+    let found = loop {
+        if last < c {
+            break None;
+        }
+        match column_step(
             ix,
             k,
             c,
@@ -118,12 +124,16 @@ fn column_search(
             tracks,
             sheet_firsts,
             placed_firsts,
-        )?;
-        if let Some((y, gap)) = look {
-            return Ok(Some((c, y, gap)));
+        )? {
+            Look::Free(y, gap) => {
+                break Some((c, y, gap));
+            }
+            Look::Full => {
+                c += 1;
+            }
         }
-    }
-    Ok(None)
+    };
+    Ok(found)
 }
 
 // What is remembered of a search: 0 for none, else one more than the column.

@@ -68,7 +68,7 @@ fn taken(state: State, n: usize, step: Step, tracks: &[usize]) -> State
     let mut x = layout.x;
     let mut y = layout.y;
     let mut gap = layout.gap;
-    let spot = place::next::spot_of(o, n);
+    let spot = place::next::spot_of(o);
     orientation[at] = spot.number;
     x[at] = spot.x;
     y[at] = spot.y;

@@ -127,9 +127,7 @@ fn turn() -> Option<()> {
     let mut head = [0u8; 132];
     let mut points = [1.0f64; 1024];
     let mut ends = [1u16; 64];
-    if io::read_full(0, &mut head) < 132 {
-        return None;
-    }
+    let got = io::read_full(0, &mut head);
     let loops = at_most(usize::from(head[1]), 64);
     let n = at_most(usize::from(u16::from_be_bytes([head[2], head[3]])), 512);
     read_coordinates(&mut points[..2 * n]);
@@ -138,7 +136,8 @@ fn turn() -> Option<()> {
     }
     let sheet = head[0] % 2 == 1;
     try_set(frame_of(head[0]), &mut points, n, &ends[..loops], sheet);
-    Some(())
+    // a head that is cut is the last one
+    if got < 132 { None } else { Some(()) }
 }
 
 fn main() {

@@ -133,7 +133,7 @@ fn write_place(
         × (x.new ≡ set x.old at (outcome_x o)) × (y.new ≡ set y.old at (y_of o))
         × (gap.new ≡ set gap.old at (gap_of o)) }
 {
-    let spot = place::next::spot_of(o, n);
+    let spot = place::next::spot_of(o);
     orientation[at] = spot.number;
     x[at] = spot.x;
     y[at] = spot.y;

@@ -119,7 +119,7 @@ fn last_lines(out: &mut Text, plan: &Plan)
 }
 
 // The text of a plan.
-fn plan_text(out: &mut Text, rows: &[u64], kinds: usize, room: &[f64], plan: &Plan)
+pub fn plan_text(out: &mut Text, rows: &[u64], kinds: usize, room: &[f64], plan: &Plan)
     requires { (out.old.end + 589824 ≤ length out.old.out.now) × (kinds ≤ 64) × (4 * kinds ≤ length rows.now)
         × ((k : ℕ) → k < kinds → get_or rows.now (4 * k + 3) 0 ≤ 16) × (plan.now.placed ≤ 4096) × (6 * plan.now.placed ≤ length room.now)
         × (kinds ≤ length plan.now.placed_of) × (kinds ≤ length plan.now.unplaced_of) × (16 * kinds ≤ length plan.now.look_counts) }

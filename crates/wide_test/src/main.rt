@@ -88,18 +88,25 @@ fn print_in(which: u8, slots: usize, entries: usize, bytes: &[u8], long: &mut [f
     }
 }
 
-// Prints the answer to a record; none to one that is too short.
-fn answer(record: &[u8], long: &mut [f64]) {
-    if let Some((head, job)) = record.split_first_chunk::<9>() {
-        let slots = records::four_at(&head[1..], 0);
-        let entries = records::four_at(&head[1..], 1);
-        print_in(head[0], slots, entries, job, long);
-    }
+// Prints the answer to a record; none to one that is too short, which ends the run.
+fn answer(record: &[u8], long: &mut [f64]) -> Option<()> {
+    let (head, job) = record.split_first_chunk::<9>()?;
+    let slots = records::four_at(&head[1..], 0);
+    let entries = records::four_at(&head[1..], 1);
+    print_in(head[0], slots, entries, job, long);
+    Some(())
 }
 
-// The long room has 66,666 strips.
+// The long room has 66,666 strips. At most 1,000 records are answered.
 fn main() {
     let mut room = [0u8; 16384];
     let mut long = [1.0; 400000];
-    records::answer_all(&mut room, |record| answer(record, &mut long));
+    for _ in 0..1000 {
+        let Some(record) = records::next_job(&mut room) else {
+            break;
+        };
+        if answer(record, &mut long).is_none() {
+            break;
+        }
+    }
 }

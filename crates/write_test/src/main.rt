@@ -177,9 +177,10 @@ fn answer_in(
     }
 }
 
-// Prints the answer to a record, in the rooms that are lent.
+// Prints the answer to the record that the first n bytes are, in the rooms that are lent.
 fn answer(
-    record: &[u8],
+    room: &[u8],
+    n: usize,
     rows: &mut [u64],
     areas: &mut [f64],
     counts: &mut [u64],
@@ -187,12 +188,12 @@ fn answer(
     out: &mut [u8],
 ) {
     answer_in(
-        record,
-        lend::lent_mut(rows, records::four_at(record, 1)),
-        lend::lent_mut(areas, records::four_at(record, 2)),
-        lend::lent_mut(counts, records::four_at(record, 3)),
-        lend::lent_mut(coordinates, records::four_at(record, 4)),
-        lend::lent_mut(out, records::four_at(record, 5)),
+        lend::lent(room, n),
+        lend::lent_mut(rows, records::four_at(room, 1)),
+        lend::lent_mut(areas, records::four_at(room, 2)),
+        lend::lent_mut(counts, records::four_at(room, 3)),
+        lend::lent_mut(coordinates, records::four_at(room, 4)),
+        lend::lent_mut(out, records::four_at(room, 5)),
     );
 }
 
@@ -204,14 +205,17 @@ fn main() {
     let mut counts = [0u64; 4300];
     let mut coordinates = [0.0; 16400];
     let mut out = [0u8; 140000];
-    records::answer_all(&mut room, |record| {
+    records::replay_all(|| {
+        let n = records::next_job(&mut room)?.len();
         answer(
-            record,
+            &room,
+            n,
             &mut rows,
             &mut areas,
             &mut counts,
             &mut coordinates,
             &mut out,
         );
+        Some(())
     });
 }

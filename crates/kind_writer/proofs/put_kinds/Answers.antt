@@ -8,12 +8,9 @@ use Rattle.std.specs.Prelude.{Result, Ok, Err}
 use Rattle.bits.specs.declared.Refusal.{Refusal}
 use Rattle.set_writer.specs.declared.Walk.{Walk}
 use Rattle.std.proofs.Common.{rules}
-use Rattle.set_writer.proofs.Walking.{ready-next}
+use Rattle.set_writer.proofs.Walking.{one-less, ready-next}
 use Rattle.kind_writer.proofs.KindLaws.{PutKinds, plus_more, kinds-none, kinds_then, kinds-bad, kind-some}
 use Rattle.kind_writer.proofs.put_kinds.Goals as goal
-
-one-less : (n i : ℕ) → i < n → n - i ≡ n - (i + 1) + 1
-one-less n i h = omega arith
 
 pub returns-in_err-v : goal.returns-in_err-v
 returns-in_err-v c =

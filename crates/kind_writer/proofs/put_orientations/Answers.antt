@@ -5,12 +5,9 @@ use native.Mathlib.Omega.{arith}
 use mathlib.Core.List.{[]}
 use Rattle.std.specs.Prelude.{Ok, Err}
 use Rattle.std.proofs.Common.{rules}
-use Rattle.set_writer.proofs.Walking.{ready-next, ready-less}
+use Rattle.set_writer.proofs.Walking.{one-less, ready-next, ready-less}
 use Rattle.kind_writer.proofs.KindLaws.{orientations-none, orientations_on, orientations-bad}
 use Rattle.kind_writer.proofs.put_orientations.Goals as goal
-
-one-less : (n i : ℕ) → i < n → n - i ≡ n - (i + 1) + 1
-one-less n i h = omega arith
 
 pub put_orientation-requires : goal.put_orientation-requires
 put_orientation-requires c =

@@ -1,5 +1,4 @@
 -- A pass raises y past no height that lies in no interval; where it raises nothing, y lies in none. Assumes nothing.
-use Rattle.std.specs.Prelude.{Some, None}
 use Prim.Native.Nat.{ℕ, suc, ◌+◌, ◌-◌, ◌≤◌, ◌<◌}
 use native.Mathlib.Omega.{arith}
 use native.Mathlib.Numerals.{add-one}
@@ -17,6 +16,7 @@ use Rattle.numbers.proofs.Truth.{either, clash, below_or_not}
 use Rattle.index.specs.declared.Interval.{Interval}
 use Rattle.index.specs.Buckets.{up_from}
 use Rattle.index.specs.inner.Listing.{interval_at}
+use Rattle.look.specs.declared.height.Look.TheVariants.{Free, Full}
 use Rattle.look.specs.height.Smallest.{inside, outside, clear_above, height_of}
 use Rattle.look.specs.height.inner.Raising.{lift, raised, from_last, FiniteEnds}
 use Rattle.look.proofs.height.SmallestHeight.{Real, real_of, le_is_true, inside-key, key-inside, outside_of, same-outside, free_height, full_height, real-end}
@@ -95,7 +95,7 @@ module _ (yl : Float) (is : List Interval) (F : FiniteEnds is) where
 
   -- ---- the end
   module _ (yh : Float) (L : Finite yl) (H : Finite yh) where
-    pub ends_free : (y : Float) → Reached yl is y → outside is y ≡ true → le y yh ≡ true → Some (plus_zero y, clear_above yh is (plus_zero y)) ≡ height_of yl yh is
+    pub ends_free : (y : Float) → Reached yl is y → outside is y ≡ true → le y yh ≡ true → Free (plus_zero y) (clear_above yh is (plus_zero y)) ≡ height_of yl yh is
     ends_free y R u l =
         let p = plus-number y R.fine in
         sym (free_height yl yh is L H F (plus_zero y) (record {
@@ -106,7 +106,7 @@ module _ (yl : Float) (is : List Interval) (F : FiniteEnds is) where
           first = λ z Z h q. (let a = R.first z Z h q in omega (arith, p.1));
         }))
 
-    pub ends-past : (y : Float) → Reached yl is y → k yh < k y → None ≡ height_of yl yh is
+    pub ends-past : (y : Float) → Reached yl is y → k yh < k y → Full ≡ height_of yl yh is
     ends-past y R l = sym (full_height yl yh is L H F (λ z Z h g u. no (k z) (k y) (k yh) (R.first z Z h u) g l))
       where
         no : (a b c : ℕ) → b ≤ a → a ≤ c → c < b → ⊥

@@ -1,5 +1,4 @@
 -- The height that the definition answers is the smallest of all doubles from y_low on that lie in no interval; where it is full there is none up to y_high; more intervals never lower it. Assumes nothing.
-use Rattle.std.specs.Prelude.{Option, Some, None}
 use Prim.Native.Nat.{ℕ, ◌≤◌, ◌<◌}
 use native.Mathlib.Omega.{arith}
 use mathlib.Core.Path.{◌≡◌, refl, sym, ap, ◌∙◌, subst}
@@ -20,6 +19,8 @@ use Rattle.index.specs.declared.Interval.{Interval}
 use Rattle.index.specs.Buckets.{keep}
 use Rattle.index.proofs.BucketOrder.{smaller_finite}
 use Rattle.index.proofs.Flat.{mem-map, map_mem}
+use Rattle.look.specs.declared.height.Look.{Look}
+use Rattle.look.specs.declared.height.Look.TheVariants.{Free, Full}
 use Rattle.look.specs.height.Smallest.{inside, outside, candidates, least, clear_above, free_at, lowest, height_of}
 use Rattle.look.specs.height.inner.Raising.{FiniteEnd, FiniteEnds}
 
@@ -238,24 +239,22 @@ pub record Smallest (y_low y_high : Float) (is : List Interval) (h : Float) : Ty
 abbrev pub NoneFree : Float → Float → List Interval → Type 0
 NoneFree y_low y_high is = (z : Float) → Real z → k y_low ≤ k z → k z ≤ k y_high → outside is z ≡ true → ⊥
 
-free≢full : {y g : Float} → ◌≡◌ {A = Option (Float × Float)} (Some (y, g)) None → ⊥
+free≢full : {y g : Float} → Free y g ≡ Full → ⊥
 free≢full e = let z : ◌≡◌ {A = ℕ} 0 1 = cc in omega arith
 
-free_parts : {a b c d : Float} → ◌≡◌ {A = Option (Float × Float)} (Some (a, b)) (Some (c, d)) → (a ≡ c) × (b ≡ d)
-free_parts {a} {b} {c} {d} e = let p : ◌≡◌ {A = Float × Float} (a, b) (c, d) = cc in (ap (λ q. q.0) p, ap (λ q. q.1) p)
-
-pub lowest_full : (yh : Float) (is : List Interval) (cs : List Float) → lowest yh is cs ≡ None → (c : Float) → Memᴰ c cs → ⊥
+pub lowest_full : (yh : Float) (is : List Interval) (cs : List Float) → lowest yh is cs ≡ Full → (c : Float) → Memᴰ c cs → ⊥
 unfolding lowest free_at
 lowest_full yh is [] e c m = Memᴰ.not-nil m
 lowest_full yh is (d ∷ cs) e c m = free≢full e
 
-lowest_free : (yh : Float) (is : List Interval) (cs : List Float) (h g : Float) → lowest yh is cs ≡ Some (h, g) → ((d : Float) → Memᴰ d cs → Finite d)
+lowest_free : (yh : Float) (is : List Interval) (cs : List Float) (h g : Float) → lowest yh is cs ≡ Free h g → ((d : Float) → Memᴰ d cs → Finite d)
     → (c : Float) × Memᴰ c cs × (h ≡ plus_zero c) × ((d : Float) → Memᴰ d cs → k c ≤ k d) × (g ≡ clear_above yh is h)
 unfolding lowest free_at
 lowest_free yh is [] h g e f = absurd (free≢full (sym e))
 lowest_free yh is (d ∷ cs) h g e f =
-    let p = free_parts e in
-    (least d cs, least_is d cs, sym p.0, least_bottom d cs f, sym p.1 ∙ ap (clear_above yh is) p.0)
+    let z : plus_zero (least d cs) ≡ h = cc in
+    let y : clear_above yh is (plus_zero (least d cs)) ≡ g = cc in
+    (least d cs, least_is d cs, sym z, least_bottom d cs f, sym y ∙ ap (clear_above yh is) z)
 
 -- ---- candidates, where no end is a NaN
 module _ (yl : Float) (is : List Interval) (L : Real yl) (E : (i : Interval) → Memᴰ i is → RealEnd i) where
@@ -318,15 +317,15 @@ module _ (yl yh : Float) (is : List Interval) (L : Finite yl) (H : Finite yh) (F
       let c = nearest yl is (real_of L) ends z Z h o in
       (c.0, mem_keep (λ c. le c yh && outside is c) c.0 (candidates yl is) c.1 (both (le c.0 yh) (outside is c.0) (is_le (real_of (candidate c.0 c.1).0) (real_of H) (let q = c.2 in omega arith)) c.3), c.2)
 
-  pub height_full : height_of yl yh is ≡ None → NoneFree yl yh is
+  pub height_full : height_of yl yh is ≡ Full → NoneFree yl yh is
   unfolding height_of
   height_full e z Z h l o = let c = some_height z Z h l o in lowest_full yh is heights e c.0 c.1
 
-  pub height_clear : (h g : Float) → height_of yl yh is ≡ Some (h, g) → g ≡ clear_above yh is h
+  pub height_clear : (h g : Float) → height_of yl yh is ≡ Free h g → g ≡ clear_above yh is h
   unfolding height_of
   height_clear h g e = (lowest_free yh is heights h g e (λ d m. (of_heights d m).0)).4
 
-  pub height_free : (h g : Float) → height_of yl yh is ≡ Some (h, g) → Smallest yl yh is h
+  pub height_free : (h g : Float) → height_of yl yh is ≡ Free h g → Smallest yl yh is h
   unfolding height_of
   height_free h g e = rw w.2 (record {
     number = p.0;
@@ -350,21 +349,21 @@ module _ (yl yh : Float) (is : List Interval) (L : Finite yl) (H : Finite yh) (F
       first z Z g o (inr l) = let c = some_height z Z g l o in let q = w.3 c.0 c.1 in let r = c.2 in omega (arith, p.1)
 
   -- ---- and only that
-  pub free_height : (h : Float) → Smallest yl yh is h → height_of yl yh is ≡ Some (h, (clear_above yh is h))
+  pub free_height : (h : Float) → Smallest yl yh is h → height_of yl yh is ≡ Free h (clear_above yh is h)
   free_height h S = go (height_of yl yh is) refl
     where
-      go : (l : Option (Float × Float)) → height_of yl yh is ≡ l → l ≡ Some (h, (clear_above yh is h))
-      go None e = absurd (height_full e h (real_of (finite S.number)) S.from S.upto S.out)
-      go (Some (g, c)) e =
+      go : (l : Look) → height_of yl yh is ≡ l → l ≡ Free h (clear_above yh is h)
+      go Full e = absurd (height_full e h (real_of (finite S.number)) S.from S.upto S.out)
+      go (Free g c) e =
           let G = height_free g c e in
           let a = G.first h (real_of (finite S.number)) S.from S.out in
           let b = S.first g (real_of (finite G.number)) G.from G.out in
           let q : g ≡ h = same G.number S.number (omega arith) in
-          ap (λ (z : Float). Some (g, z)) (height_clear g c e) ∙ ap (λ (z : Float). Some (z, (clear_above yh is z))) q
+          ap (Free g) (height_clear g c e) ∙ ap (λ (z : Float). Free z (clear_above yh is z)) q
 
-  pub full_height : NoneFree yl yh is → height_of yl yh is ≡ None
+  pub full_height : NoneFree yl yh is → height_of yl yh is ≡ Full
   full_height N = go (height_of yl yh is) refl
     where
-      go : (l : Option (Float × Float)) → height_of yl yh is ≡ l → l ≡ None
-      go None e = refl
-      go (Some (g, c)) e = let G = height_free g c e in absurd (N g (real_of (finite G.number)) G.from G.upto G.out)
+      go : (l : Look) → height_of yl yh is ≡ l → l ≡ Full
+      go Full e = refl
+      go (Free g c) e = let G = height_free g c e in absurd (N g (real_of (finite G.number)) G.from G.upto G.out)

@@ -1,5 +1,5 @@
 -- Inner functions' contracts only: what a look requires, and what it answers with a room of so many intervals. Definitions only. Assumes nothing.
-use Rattle.std.specs.Prelude.{ℕ, ◌<◌, List, ◌++◌, true, false, Option, Result, Ok, Err, Float, length, ltb}
+use Rattle.std.specs.Prelude.{ℕ, ◌<◌, List, ◌++◌, true, false, Result, Ok, Err, Float, length, ltb}
 use Rattle.numbers.proofs.Doubles.{Finite}
 use Rattle.trapezoid.specs.declared.Trapezoid.{Trapezoid}
 use Rattle.trapezoid.specs.Strip.{strip_at, capacity}
@@ -11,6 +11,7 @@ use Rattle.look.specs.height.Smallest.{height_of}
 use Rattle.index.specs.declared.Overrun.{Overrun}
 use Rattle.index.specs.declared.Overrun.TheVariants.{IntervalRoom}
 use Rattle.look.specs.Looking.{counted_in}
+use Rattle.look.specs.declared.height.Look.{Look}
 
 -- a strip whose numbers are finite and within 31's bound; minus zero is allowed
 pub record BoundedStrip (p : Trapezoid) : Type 0 where
@@ -43,9 +44,9 @@ unfoldable pub forbidden_in : Float → List Float → List Float → List Float
 forbidden_in x inset apart sheet placed = forbidden_of sheet inset x ++ forbidden_of placed apart x
 
 -- "a look's counted intervals exceed their room" (22), else "free with its height, or full"
-unfoldable pub answer_of : ℕ → Float → Float → List Interval → Result (Option (Float × Float)) Overrun
+unfoldable pub answer_of : ℕ → Float → Float → List Interval → Result Look Overrun
 answer_of capacity y_low y_high is = elim (ltb capacity (length is)) [ true ↦ Err IntervalRoom | false ↦ Ok (height_of y_low y_high is) ]
 
 -- the look at x with a room of so many intervals
-unfoldable pub look_of : ℕ → Float → Float → Float → List Float → List Float → List Float → List Float → Result (Option (Float × Float)) Overrun
+unfoldable pub look_of : ℕ → Float → Float → Float → List Float → List Float → List Float → List Float → Result Look Overrun
 look_of capacity x y_low y_high inset apart sheet placed = answer_of capacity y_low y_high (counted_in x y_low y_high inset apart sheet placed)

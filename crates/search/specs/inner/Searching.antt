@@ -5,10 +5,12 @@ use Rattle.index.specs.declared.Overrun.{Overrun}
 use Rattle.look.specs.inner.Ready.{look_of}
 use Rattle.search.specs.declared.columns.Columns.{Columns}
 use Rattle.search.specs.columns.inner.Stands.{column_x, last_of, start_of}
+use Rattle.look.specs.declared.height.Look.{Look}
+use Rattle.look.specs.declared.height.Look.TheVariants.{Free, Full}
 
 -- what a look answers; what a search yields: a column with its free height and the clear height above it
 abbrev pub Answer : Type 0
-Answer = Result (Option (Float × Float)) Overrun
+Answer = Result Look Overrun
 
 abbrev pub Found : Type 0
 Found = Result (Option (ℕ × Float × Float)) Overrun
@@ -26,9 +28,9 @@ abbrev pub looked : Found → List ℕ → Looked
 looked f l = record { found = f; counts = l }
 
 -- the column c where its look is free, 22 where it has no room, else what the columns after it give
-unfoldable pub after_look : Option (Float × Float) → ℕ → List ℕ → Looked → Looked
-after_look (Some (y, g)) c counts next = looked (Ok (Some (c, y, g))) counts
-after_look None c counts next = next
+unfoldable pub after_look : Look → ℕ → List ℕ → Looked → Looked
+after_look (Free y g) c counts next = looked (Ok (Some (c, y, g))) counts
+after_look Full c counts next = next
 
 unfoldable pub after_answer : Answer → ℕ → List ℕ → Looked → Looked
 after_answer (Err r) c counts next = looked (Err r) counts

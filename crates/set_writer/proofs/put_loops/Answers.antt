@@ -6,12 +6,9 @@ use mathlib.Core.List.{[]}
 use Rattle.std.specs.Prelude.{Ok, Err}
 use Rattle.std.proofs.Common.{rules}
 use Rattle.bit_writer.proofs.Bits.{binary-length}
-use Rattle.set_writer.proofs.Walking.{ready-next, ready-count}
+use Rattle.set_writer.proofs.Walking.{one-less, ready-next, ready-count}
 use Rattle.set_writer.proofs.Loops.{loops_none, loops_on, loops_bad-points, loops_bad, points-few}
 use Rattle.set_writer.proofs.put_loops.Goals as goal
-
-one-less : (n i : ℕ) → i < n → n - i ≡ n - (i + 1) + 1
-one-less n i h = omega arith
 
 pub returns-in_err-m : goal.returns-in_err-m
 returns-in_err-m c =

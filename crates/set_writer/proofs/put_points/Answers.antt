@@ -5,12 +5,9 @@ use native.Mathlib.Omega.{arith}
 use mathlib.Core.List.{[]}
 use Rattle.std.specs.Prelude.{Ok, Err}
 use Rattle.std.proofs.Common.{rules}
-use Rattle.set_writer.proofs.Walking.{ready-next}
+use Rattle.set_writer.proofs.Walking.{one-less, ready-next}
 use Rattle.set_writer.proofs.Numbers.{points_none, points_on, points-bad_two, points-bad}
 use Rattle.set_writer.proofs.put_points.Goals as goal
-
-one-less : (n i : ℕ) → i < n → n - i ≡ n - (i + 1) + 1
-one-less n i h = omega arith
 
 pub returns-in_err-v : goal.returns-in_err-v
 returns-in_err-v c =

@@ -11,4 +11,4 @@ returns c = let a = c.args in
     c.spot_of-spot.result.number c.spot_of-spot.result.x c.spot_of-spot.result.y c.spot_of-spot.result.gap
     (length s.next_column) (length s.look_counts) (g.1.1.1.0.1.0.1)
     (g.1.1.1.1.0.1.0.1) (c.read.ensures 0) (c.read-2.ensures 0)
-    c.spot_of-spot.ensures.0 c.spot_of-spot.ensures.1 c.spot_of-spot.ensures.2 c.spot_of-spot.ensures.3
+    (c.spot_of-spot.ensures.0 a.n c.requires.1 c.requires.2) c.spot_of-spot.ensures.1 c.spot_of-spot.ensures.2 c.spot_of-spot.ensures.3

@@ -1,4 +1,3 @@
-use Rattle.std.specs.Prelude.{Some}
 use mathlib.Core.Path.{ap, ◌∙◌}
 use native.Mathlib.Omega.{arith}
 use lib.Ieee.{Float}
@@ -9,6 +8,7 @@ use Rattle.look.proofs.height.Passes.{reached_start, ends_free, ends-past, above
 use Rattle.look.proofs.height.Clear.{clear_is, clear-rearranged}
 use Rattle.look.proofs.height.Rearranging.{rearranged-refl, rearranged_trans, raised_pass}
 use Rattle.look.proofs.height.height.Goals as goal
+use Rattle.look.specs.declared.height.Look.TheVariants.{Free}
 
 pub loop-y-init : goal.loop-y-init
 loop-y-init c = let g = c.args in
@@ -70,8 +70,8 @@ returns-then-y-y_high c = let l = c.loop-y in
     let h = c.plus_zero-h.result in
     let e = clear_is g.y_high (intervals l.room g.n) h _ _ c.next_bottom.ensures c.plus_zero-next.ensures
     ∙ clear-rearranged g.y_high h p.2 g.n g.room.now l.room l.invariant.0 p.3 in
-    ap (λ (g : Float). Some (h, g)) e
-    ∙ (ap (λ (z : Float). Some (z, (clear_above g.y_high is z))) c.plus_zero-h.ensures
+    ap (Free h) e
+    ∙ (ap (λ (z : Float). Free z (clear_above g.y_high is z)) c.plus_zero-h.ensures
     ∙ ends_free g.y_low is p.3 g.y_high p.1 p.2 l.y l.invariant.1.here
     (l.invariant.1.out (lt_is_false (real_of l.invariant.1.here.fine) (real_of l.invariant.1.next.fine) c.loop-y-test.false))
     c.if-y-y_high.true)

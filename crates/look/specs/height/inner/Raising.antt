@@ -1,7 +1,7 @@
 -- For inner functions' contracts only: the passes over a room's intervals, their rearrangement, and what the functions require. Definitions only. Assumes
 -- nothing.
-use Rattle.std.specs.Prelude.{Option, Some, None, ◌≡◌, true, false, length, get_or, set, eqb, Float}
 use Prim.Native.Nat.{ℕ, zero, suc, ◌+◌, ◌*◌, ◌%◌, ◌<◌}
+use Rattle.std.specs.Prelude.{◌≡◌, true, false, length, get_or, set, eqb, Float}
 use mathlib.Core.List.{List, [], ◌∷◌, Memᴰ}
 use Rattle.std.specs.Float.{nan}
 use Rattle.std.specs.Float.Ieee.{le}
@@ -9,6 +9,8 @@ use Rattle.numbers.proofs.Doubles.{Finite}
 use Rattle.numbers.specs.Numbers.{smaller}
 use Rattle.index.specs.declared.Interval.{Interval}
 use Rattle.index.specs.inner.Listing.{interval_at, intervals}
+use Rattle.look.specs.declared.height.Look.{Look}
+use Rattle.look.specs.declared.height.Look.TheVariants.{Free, Full}
 use Rattle.look.specs.height.Smallest.{inside}
 
 -- ---- one pass: y goes up to the top of each interval that it lies in
@@ -37,9 +39,9 @@ lowered h b [] = b
 lowered h b (i ∷ is) = lowered h (lower h b i) is
 
 -- a look's height alone
-unfoldable pub height_in : Option (Float × Float) → List Float
-height_in (Some (h, g)) = h ∷ []
-height_in None = []
+unfoldable pub height_in : Look → List Float
+height_in (Free h g) = h ∷ []
+height_in Full = []
 
 -- ---- another order
 unfoldable pub swapped : List Float → ℕ → ℕ → List Float

@@ -35,9 +35,6 @@ place_copy-step-requires c = let t = c.args.tracks.now in
       p.10,
     )
 
-pub spot_of-spot-requires : goal.spot_of-spot-requires
-spot_of-spot-requires c = (c.place_copy-step.ensures.2, under c.args.copy.slot c.args.copy.orientations c.requires.1)
-
 pub returns : goal.returns
 returns c = let a = c.args in
     let p = c.requires in
@@ -55,7 +52,7 @@ returns c = let a = c.args in
           ∙ ap₂ (λ (q m : List ℕ). place_of a.g.index w a.copy.area a.copy.slot a.copy.orientations a.t a.placed.now a.entries.now
           a.starts.now a.firsts.now q m)
           (front-field t 1 (omega arith)) (front-field t 0 (omega arith))),
-      orientation-written t f p.6 k a.at v p.8 ∙ ap (λ (z : ℕ). set (orientations t) a.at z) o.ensures.0,
+      orientation-written t f p.6 k a.at v p.8 ∙ ap (λ (z : ℕ). set (orientations t) a.at z) (o.ensures.0 a.copy.orientations s.ensures.2 (under a.copy.slot a.copy.orientations p.1)),
       x_written a.spots.now p.7 a.at p.8 o.result.x o.result.y o.result.gap
           ∙ ap (λ (z : Float). set (xs a.spots.now) a.at z) o.ensures.1,
       y_written a.spots.now p.7 a.at p.8 o.result.x o.result.y o.result.gap
