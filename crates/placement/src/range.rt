@@ -37,5 +37,6 @@ pub fn in_range(k: Columns, x: f64, y: f64) -> bool
     if k.reversed() || !within(k.y_low, k.y_high, y) {
         return false;
     }
-    within(k.x_low, k.x_high, x) || among(k, k.last(), x)
+    let last = k.last();
+    within(k.x_low, k.x_high, x) || among(k, last, x)
 }

@@ -23,6 +23,6 @@ returns-then-within c = let a = c.args in
 pub returns-else-within : goal.returns-else-within
 returns-else-within c = let a = c.args in
     c.among.ensures
-    ∙ ap (λ (n : ℕ). among_columns (column_x a.k) n a.x) c.last.ensures.0
+    ∙ ap (λ (n : ℕ). among_columns (column_x a.k) n a.x) c.last-last.ensures.0
     ∙ sym (range_column a.k a.x a.y (sym c.reversed.ensures ∙ c.if-reversed.false) (sym c.within.ensures ∙ c.if-not-within.false)
     (sym c.within-2.ensures ∙ c.if-within.false))
