@@ -16,17 +16,16 @@ drop-replicate zero m a = let z : m ≡ m - 0 = omega arith in ap (λ (k : ℕ).
 drop-replicate (suc n) zero a = let z : 0 ≡ 0 - suc n = omega arith in ap (λ (k : ℕ). replicate k a) z
 drop-replicate (suc n) (suc m) a = let z : m - n ≡ suc m - suc n = omega arith in drop-replicate n m a ∙ ap (λ (k : ℕ). replicate k a) z
 
--- l₁ is the room after the move, z what stands from its new end on
-pub cleared : (l₀ l₁ z : List Float) (a k n : ℕ) → a + k ≤ n → 6 * n ≤ length l₀ → length l₁ ≡ length l₀
+-- l₁ is the room after the move, z what stands from e, its new end, on
+pub cleared : (l₀ l₁ z : List Float) (a k n e : ℕ) → a + k ≤ n → 6 * n ≤ length l₀ → e ≡ 6 * n - 6 * k → length l₁ ≡ length l₀
     → take (6 * n - 6 * k) l₁ ≡ take (6 * a) l₀ ++ drop (6 * a + 6 * k) (take (6 * n) l₀)
-    → z ≡ zeros pos_zero (mid_of (6 * n - 6 * k) (length l₁ - (6 * n - 6 * k)) l₁)
-    → put_mid (6 * n - 6 * k) (length l₁ - (6 * n - 6 * k)) l₁ z ≡ laid (strips_left a k (take (6 * n) l₀)) (zeros pos_zero l₀)
+    → z ≡ zeros pos_zero (mid_of e (length l₁ - e) l₁)
+    → put_mid e (length l₁ - e) l₁ z ≡ laid (strips_left a k (take (6 * n) l₀)) (zeros pos_zero l₀)
 unfolding laid zeros strips_left
-cleared l₀ l₁ z a k n h b long moved zs =
-    let e = 6 * n - 6 * k in
+cleared l₀ l₁ z a k n e h b here long moved zs =
     let y : 6 * (a + k) ≡ 6 * a + 6 * k = omega arith in
     let front : take e l₁ ≡ take (6 * a) (take (6 * n) l₀) ++ drop (6 * (a + k)) (take (6 * n) l₀) =
-    moved ∙ ap₂ ◌++◌ (sym (take-take (6 * a) (6 * n) l₀ (omega arith))) (ap (λ (q : ℕ). drop q (take (6 * n) l₀)) (sym y)) in
+    ap (λ (q : ℕ). take q l₁) here ∙ moved ∙ ap₂ ◌++◌ (sym (take-take (6 * a) (6 * n) l₀ (omega arith))) (ap (λ (q : ℕ). drop q (take (6 * n) l₀)) (sym y)) in
     let len : length (take (6 * a) (take (6 * n) l₀) ++ drop (6 * (a + k)) (take (6 * n) l₀)) ≡ e =
     sym (ap length front) ∙ length-take-le e l₁ (omega arith) in
     let mid : length (mid_of e (length l₁ - e) l₁) ≡ length l₀ - e = mids e in

@@ -16,17 +16,21 @@ fn strips_lie(part: &[f64], x: f64, y: f64, placed: &[f64], at: usize) -> bool
         && (0..n).all(|i| trapezoid::load(placed, at + i) == trapezoid::load(part, i).moved(x, y))
 }
 
-// Whether a copy of the kind may stand so: an orientation that the kind has, a position within bounds.
-// Rows hold how many orientations each kind has, four numbers to a kind.
+// Whether the kind has this orientation; rows hold how many each has, four numbers to a kind.
 #[tactic(auto, unfolding(crate::specs::copy_tests::inner::Copies::turn_test))]
+fn turn_fits(rows: &[u64], kinds: usize, kind: usize, o: usize) -> bool
+    requires { (kinds ≤ 64) × (256 ≤ length rows.now) }
+    ensures { result ≡ turn_test rows.now kinds kind o }
+{
+    kind < kinds && o < rows[4 * kind + 3] as usize
+}
+
+// Whether a copy of the kind may stand so: an orientation that the kind has, a position within bounds.
 fn may_stand(rows: &[u64], kinds: usize, kind: usize, o: usize, x: f64, y: f64) -> bool
     requires { (kinds ≤ 64) × (256 ≤ length rows.now) }
     ensures { result ≡ (turn_test rows.now kinds kind o && (bounded x && bounded y)) }
 {
-    kind < kinds
-        && o < rows[4 * kind + 3] as usize
-        && strip_tests::bounded(x)
-        && strip_tests::bounded(y)
+    turn_fits(rows, kinds, kind, o) && strip_tests::bounded(x) && strip_tests::bounded(y)
 }
 
 // Past the strips of a copy, which are to begin at strip `at`; its number in the layout is 0 where it

@@ -24,6 +24,13 @@ ghost use Rattle.consistent.specs.inner.Tests.{state_of, slots_of, state_test, c
 use index::{Bucket, Entry};
 use strips::Rect;
 
+// The copies taken: at most the job's.
+fn taken_fits(taken: usize, copies: usize) -> bool
+    ensures { result ≡ leb taken copies }
+{
+    taken <= copies
+}
+
 // The copies taken, resolution, sheet bounds, right and unplaced area.
 #[tactic(auto, unfolding(crate::specs::inner::Tests::state_test))]
 fn state_fits(
@@ -37,7 +44,7 @@ fn state_fits(
     ensures { (result ≡ state_test taken copies resolution bounds right unplaced_area)
         × (result ≡ true → (taken ≤ copies) × BoundedRect bounds × Resolving resolution) }
 {
-    taken <= copies
+    taken_fits(taken, copies)
         && strip_tests::resolution_fits(resolution)
         && strip_tests::bounds_fit(bounds)
         && strip_tests::layout_fits(right, unplaced_area)

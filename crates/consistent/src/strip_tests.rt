@@ -3,7 +3,8 @@
 ghost use Rattle.std.specs.Prelude.{◌≡◌, true, ◌≤◌, length};
 ghost use Rattle.index.specs.inner.Listing.{Bounded};
 ghost use Rattle.search.proofs.columns.Sizes.{BoundedRect, Resolving};
-ghost use Rattle.consistent.specs.strip_tests.inner.Gaps.{gaps_test};
+ghost use Rattle.consistent.specs.strip_tests.inner.Heights.{heights_fit};
+ghost use Rattle.consistent.specs.strip_tests.inner.Gaps.{place_test, gaps_test};
 ghost use Rattle.filling.specs.Consistent.{bounded, strip_fits, strips_fit, bounds_fit, resolution_fits, layout_fits, gap_fits};
 
 use strips::Rect;
@@ -24,18 +25,20 @@ pub fn bounds_fit(b: Rect) -> bool
     bounded(b.left) && bounded(b.bottom) && bounded(b.right) && bounded(b.top)
 }
 
+// The four heights of a strip.
+#[tactic(auto, unfolding(crate::specs::strip_tests::inner::Heights::heights_fit))]
+fn heights_fit(p: Trapezoid) -> bool
+    ensures { result ≡ heights_fit p }
+{
+    bounded(p.low0) && bounded(p.low1) && bounded(p.high0) && bounded(p.high1)
+}
+
 // A strip: x0 not above x1, and its six numbers.
-#[tactic(auto, unfolding(filling::specs::Consistent::strip_fits))]
+#[tactic(auto, unfolding(filling::specs::Consistent::strip_fits, crate::specs::strip_tests::inner::Heights::heights_fit))]
 pub fn strip_fits(p: Trapezoid) -> bool
     ensures { result ≡ strip_fits p }
 {
-    !(p.x1 < p.x0)
-        && bounded(p.x0)
-        && bounded(p.x1)
-        && bounded(p.low0)
-        && bounded(p.low1)
-        && bounded(p.high0)
-        && bounded(p.high1)
+    !(p.x1 < p.x0) && bounded(p.x0) && bounded(p.x1) && heights_fit(p)
 }
 
 // Every strip of a part.
@@ -66,11 +69,18 @@ pub fn gap_fits(gap: f64) -> bool
     gap >= 0.0 && gap <= 1000000.0
 }
 
-// The gaps of the copies that stand among the first n (document 02, W7): a copy whose number in the
-// layout is 0 has no place, and no gap.
+// The gap at a place, by the copy's number in the layout: one without a place has none.
+#[tactic(auto, unfolding(crate::specs::strip_tests::inner::Gaps::place_test))]
+fn place_fits(number: usize, gap: f64) -> bool
+    ensures { result ≡ place_test number gap }
+{
+    number == 0 || gap_fits(gap)
+}
+
+// The gaps of the copies that stand among the first n (document 02, W7).
 pub fn gaps_fit(orientation: &[usize], gap: &[f64], n: usize) -> bool
     requires { (n ≤ length orientation.now) × (n ≤ length gap.now) }
     ensures { result ≡ gaps_test orientation.now gap.now n }
 {
-    (0..n).all(|i| orientation[i] == 0 || gap_fits(gap[i]))
+    (0..n).all(|i| place_fits(orientation[i], gap[i]))
 }

@@ -10,13 +10,24 @@ ghost use Rattle.filling.specs.Shapes.{planner_of};
 ghost use Rattle.filling.specs.Rooms.{Lent};
 ghost use Rattle.filling.specs.Order.{rearranged};
 ghost use Rattle.filling.specs.Fill.{fill_order};
-ghost use Rattle.filling_laws.specs.fill_laws.inner.Prepared.{given_in, Prepared, SheetFirsts};
+ghost use Rattle.filling_laws.specs.fill_laws.inner.Prepared.{given_in, Prepared, SheetFirsts, next_after};
 ghost use Rattle.fill_order.specs.inner.Filled.{filled_in};
 
 use choose::Grid;
 use filling::Refusal;
 use index::{Bucket, Entry};
 use place::Totals;
+
+// The copy or turn that comes after number i of n: none after a refusal.
+pub fn next_after(v: Result<(), Refusal>, i: usize, n: usize) -> usize
+    requires { i < n }
+    ensures { result ≡ next_after v i n }
+{
+    match v {
+        Ok(()) => i + 1,
+        Err(_) => n,
+    }
+}
 
 // Every copy of the order, from no copy on.
 fn fill_copies(

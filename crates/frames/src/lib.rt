@@ -24,6 +24,7 @@ pub struct Point {
 }
 
 // x, or -x if it is so turned; never minus zero.
+#[tactic(auto, unfolding(crate::specs::Frames::turned))]
 fn signed(t: bool, x: f64) -> f64
     ensures { result ≡ turned t x }
 {
@@ -60,6 +61,7 @@ impl Frame {
     }
 
     // Whether it turns a loop round.
+    #[tactic(auto, unfolding(crate::specs::Frames::reversing))]
     fn reversing(self) -> bool
         ensures { result ≡ reversing self }
     {
@@ -80,6 +82,7 @@ impl Frame {
     }
 
     // Where on the sheet a place in the frame lies.
+    #[tactic(auto, unfolding(crate::specs::Frames::from))]
     pub fn from(self, x: f64, y: f64) -> Point
         ensures { result ≡ from self (record { x = x; y = y }) }
     {

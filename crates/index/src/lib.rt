@@ -3,7 +3,7 @@
 
 pub mod entries;
 
-ghost use Rattle.std.specs.Prelude.{◌≡◌, ℕ, ◌+◌, ◌-◌, ◌*◌, ◌/◌, ◌≤◌, ◌<◌, length, get_or};
+ghost use Rattle.std.specs.Prelude.{◌≡◌, ℕ, ◌+◌, ◌-◌, ◌*◌, ◌/◌, ◌≤◌, ◌<◌, min, length, get_or};
 ghost use Rattle.trapezoid.specs.Strip.{strip_at, capacity};
 ghost use Rattle.index.specs.Buckets.{index_of, bucket_in, standing_capacity};
 ghost use Rattle.index.specs.Intervals.{counts_of};
@@ -131,6 +131,13 @@ pub fn entry(entries: &[Entry], e: usize) -> usize
     ensures { result ≡ get_or entries.now e 0 }
 {
     usize::from(entries[e])
+}
+
+// The smaller of two.
+pub fn fewer(a: usize, b: usize) -> usize
+    ensures { result ≡ min a b }
+{
+    a.min(b)
 }
 
 // How many standing strips a room and its room of kept buckets are used for: at most as many as

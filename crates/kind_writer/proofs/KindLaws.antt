@@ -50,11 +50,6 @@ orientations_more : (cs : List ℕ) (xs : List Float) (n m : ℕ) → n ≡ suc 
 unfolding given_orientations
 orientations_more cs xs n m e c x = ap (λ (k : ℕ). given_orientations k cs xs c x) e
 
--- n orientations are put
-abbrev pub PutOrientations : List ℕ → List Float → ℕ → Walk → List ℕ → Result Walk Refusal → List ℕ → Type 0
-PutOrientations cs xs n w out r o =
-    Walks (given_orientations n cs xs w.counts w.coordinates) (flat_map orientation_bits) w out r o × Near w r (130 * n) (131072 * n) (8389902 * n)
-
 pub orientations-none : (cs : List ℕ) (xs : List Float) (w : Walk) (out : List ℕ) (n : ℕ) → Sound w.writer → n ≡ 0 → Walks
     (given_orientations n cs xs w.counts w.coordinates) (flat_map orientation_bits) w out (Ok w) out × Near w (Ok w) (130 * n) (131072 * n) (8389902 * n)
 unfolding given_orientations flat_map
@@ -138,25 +133,6 @@ kinds_more : (rows : List ℕ) (areas : List Float) (cs : List ℕ) (xs : List F
     after (given_kind (head_at rows areas k) cs xs c x) (λ a c x. after (given_kinds rows areas m (suc k) cs xs c x) (λ ks c x. ok (a ∷ ks) c x))
 unfolding given_kinds
 kinds_more rows areas cs xs n m k e c x = ap (λ (j : ℕ). given_kinds rows areas j k cs xs c x) e
-
--- n kinds are put, from kind k on
-abbrev pub PutKinds : List ℕ → List Float → List ℕ → List Float → ℕ → ℕ → Walk → List ℕ → Result (Walk × ℕ) Refusal → List ℕ → Type 0
-PutKinds rows areas cs xs n k w out r o =
-    WalksKinds (given_kinds rows areas n k cs xs w.counts w.coordinates) (flat_map kind_bits) w out r o
-    × NearKinds w r (2080 * n) (2097152 * n) (134238546 * n) (4095 * n)
-
--- so many copies before them
-abbrev pub plus : ℕ → Result (Walk × ℕ) Refusal → Result (Walk × ℕ) Refusal
-plus m (Ok (v, n)) = Ok (v, m + n)
-plus m (Err k) = Err k
-
-pub plus-none : (r : Result (Walk × ℕ) Refusal) → plus 0 r ≡ r
-plus-none (Ok (v, n)) = ap (λ (m : ℕ). Ok (v, m)) (omega arith)
-plus-none (Err k) = refl
-
-pub plus_more : (a b : ℕ) (r : Result (Walk × ℕ) Refusal) → plus a (plus b r) ≡ plus (a + b) r
-plus_more a b (Ok (v, n)) = ap (λ (m : ℕ). Ok (v, m)) (omega arith)
-plus_more a b (Err k) = refl
 
 pub kinds-none : (rows : List ℕ) (areas : List Float) (cs : List ℕ) (xs : List Float) (w : Walk) (out : List ℕ) (n k : ℕ) → Sound w.writer → n ≡ 0 →
     WalksKinds (given_kinds rows areas n k cs xs w.counts w.coordinates) (flat_map kind_bits) w out (Ok (w, 0)) out × NearKinds w (Ok (w, 0)) (2080 * n)
@@ -246,13 +222,6 @@ module _ (rows : List ℕ) (areas : List Float) (cs : List ℕ) (xs : List Float
             (s.1 ∙ p.long),
         tt,
       )
-
-  -- whatever becomes of the rest
-  pub kinds_then : (v : Walk) (r₂ : Result (Walk × ℕ) Refusal) → n ≡ m + 1 → h ≡ head_at rows areas k → Walks
-      (given_kind h cs xs w.counts w.coordinates) kind_bits w out (Ok v) o × Near w (Ok v) 2080 2097152 134238546 → PutKinds rows areas cs xs m (k + 1) v o r₂ o'
-      → PutKinds rows areas cs xs n k w out (plus h.quantity r₂) o'
-  kinds_then v (Ok (u, q)) e f F G = kinds_on v u q (Ok v) (Ok (u, q)) e f F refl G refl
-  kinds_then v (Err j) e f F G = kinds-bad-rest v (Ok v) (Err j) j e f F refl G refl
 
   pub kinds-bad : (r₁ : Result Walk Refusal) (j : Refusal) → n ≡ m + 1 → h ≡ head_at rows areas k → Walks (given_kind h cs xs w.counts w.coordinates) kind_bits w out r₁ o
       × Near w r₁ 2080 2097152 134238546 → r₁ ≡ Err j → WalksKinds (given_kinds rows areas n k cs xs w.counts w.coordinates) (flat_map kind_bits) w out

@@ -41,11 +41,11 @@ fn put_orientations(
     ensures { Walks (given_orientations n counts.now coordinates.now w.counts w.coordinates) (flat_map orientation_bits) w
         out.old result out.new × Near w result (130 * n) (131072 * n) (8389902 * n) }
 {
-    let mut v = w;
-    for _ in 0..n {
-        v = put_orientation(counts, coordinates, out, v)?;
+    if n == 0 {
+        return Ok(w);
     }
-    Ok(v)
+    let v = put_orientation(counts, coordinates, out, w)?;
+    put_orientations(counts, coordinates, out, v, n - 1)
 }
 
 // A kind's fields before its sets.
@@ -117,12 +117,11 @@ pub fn put_kinds(
     ensures { WalksKinds (given_kinds rows.now areas.now n k counts.now coordinates.now w.counts
         w.coordinates) (flat_map kind_bits) w out.old result out.new × NearKinds w result (2080 * n) (2097152 * n) (134238546 * n) (4095 * n) }
 {
-    let mut v = w;
-    let mut copies = 0;
-    for i in k..k + n {
-        let h = head_at(rows, areas, i);
-        v = put_kind(counts, coordinates, out, v, h)?;
-        copies += h.quantity;
+    if n == 0 {
+        return Ok((w, 0));
     }
-    Ok((v, copies))
+    let h = head_at(rows, areas, k);
+    let v = put_kind(counts, coordinates, out, w, h)?;
+    let (u, m) = put_kinds(rows, areas, counts, coordinates, out, v, n - 1, k + 1)?;
+    Ok((u, h.quantity + m))
 }

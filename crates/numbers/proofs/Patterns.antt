@@ -1,12 +1,20 @@
 -- What a finite bit pattern gives, and what `plus_zero` keeps of it. Assumes nothing.
 use Rattle.std.proofs.Common.{◌≡◌, ℕ, Bool, true, false, cond, T, sym, refl, ap, ◌∙◌, subst, inl, inr}
-use lib.Ieee.{Float, nan, binary64, of_bits, eq, fits}
+use Rattle.std.specs.Float.{float_is_finite}
+use lib.Ieee.{Float, nan, inf, fin, binary64, of_bits, eq, fits}
 use lib.Ieee.Bits.{of_bits-fits}
 use lib.Ieee.Scale.{finite}
 use Rattle.numbers.specs.Numbers.{pos_zero, plus_zero}
 use Rattle.numbers.proofs.Keys.{FiniteIn, NumberIn, key, finite_real, eq→key, key→eq}
 use Rattle.numbers.proofs.Operations.{num_or_zero, minus_zero-key}
 use Rattle.numbers.proofs.Ranges.{zero_num, zero-key}
+
+-- std's test, in the terms of the paper's definitions
+pub finite_tested : (x : Float) → float_is_finite x ≡ finite x
+unfolding float_is_finite
+finite_tested nan = refl
+finite_tested (inf s) = refl
+finite_tested (fin s m e) = refl
 
 pub nan-fits : T (fits binary64 nan)
 unfolding fits

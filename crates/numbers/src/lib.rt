@@ -53,7 +53,7 @@ pub fn floor(x: f64) -> u64
 }
 
 // The double with the bit pattern n, if it is finite; a minus zero becomes plus zero.
-#[tactic(auto, unfolding(crate::specs::Numbers::double_of))]
+#[tactic(auto, using(crate::proofs::Patterns::finite_tested), unfolding(crate::specs::Numbers::double_of))]
 pub fn from_bits(n: u64) -> Option<f64>
     ensures { result ≡ double_of n }
 {

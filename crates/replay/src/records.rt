@@ -1,6 +1,8 @@
 // The records of a container of jobs (oracle/README.md) on standard input, for test programs: a
 // label's length in one byte, the label, a job's length in four bytes, most significant first, the
 // job.
+ghost use Rattle.std.specs.Prelude.{◌≤◌};
+
 use crate::slot::Slot;
 
 // Number i of four bytes each; 0 where there is none.
@@ -24,6 +26,13 @@ pub fn spread<T: Slot>(from: &[u8], first: usize, to: &mut [T]) {
     for (i, x) in to.iter_mut().enumerate() {
         *x = T::of_bits(first.checked_add(i).map_or(0, |k| eight_at(from, k)));
     }
+}
+
+// The smaller of two.
+pub fn at_most(n: usize, most: usize) -> usize
+    ensures { result ≤ most }
+{
+    n.min(most)
 }
 
 // The next n bytes; none where they do not fit or the input ends.

@@ -36,11 +36,6 @@ loops_more : (cs : List ℕ) (xs : List Float) (n m before : ℕ) → n ≡ suc 
 unfolding given_loops
 loops_more cs xs n m before e c x = ap (λ (k : ℕ). given_loops k before cs xs c x) e
 
--- n loops are put, of a set that has so many points before them
-abbrev pub PutLoops : List ℕ → List Float → ℕ → ℕ → Walk → List ℕ → Result Walk Refusal → List ℕ → Type 0
-PutLoops cs xs n before w out r o =
-    Walks (given_loops n before cs xs w.counts w.coordinates) (loop_bits before) w out r o × Near w r n (1024 * n) (65546 * n)
-
 pub loops_none : (cs : List ℕ) (xs : List Float) (w : Walk) (out : List ℕ) (n before : ℕ) → Sound w.writer → n ≡ 0 → Walks
     (given_loops n before cs xs w.counts w.coordinates) (loop_bits before) w out (Ok w) out × Near w (Ok w) n (1024 * n) (65546 * n)
 unfolding given_loops loops_bits

@@ -50,10 +50,6 @@ coordinate_not xs w out b x k m e f g h = (
 )
 
 -- ---- points
--- n points are put, whatever the counts are
-abbrev pub PutPoints : List Float → ℕ → Walk → List ℕ → Result Walk Refusal → List ℕ → Type 0
-PutPoints xs n w out r o = ((cs : List ℕ) → Walks (given_points n cs xs w.counts w.coordinates) (flat_map double_bits) w out r o) × Near w r 0 (2 * n) (128 * n)
-
 module _ (cs : List ℕ) (xs : List Float) (n m : ℕ) where
   points_more : n ≡ suc m → (c x : ℕ) → given_points n cs xs c x ≡ after (next_coordinate cs xs c x)
       (λ a c x. after (next_coordinate cs xs c x) (λ b c x. after (given_points m cs xs c x) (λ ps c x. ok (a ∷ b ∷ ps) c x)))

@@ -1,7 +1,7 @@
 -- Laws of walking through a job's tables: what is taken one after the other is put one after the other. Assumes nothing.
 use Rattle.std.specs.Prelude.{Result, Ok, Err}
 use mathlib.Core.Path.{◌≡◌, sym, ap, subst, ◌∙◌}
-use Prim.Native.Nat.{ℕ, ◌+◌, ◌-◌, ◌≤◌, ◌<◌}
+use Prim.Native.Nat.{ℕ, ◌+◌, ◌≤◌}
 use native.Mathlib.Omega.{arith}
 use mathlib.Core.List.{List, ◌++◌}
 use lib.ListN.{length}
@@ -15,10 +15,6 @@ use Rattle.job_bits.specs.Given.{Taken, ok, bad, after}
 use Rattle.set_writer.specs.inner.Walks.{Walks, went, stopped, Near, Ready}
 use Rattle.job_bits.proofs.Doubles.{ok-value, err-value}
 use Rattle.job_bits.proofs.Takers.{bad-first, ok_then}
-
--- what is left before a turn is one more than after it
-pub one-less : (n i : ℕ) → i < n → n - i ≡ n - (i + 1) + 1
-one-less n i h = omega arith
 
 -- ---- what a result that is known says
 pub data Went {A : Type 0} (t : Taken A) (bits : A → List ℕ) (w : Walk) (out : List ℕ) (v : Walk) (o : List ℕ) : Type 0 where

@@ -52,40 +52,39 @@ fn put_points(coordinates: &[f64], out: &mut [u8], w: Walk, n: usize) -> Result<
     ensures { ((cs : List ℕ) → Walks (given_points n cs coordinates.now w.counts w.coordinates) (flat_map double_bits) w out.old
         result out.new) × Near w result 0 (2 * n) (128 * n) }
 {
-    let mut v = w;
-    for _ in 0..n {
-        v = put_coordinate(coordinates, out, v)?;
-        v = put_coordinate(coordinates, out, v)?;
+    if n == 0 {
+        return Ok(w);
     }
-    Ok(v)
+    let u = put_coordinate(coordinates, out, w)?;
+    let v = put_coordinate(coordinates, out, u)?;
+    put_points(coordinates, out, v, n - 1)
 }
 
-// The next n loops of a set.
+// The next n loops of a set that has so many points before them.
 fn put_loops(
     counts: &[u64],
     coordinates: &[f64],
     out: &mut [u8],
     w: Walk,
     n: usize,
+    before: u64,
 ) -> Result<Walk, Refusal>
-    requires { Ready w n (1024 * n) (65546 * n) }
-    ensures { Walks (given_loops n 0 counts.now coordinates.now w.counts w.coordinates) (loop_bits 0) w
+    requires { Ready w n (1024 * n) (65546 * n) × (before ≤ 512) }
+    ensures { Walks (given_loops n before counts.now coordinates.now w.counts w.coordinates) (loop_bits before) w
         out.old result out.new × Near w result n (1024 * n) (65546 * n) }
 {
-    let mut v = w;
-    let mut before = 0;
-    for _ in 0..n {
-        let m = bits::judge_points(before, value_at(counts, v.counts, 0))?;
-        let writer = bit_writer::put(out, v.writer, m, 10);
-        let u = Walk {
-            counts: v.counts + 1,
-            writer,
-            ..v
-        };
-        v = put_points(coordinates, out, u, m as usize)?;
-        before += m;
+    if n == 0 {
+        return Ok(w);
     }
-    Ok(v)
+    let m = bits::judge_points(before, value_at(counts, w.counts, 0))?;
+    let writer = bit_writer::put(out, w.writer, m, 10);
+    let u = Walk {
+        counts: w.counts + 1,
+        writer,
+        ..w
+    };
+    let v = put_points(coordinates, out, u, m as usize)?;
+    put_loops(counts, coordinates, out, v, n - 1, before + m)
 }
 
 // The next set.
@@ -106,5 +105,5 @@ pub fn put_set(
         writer,
         ..w
     };
-    put_loops(counts, coordinates, out, u, n as usize)
+    put_loops(counts, coordinates, out, u, n as usize, 0)
 }

@@ -12,6 +12,6 @@ pub returns : goal.returns
 returns c = let a = c.args in
     let p = c.requires in
     let m = c.copy_within in
-    cleared a.placed.now m.new.self c.fill.new.self a.a a.k a.n p.0 p.1 m.ensures.len
+    cleared a.placed.now m.new.self c.fill.new.self a.a a.k a.n _ p.0 p.1 (omega (arith, p.0, p.1, m.ensures.len)) m.ensures.len
     (ap (take (6 * a.n - 6 * a.k)) m.ensures.after ∙ moved a.placed.now (6 * a.a) (6 * a.k) (6 * a.n) (omega (arith, p.0)) p.1)
     (zeroed-doubles _ c.fill.ensures.after)

@@ -12,9 +12,11 @@ returns-in_err-n c = search (rules, set-bad c.args.counts.now c.args.coordinates
 
 pub put_loops-requires : goal.put_loops-requires
 put_loops-requires c =
-    let few = count-few 1 64 _ _ _ c.judge_count.ensures c.in_ok-n.was in
-    ready-count c.args.w 65 65536 4194951 c.in_ok-n.n (1024 * c.in_ok-n.n) (65546 * c.in_ok-n.n) c.requires c.put-writer.ensures
-    (omega (arith, few)) (omega (arith, few)) (omega (arith, few, binary-length 7 c.in_ok-n.n))
+    let few = count-few 1 64 _ _ _ c.judge_count.ensures c.in_ok-n.was in (
+      ready-count c.args.w 65 65536 4194951 c.in_ok-n.n (1024 * c.in_ok-n.n) (65546 * c.in_ok-n.n) c.requires c.put-writer.ensures
+          (omega (arith, few)) (omega (arith, few)) (omega (arith, few, binary-length 7 c.in_ok-n.n)),
+      omega arith,
+    )
 
 pub returns : goal.returns
 returns c = set_on _ _ _ _ _ _ _ _ _ _ _ c.value_at.ensures c.judge_count.ensures c.in_ok-n.was c.put-writer.ensures c.put_loops.ensures

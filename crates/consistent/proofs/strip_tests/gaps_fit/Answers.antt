@@ -8,6 +8,6 @@ use Rattle.consistent.proofs.strip_tests.Everyone.{all_every}
 use Rattle.consistent.proofs.strip_tests.gaps_fit.Goals as goal
 
 pub returns : goal.returns
-unfolding gaps_test place_test
+unfolding gaps_test
 returns c = all_every (λ i. place_test (get_or c.args.orientation.now i 0) (get_or c.args.gap.now i nan)) _ _ _ _ c.all.ensures.ran refl
     (λ x b q k. search (rules, tests))
